@@ -1,0 +1,222 @@
+// Document 01's edges, as far as leaves and stepping go, computed by the compiled code.
+use freeway::Road;
+use freeway::State;
+
+fn show(label: &[u8], value: u64) {
+    io::write_all(1, label);
+    io::print_decimal(1, value);
+    io::write_all(1, b"\n");
+}
+
+fn leaves() {
+    show(
+        b"v 500 C 2000 held 2566: demand ",
+        freeway::demand(500, 2000, 2566) as u64,
+    );
+    show(
+        b"v 500 C 2000 held 2567: demand ",
+        freeway::demand(500, 2000, 2567) as u64,
+    );
+    show(
+        b"v 1000 C 2000 held 2001: demand ",
+        freeway::demand(1000, 2000, 2001) as u64,
+    );
+    show(
+        b"gate capacity 2000 queue 3000: demand ",
+        freeway::gate_demand(2000, 3000) as u64,
+    );
+    show(
+        b"w 250 C 2000 J 8000 held 2566: supply ",
+        freeway::supply(250, 2000, 8000, 2566) as u64,
+    );
+    show(
+        b"w 250 C 2000 J 8000 held 8000: supply ",
+        freeway::supply(250, 2000, 8000, 8000) as u64,
+    );
+    show(
+        b"w 250 C 2000 J 8000 held 8001: supply ",
+        freeway::supply(250, 2000, 8000, 8001) as u64,
+    );
+    show(
+        b"supply 1000 release 1001: room ",
+        freeway::room(1000, 1001) as u64,
+    );
+    show(b"b 750 F 934: onward total ", freeway::onward(750, 934));
+    show(
+        b"b 750 F 934 outflow 933: entering ",
+        freeway::entering(750, 934, 933),
+    );
+    show(
+        b"b 750 F 934 outflow 934: entering ",
+        freeway::entering(750, 934, 934),
+    );
+    show(
+        b"b 750 F 0 room 0 demand 1283: outflow ",
+        freeway::outflow(750, 0, 0, 1283) as u64,
+    );
+    show(
+        b"b 750 F 934 room 700 demand 1283: outflow ",
+        freeway::outflow(750, 934, 700, 1283) as u64,
+    );
+    show(
+        b"b 0 F 5 room 0 demand 1283: outflow ",
+        freeway::outflow(0, 5, 0, 1283) as u64,
+    );
+    show(
+        b"b 2000 F 0 room 9 demand 1283: outflow ",
+        freeway::outflow(2000, 0, 9, 1283) as u64,
+    );
+}
+
+// The road of the printed run.
+fn printed_road() -> Road {
+    let mut road = Road::empty();
+    road.n = 2;
+    road.gate_capacity = 2000;
+    road.speed[0] = 500;
+    road.speed[1] = 500;
+    road.wave[0] = 250;
+    road.wave[1] = 250;
+    road.share[0] = 750;
+    road.ramp[1] = 1;
+    road.jam[0] = 8000;
+    road.jam[1] = 8000;
+    road.capacity[0] = 2000;
+    road.capacity[1] = 1000;
+    road
+}
+
+// Its start, with another queue at the ramp.
+fn start(queue: u32) -> State {
+    let mut state = State::empty();
+    state.gate_queue = 3000;
+    state.held[0] = 2000;
+    state.held[1] = 4000;
+    state.queue[1] = queue;
+    state
+}
+
+// Its row, with another release.
+fn row(release: u32) -> [u32; 5] {
+    [1000, 0, 0, 500, release]
+}
+
+fn word(value: u64) {
+    io::write_all(1, b" ");
+    io::print_decimal(1, value);
+}
+
+fn number(value: u32) {
+    word(value as u64);
+}
+
+// How much F grew: the outflow in the step.
+fn growth(before: u32, after: u32) -> u32 {
+    if before < after { after - before } else { 0 }
+}
+
+fn cell(outflow: u32, held: u32, queue: u32) {
+    number(outflow);
+    number(held);
+    number(queue);
+}
+
+// Outflow in the step, held or gate queue after it, ramp queue after it.
+fn places(before: State, after: State) {
+    number(growth(before.gate_cumulative, after.gate_cumulative));
+    number(after.gate_queue);
+    cell(
+        growth(before.cumulative[0], after.cumulative[0]),
+        after.held[0],
+        after.queue[0],
+    );
+    cell(
+        growth(before.cumulative[1], after.cumulative[1]),
+        after.held[1],
+        after.queue[1],
+    );
+}
+
+// One step, printed: refusal, place, the places' numbers, present, total and exits. The next state is returned.
+fn stepped(label: &[u8], road: Road, before: State, numbers: &[u32]) -> State {
+    let answer = freeway::step(road, before, numbers);
+    let refusal = answer.refusal;
+    let after = answer.state;
+    io::write_all(1, label);
+    word(refusal.number() as u64);
+    word(answer.place as u64);
+    places(before, after);
+    word(freeway::present(road, after));
+    word(after.total);
+    word(freeway::exits(road, after));
+    io::write_all(1, b"\n");
+    after
+}
+
+// Steps 0, 1 and 2 of the printed run.
+fn printed_run() {
+    let road = printed_road();
+    let numbers = row(300);
+    let first = stepped(b"printed run, step 0:", road, start(1500), &numbers);
+    let second = stepped(b"printed run, step 1:", road, first, &numbers);
+    stepped(b"printed run, step 2:", road, second, &numbers);
+}
+
+// The bounds of refusals 9 and 10.
+fn releases() {
+    let road = printed_road();
+    stepped(b"queue 300 release 300:", road, start(300), &row(300));
+    stepped(b"queue 300 release 301:", road, start(300), &row(301));
+    stepped(b"supply 1000 release 1000:", road, start(1500), &row(1000));
+    stepped(b"supply 1000 release 1001:", road, start(1500), &row(1001));
+    stepped(
+        b"queue 1000 release 1001, above both:",
+        road,
+        start(1000),
+        &row(1001),
+    );
+}
+
+// A step of the printed run from a start with another held count at cell 2.
+fn held(label: &[u8], count: u32) {
+    let mut full = start(1500);
+    full.held[1] = count;
+    stepped(label, printed_road(), full, &row(300));
+}
+
+// And from one that has done some steps.
+fn done(label: &[u8], steps: usize) {
+    let mut late = start(1500);
+    late.done = steps;
+    stepped(label, printed_road(), late, &row(300));
+}
+
+fn cells(label: &[u8], n: usize) {
+    let mut road = printed_road();
+    road.n = n;
+    stepped(label, road, start(1500), &row(300));
+}
+
+// The bounds of refusals 7 and 8.
+fn limits() {
+    held(b"held 8000 of 8000, supply 0:", 8000);
+    held(b"held 8001 of 8000:", 8001);
+    done(b"steps done 1439:", 1439);
+    done(b"steps done 1440:", 1440);
+    done(b"steps done 1441:", 1441);
+    cells(b"65 cells:", 65);
+    cells(b"0 cells:", 0);
+    stepped(
+        b"a row of 3 numbers:",
+        printed_road(),
+        start(1500),
+        &[1000u32, 0, 0],
+    );
+}
+
+fn main() {
+    leaves();
+    printed_run();
+    releases();
+    limits();
+}

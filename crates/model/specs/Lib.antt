@@ -1,0 +1,15 @@
+pub mod Places
+pub mod Move
+pub mod Rules
+pub mod Step
+pub mod MoveLaws
+pub mod RulesLaws
+pub mod StepLaws
+pub mod Verdict
+pub mod VerdictLaws
+pub mod Conserve
+pub mod Kept
+pub mod Runs
+pub mod Behind
+pub mod RunsLaws
+pub mod Edges

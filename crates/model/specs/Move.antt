@@ -1,0 +1,82 @@
+-- Document 01, 'One step': every place moved by a row of outflows, all quantities taken from the state before; present, total and exits.
+-- Assumes nothing.
+use mathlib.Core.List.{List}
+use Prim.Native.Nat.{ℕ, _+_, _-_}
+use lib.ListN.{take}
+use Rattle.flow.specs.Flow.{onwardOf}
+use Rattle.rows.specs.Sum.{sumOf}
+use Rattle.rows.specs.Rows.{fillOf, listOf}
+use Rattle.road.specs.declared.Road.{Road}
+use Rattle.road.specs.declared.State.{State}
+use Rattle.road.specs.Road.{at}
+use Rattle.model.specs.Places.{gateArrivals, arrivalsAt, releaseAt, enteringAt}
+
+-- a cell's next count is held + entering + release − outflow
+abbrev pub heldOf : Road → State → List ℕ → List ℕ → ℕ → ℕ
+heldOf r s row y i = at (s .held) i + enteringAt r s y i + releaseAt row i - at y (i + 1)
+
+-- a ramp's queue grows by arrivals less release
+abbrev pub queueOf : State → List ℕ → ℕ → ℕ
+queueOf s row i = at (s .queue) i + arrivalsAt row i - releaseAt row i
+
+-- F grows by the outflow
+abbrev pub cumulativeOf : State → List ℕ → ℕ → ℕ
+cumulativeOf s y i = at (s .cumulative) i + at y (i + 1)
+
+-- the gate and the first n cells moved; the gate's queue grows by arrivals less outflow
+unfoldable pub movedTo : Road → State → List ℕ → List ℕ → ℕ → State
+movedTo r s row y n = record {
+  done = s .done;
+  total = s .total;
+  «gate_queue» = s .«gate_queue» + gateArrivals row - at y 0;
+  «gate_cumulative» = s .«gate_cumulative» + at y 0;
+  held = fillOf (heldOf r s row y) n (s .held);
+  queue = fillOf (queueOf s row) n (s .queue);
+  cumulative = fillOf (cumulativeOf s y) n (s .cumulative);
+}
+
+-- all places moved; entries past cell n are kept
+abbrev pub movedOf : Road → State → List ℕ → List ℕ → State
+movedOf r s row y = movedTo r s row y (r .n)
+
+-- the vehicles on the road and at the ramps
+abbrev pub heldSum : Road → State → ℕ
+heldSum r s = sumOf (take (r .n) (s .held))
+
+abbrev pub queueSum : Road → State → ℕ
+queueSum r s = sumOf (take (r .n) (s .queue))
+
+-- present: the gate queue, all held counts and all ramp queues together
+abbrev pub presentOf : Road → State → ℕ
+presentOf r s = s .«gate_queue» + heldSum r s + queueSum r s
+
+-- total time spent
+abbrev pub totalOf : State → ℕ
+totalOf s = s .total
+
+-- a step done, and present after it added to the total
+unfoldable pub countedOf : Road → State → State
+countedOf r s = record {
+  done = s .done + 1;
+  total = s .total + presentOf r s;
+  «gate_queue» = s .«gate_queue»;
+  «gate_cumulative» = s .«gate_cumulative»;
+  held = s .held;
+  queue = s .queue;
+  cumulative = s .cumulative;
+}
+
+-- the state after a step by the outflows y
+abbrev pub nextOf : Road → State → List ℕ → List ℕ → State
+nextOf r s row y = countedOf r (movedOf r s row y)
+
+-- exits: the sum over cells of F less the onward total
+abbrev pub exitAt : Road → State → ℕ → ℕ
+exitAt r s i = at (s .cumulative) i - onwardOf (at (r .share) i) (at (s .cumulative) i)
+
+unfoldable pub exitsOf : Road → State → ℕ
+exitsOf r s = sumOf (listOf (exitAt r s) (r .n))
+
+-- all arrivals of a step, at the gate and at the ramps
+unfoldable pub arrivalsOf : Road → List ℕ → ℕ
+arrivalsOf r row = gateArrivals row + sumOf (listOf (arrivalsAt row) (r .n))

@@ -1,0 +1,61 @@
+-- Document 01, 'One step': what the rules take of each place. Place 0 is the gate and place i + 1 the cell at i of the arrays,
+-- so the cell at p is the one after place p. Assumes nothing.
+use mathlib.Core.List.{List}
+use Prim.Native.Nat.{ℕ, zero, suc, _+_, _*_}
+use Rattle.flow.specs.Flow.{whole, demandOf, gateDemandOf, supplyOf, roomOf, onwardOf, enteringOf, outflowOf}
+use Rattle.road.specs.declared.Road.{Road}
+use Rattle.road.specs.declared.State.{State}
+use Rattle.road.specs.Road.{at}
+
+-- a row's numbers in the record's order: gate arrivals; then for each cell its ramp arrivals and its release
+abbrev pub gateArrivals : List ℕ → ℕ
+gateArrivals row = at row 0
+
+abbrev pub arrivalsAt : List ℕ → ℕ → ℕ
+arrivalsAt row i = at row (2 * i + 1)
+
+abbrev pub releaseAt : List ℕ → ℕ → ℕ
+releaseAt row i = at row (2 * i + 2)
+
+-- the capacity of the cell at i in a step
+unfoldable pub capacityAt : Road → ℕ → ℕ
+capacityAt r i = at (r .capacity) i
+
+-- the demand of a place
+unfoldable pub demandAt : Road → State → ℕ → ℕ
+demandAt r s zero = gateDemandOf (r .«gate_capacity») (s .«gate_queue»)
+demandAt r s (suc i) = demandOf (at (r .speed) i) (capacityAt r i) (at (s .held) i)
+
+-- the supply of the cell at i
+abbrev pub supplyAt : Road → State → ℕ → ℕ
+supplyAt r s i = supplyOf (at (r .wave) i) (capacityAt r i) (at (r .jam) i) (at (s .held) i)
+
+-- what the release at the cell at i may be at most: the ramp's queue before this step's arrivals
+unfoldable pub mostReleaseAt : State → List ℕ → ℕ → ℕ
+mostReleaseAt s row i = at (s .queue) i
+
+-- the supply of the cell at i less its release
+abbrev pub roomAt : Road → State → List ℕ → ℕ → ℕ
+roomAt r s row i = roomOf (supplyAt r s i) (releaseAt row i)
+
+-- the onward share of a place; the gate's is 1,000
+unfoldable pub shareAt : Road → ℕ → ℕ
+shareAt r zero = whole
+shareAt r (suc i) = at (r .share) i
+
+-- F, the cumulative outflow of a place since step 0
+unfoldable pub cumulativeAt : State → ℕ → ℕ
+cumulativeAt s zero = s .«gate_cumulative»
+cumulativeAt s (suc i) = at (s .cumulative) i
+
+-- the onward total of a place
+abbrev pub onwardAt : Road → State → ℕ → ℕ
+onwardAt r s p = onwardOf (shareAt r p) (cumulativeAt s p)
+
+-- what place p lets into the next cell by its outflow in y, a row of outflows, gate first
+abbrev pub enteringAt : Road → State → List ℕ → ℕ → ℕ
+enteringAt r s y p = enteringOf (shareAt r p) (cumulativeAt s p) (at y p)
+
+-- the greatest outflow of a place before the last
+abbrev pub outflowAt : Road → State → List ℕ → ℕ → ℕ
+outflowAt r s row p = outflowOf (shareAt r p) (cumulativeAt s p) (roomAt r s row p) (demandAt r s p)

@@ -1,0 +1,26 @@
+-- Document 01, 'Judging': what is said of one row of a proposed schedule. Assumes nothing.
+use mathlib.Core.List.{List}
+use Prim.Native.Nat.{ℕ, _+_}
+use lib.Dec.{leb, eqb}
+use Rattle.road.specs.declared.Road.{Road}
+use Rattle.road.specs.declared.State.{State}
+use Rattle.road.specs.Road.{at}
+use Rattle.road.specs.Refusals.{unless}
+use Rattle.model.specs.Places.{demandAt, roomAt, enteringAt}
+use Rattle.model.specs.Step.{Fault, lowestOf, releasesOf}
+
+-- at one place: 13, outflow above demand, before 14, too much let into the next cell
+abbrev pub outflowFault : ℕ → ℕ → ℕ → ℕ → ℕ
+outflowFault outflow demand entering room = unless (leb outflow demand) 13 (unless (leb entering room) 14 0)
+
+-- of place p by its outflow in y; the last share is 0, so the last place lets nothing in
+abbrev pub outflowFaultAt : Road → State → List ℕ → List ℕ → ℕ → ℕ
+outflowFaultAt r s row y p = outflowFault (at y p) (demandAt r s p) (enteringAt r s y p) (roomAt r s row p)
+
+-- at the lowest place with either; the place of 14 is the sender
+abbrev pub outflowsFaultOf : Road → State → List ℕ → List ℕ → Fault
+outflowsFaultOf r s row y = lowestOf (outflowFaultAt r s row y) (r .n + 1) 0
+
+-- 9 or 10 as in stepping, and then 13 or 14
+unfoldable pub verdictOf : Road → State → List ℕ → List ℕ → Fault
+verdictOf r s row y = unless (eqb (releasesOf r s row .number) 0) (releasesOf r s row) (outflowsFaultOf r s row y)

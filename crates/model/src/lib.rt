@@ -1,0 +1,1 @@
+// The model: definitions and theorems, in specs/. There is nothing to run.

@@ -1,0 +1,102 @@
+-- What the inner functions of a step ask. Assumes nothing.
+use mathlib.Core.Path.{_≡_}
+use mathlib.Core.List.{List}
+use Prim.Native.Nat.{ℕ, suc, _+_, _*_, _^_, _≤_, _<_}
+use native.Mathlib.Numerals.{add-one}
+use native.Mathlib.Omega.{arith}
+use lib.ListN.{length}
+use Rattle.flow.specs.FlowLaws.{entering-le, supply-capacity, room-supply}
+use Rattle.road.specs.declared.Road.{Road}
+use Rattle.road.specs.declared.State.{State}
+use Rattle.road.specs.Road.{at, mostSteps, mostRate}
+use Rattle.limits.specs.LimitsLaws.{InputOk}
+use Rattle.model.specs.Places.{gateArrivals, arrivalsAt, releaseAt, supplyAt, capacityAt, cumulativeAt, enteringAt, roomAt}
+use Rattle.model.specs.Move.{movedTo, presentOf}
+use Rattle.model.specs.Rules.{Released, Obeys, Sized}
+use Rattle.model.specs.RulesLaws.{release-there, demand-at-gate, demand-at-cell, demand-rate}
+
+-- moving: all within the limits, and a row of outflows that obeys the rules
+pub record Movable (r : Road) (s : State) (row y : List ℕ) : Type 0 where
+  pub input : InputOk r s row
+  pub sized : Sized r s
+  pub places : length y ≡ r .n + 1
+  pub obeys : Obeys r s row y
+
+-- the engine's step: all within the limits, each release fits, and steps are left
+pub record Steppable (r : Road) (s : State) (row : List ℕ) : Type 0 where
+  pub input : InputOk r s row
+  pub sized : Sized r s
+  pub released : Released r s row
+  pub left : s .done < mostSteps
+
+-- counting: another step and its present fit their numbers
+pub record Countable (r : Road) (s : State) : Type 0 where
+  pub done : s .done < mostSteps
+  pub total : s .total < 2 ^ 63
+  pub present : presentOf r s < 2 ^ 63
+
+-- what a turn of the loop over the cells knows of its numbers
+pub record Turn (r : Road) (s : State) (row y : List ℕ) (i entering : ℕ) : Type 0 where
+  pub cells : r .n ≤ 64
+  pub numbers : length row ≡ 1 + 2 * r .n
+  pub places : length y ≡ r .n + 1
+  pub enters : entering ≤ 1000000
+  pub release : releaseAt row i ≤ 1000000
+  pub arrivals : arrivalsAt row i ≤ 1000000
+  pub held : at (s .held) i ≤ 1000000
+  pub queue : at (s .queue) i ≤ 2440000000
+  pub cumulative : at (s .cumulative) i ≤ 1440000000
+  pub waits : releaseAt row i ≤ at (s .queue) i + arrivalsAt row i
+  pub leaves : at y (i + 1) ≤ at (s .held) i
+
+pub turn : (r : Road) (s : State) (row y : List ℕ) (i entering : ℕ) → Movable r s row y → i < r .n → entering ≡ enteringAt r s y i
+    → Turn r s row y i entering
+unfolding capacityAt
+turn r s row y i entering m l e =
+    let ok = m .input in
+    let leaves : at y (i + 1) ≤ at (s .held) i = rw add-one (omega (arith, m .obeys .demand (suc i) l, demand-at-cell r (ok .road) s i l)) in
+    record {
+      cells = ok .road .cells;
+      numbers = ok .row .numbers;
+      places = m .places;
+      enters = omega (
+        arith,
+        m .obeys .enters i l,
+        room-supply (supplyAt r s i) (releaseAt row i),
+        supply-capacity (at (r .wave) i) (at (r .capacity) i) (at (r .jam) i) (at (s .held) i),
+        ok .road .capacity i l,
+      );
+      release = ok .row .release i l;
+      arrivals = ok .row .arrivals i l;
+      held = omega (arith, ok .state .held i l, ok .road .jam i l);
+      queue = omega (arith, ok .state .queue i l, ok .state .done);
+      cumulative = omega (arith, ok .state .cumulative i l, ok .state .done);
+      waits = omega (arith, m .obeys .released .queue i l, release-there s row i);
+      leaves = leaves;
+    }
+
+-- what the gate's move knows
+pub record Gate (s : State) (row y : List ℕ) : Type 0 where
+  pub there : at y 0 ≤ s .«gate_queue»
+  pub queue : s .«gate_queue» ≤ 2440000000
+  pub arrivals : gateArrivals row ≤ 1000000
+  pub cumulative : s .«gate_cumulative» ≤ 1440000000
+  pub outflow : at y 0 ≤ 1000000
+
+pub gate : (r : Road) (s : State) (row y : List ℕ) → Movable r s row y → Gate s row y
+unfolding cumulativeAt
+gate r s row y m =
+    let ok = m .input in
+    record {
+      there = omega (arith, m .obeys .demand 0 (omega arith), demand-at-gate r s);
+      queue = omega (arith, ok .state .gateQueue, ok .state .done);
+      arrivals = ok .row .gate;
+      cumulative = omega (arith, ok .state .gateCumulative, ok .state .done);
+      outflow = omega (arith, m .obeys .demand 0 (omega arith), demand-rate r (ok .road) s 0 (omega arith));
+    }
+
+-- what holds when the loop over the cells has moved the first i of them
+pub record Moved (r : Road) (s : State) (row y : List ℕ) (t : State) (entering i : ℕ) : Type 0 where
+  pub within : i ≤ r .n
+  pub enters : entering ≡ enteringAt r s y i
+  pub moved : t ≡ movedTo r s row y i

@@ -1,0 +1,4 @@
+pub mod Asked
+pub mod Cells
+pub mod Carried
+pub mod Outflows

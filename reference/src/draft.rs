@@ -1,0 +1,86 @@
+//! A record still in values, and its bytes. Nothing is checked, so that
+//! damaged records can be made too.
+
+/// One cell's 24 bytes.
+#[derive(Clone, Copy, Debug, Default, PartialEq, Eq)]
+pub struct CellDraft {
+    pub v: u16,
+    pub w: u16,
+    pub b: u16,
+    pub ramp: u16,
+    pub jam: u32,
+    pub capacity: u32,
+    pub held: u32,
+    pub queue: u32,
+}
+
+/// A record in values. `n` and `steps` need not match the lists.
+#[derive(Clone, Debug, PartialEq, Eq)]
+pub struct Draft {
+    /// The first field; without it the true count of bytes after it.
+    pub length: Option<u32>,
+    pub version: u8,
+    pub n: u8,
+    pub steps: u16,
+    pub gate_capacity: u32,
+    pub gate_queue: u32,
+    pub cells: Vec<CellDraft>,
+    /// Rows in the record's order, of any length.
+    pub rows: Vec<Vec<u32>>,
+    /// Bytes to drop from the end.
+    pub cut: usize,
+    /// Zero bytes to add after that.
+    pub extra: usize,
+}
+
+impl Draft {
+    /// A sound frame around these cells and rows.
+    pub fn new(gate: (u32, u32), cells: Vec<CellDraft>, rows: Vec<Vec<u32>>) -> Draft {
+        Draft {
+            length: None,
+            version: 1,
+            n: cells.len() as u8,
+            steps: rows.len() as u16,
+            gate_capacity: gate.0,
+            gate_queue: gate.1,
+            cells,
+            rows,
+            cut: 0,
+            extra: 0,
+        }
+    }
+
+    /// The record's bytes.
+    pub fn encode(&self) -> Vec<u8> {
+        let mut bytes = vec![0; 4];
+        bytes.push(self.version);
+        bytes.push(self.n);
+        bytes.extend(self.steps.to_be_bytes());
+        bytes.extend(self.gate_capacity.to_be_bytes());
+        bytes.extend(self.gate_queue.to_be_bytes());
+        for cell in &self.cells {
+            cell.encode(&mut bytes);
+        }
+        for number in self.rows.iter().flatten() {
+            bytes.extend(number.to_be_bytes());
+        }
+        bytes.truncate(bytes.len().saturating_sub(self.cut));
+        bytes.resize(bytes.len() + self.extra, 0);
+        if bytes.len() >= 4 {
+            let length = self.length.unwrap_or((bytes.len() - 4) as u32);
+            bytes[..4].copy_from_slice(&length.to_be_bytes());
+        }
+        bytes
+    }
+}
+
+impl CellDraft {
+    fn encode(&self, bytes: &mut Vec<u8>) {
+        for number in [self.v, self.w, self.b, self.ramp] {
+            bytes.extend(number.to_be_bytes());
+        }
+        for number in [self.jam, self.capacity, self.held, self.queue] {
+            bytes.extend(number.to_be_bytes());
+        }
+    }
+}

@@ -1,0 +1,16 @@
+//! A second implementation of the metered carriageway, for comparison.
+//!
+//! It is written from the scope document alone. Clarity comes before speed.
+
+#![forbid(unsafe_code)]
+
+pub mod answer;
+pub mod draft;
+pub mod judge;
+pub mod limits;
+pub mod model;
+pub mod print;
+pub mod record;
+pub mod run;
+pub mod step;
+pub mod text;

@@ -1,0 +1,190 @@
+//! The road, its state and the flow rules.
+//!
+//! Cells are numbered 1 to n from upstream and kept at entry `cell - 1`.
+//! Place 0 is the gate. All counts are parts (thousandths of a vehicle).
+
+/// What doesn't change during a run. Entries past cell n mean nothing.
+#[derive(Clone, Copy, Debug, PartialEq, Eq)]
+pub struct Road {
+    /// Number of cells.
+    pub n: usize,
+    pub gate_capacity: u32,
+    /// Speed, in thousandths.
+    pub v: [u16; Road::MAX_CELLS],
+    /// Wave, in thousandths.
+    pub w: [u16; Road::MAX_CELLS],
+    /// Onward share, in thousandths.
+    pub b: [u16; Road::MAX_CELLS],
+    /// 1 with a ramp, 0 without.
+    pub ramp: [u16; Road::MAX_CELLS],
+    /// Jam count J.
+    pub jam: [u32; Road::MAX_CELLS],
+    /// Capacity C.
+    pub capacity: [u32; Road::MAX_CELLS],
+}
+
+impl Road {
+    pub const MAX_CELLS: usize = 64;
+    pub const MAX_STEPS: usize = 1_440;
+    pub const MAX_BYTES: usize = 65_536;
+    /// Bound of every rate and of a jam count.
+    pub const MAX_RATE: u32 = 1_000_000;
+    pub const MAX_START_QUEUE: u32 = 1_000_000_000;
+    /// Bound of speed, wave and share, and the gate's share.
+    pub const WHOLE: u16 = 1_000;
+
+    /// The all-zero road.
+    pub const fn empty() -> Road {
+        Road {
+            n: 0,
+            gate_capacity: 0,
+            v: [0; Road::MAX_CELLS],
+            w: [0; Road::MAX_CELLS],
+            b: [0; Road::MAX_CELLS],
+            ramp: [0; Road::MAX_CELLS],
+            jam: [0; Road::MAX_CELLS],
+            capacity: [0; Road::MAX_CELLS],
+        }
+    }
+
+    /// Onward share of a place.
+    pub fn share(&self, place: usize) -> u64 {
+        match place {
+            0 => u64::from(Road::WHOLE),
+            cell => u64::from(self.b[cell - 1]),
+        }
+    }
+}
+
+/// What changes from step to step.
+#[derive(Clone, Copy, Debug, PartialEq, Eq)]
+pub struct State {
+    /// Steps done.
+    pub steps: usize,
+    /// Total time spent, in part-steps.
+    pub total: u64,
+    pub gate_queue: u32,
+    /// The gate's cumulative outflow.
+    pub gate_f: u32,
+    pub held: [u32; Road::MAX_CELLS],
+    /// Ramp queues.
+    pub queue: [u32; Road::MAX_CELLS],
+    /// Cumulative outflow of each cell.
+    pub f: [u32; Road::MAX_CELLS],
+}
+
+impl State {
+    /// The all-zero state.
+    pub const fn empty() -> State {
+        State {
+            steps: 0,
+            total: 0,
+            gate_queue: 0,
+            gate_f: 0,
+            held: [0; Road::MAX_CELLS],
+            queue: [0; Road::MAX_CELLS],
+            f: [0; Road::MAX_CELLS],
+        }
+    }
+
+    /// Cumulative outflow F of a place.
+    pub fn cumulative(&self, place: usize) -> u64 {
+        match place {
+            0 => u64::from(self.gate_f),
+            cell => u64::from(self.f[cell - 1]),
+        }
+    }
+}
+
+/// Demand of a cell: min(C, v * held / 1000 rounded down).
+pub fn cell_demand(v: u16, capacity: u32, held: u32) -> u64 {
+    u64::from(capacity).min(u64::from(v) * u64::from(held) / 1_000)
+}
+
+/// Demand of the gate: min(capacity, queue).
+pub fn gate_demand(capacity: u32, queue: u32) -> u64 {
+    u64::from(capacity.min(queue))
+}
+
+/// Supply of a cell: min(C, w * (J - held) / 1000 rounded down), for held <= J.
+pub fn cell_supply(w: u16, capacity: u32, jam: u32, held: u32) -> u64 {
+    u64::from(capacity).min(u64::from(w) * u64::from(jam - held) / 1_000)
+}
+
+/// Onward total of a place: share * F / 1000 rounded down.
+pub fn onward_total(share: u64, f: u64) -> u64 {
+    share * f / 1_000
+}
+
+/// What enters the next cell: the growth of the onward total.
+pub fn entering(share: u64, f: u64, outflow: u64) -> u64 {
+    onward_total(share, f + outflow) - onward_total(share, f)
+}
+
+/// The greatest outflow q <= demand with entering(share, f, q) <= room.
+///
+/// Put R = onward_total(share, f) + room. The condition on q is
+/// floor(share * (f + q) / 1000) <= R. As R is whole, the floor is at most R
+/// exactly when the quotient is below R + 1, that is when
+/// share * (f + q) <= 1000 * R + 999. For a share above 0 this says
+/// f + q <= floor((1000 * R + 999) / share), so the greatest q is that bound
+/// less f, or the demand if it is smaller. The difference isn't negative,
+/// because q = 0 meets the condition. With share 0 nothing ever enters.
+pub fn greatest_outflow(share: u64, f: u64, demand: u64, room: u64) -> u64 {
+    if share == 0 {
+        return demand;
+    }
+    let onward_bound = onward_total(share, f) + room;
+    demand.min((1_000 * onward_bound + 999) / share - f)
+}
+
+/// Demand of a place in this state.
+pub fn demand(road: &Road, state: &State, place: usize) -> u64 {
+    match place {
+        0 => gate_demand(road.gate_capacity, state.gate_queue),
+        cell => cell_demand(
+            road.v[cell - 1],
+            road.capacity[cell - 1],
+            state.held[cell - 1],
+        ),
+    }
+}
+
+/// Supply of a cell in this state.
+pub fn supply(road: &Road, state: &State, cell: usize) -> u64 {
+    let i = cell - 1;
+    cell_supply(road.w[i], road.capacity[i], road.jam[i], state.held[i])
+}
+
+/// Gate queue, held counts and ramp queues together.
+///
+/// The document adds them by halves; whole numbers add up the same in any order.
+pub fn present(road: &Road, state: &State) -> u64 {
+    let cells: u64 = (0..road.n)
+        .map(|i| u64::from(state.held[i]) + u64::from(state.queue[i]))
+        .sum();
+    u64::from(state.gate_queue) + cells
+}
+
+/// What has left by off-ramps: over the cells, F less the onward total.
+pub fn exits(road: &Road, state: &State) -> u64 {
+    (1..=road.n)
+        .map(|cell| {
+            let f = state.cumulative(cell);
+            f - onward_total(road.share(cell), f)
+        })
+        .sum()
+}
+
+/// Arrivals at a place, from a row in the record's order.
+pub fn arrivals(row: &[u32], place: usize) -> u64 {
+    match place {
+        0 => u64::from(row[0]),
+        cell => u64::from(row[2 * cell - 1]),
+    }
+}
+
+/// Release into a cell, from a row in the record's order.
+pub fn release(row: &[u32], cell: usize) -> u64 {
+    u64::from(row[2 * cell])
+}

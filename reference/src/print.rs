@@ -1,0 +1,57 @@
+//! A run printed whole, and the refusal line.
+
+use crate::answer::Answer;
+use crate::model::{self, State};
+use crate::record;
+use crate::run;
+use crate::step;
+use std::fmt::Write;
+
+const HEADER: &str = "step place outflow held queue\n";
+
+/// What the program prints for a record.
+pub fn printed_run(record: &[u8]) -> String {
+    let reading = record::read(record);
+    let width = reading.road.n + 1;
+    let mut outflows = vec![0; reading.steps * width];
+    let answer = run::run(record, &mut outflows);
+    if answer.number != 0 {
+        return refusal_line(&answer);
+    }
+    let mut out = String::from(HEADER);
+    let mut state = reading.state;
+    for (t, flows) in outflows.chunks(width).enumerate() {
+        let row = record::row(record, reading.road.n, t);
+        state = step::advance(&reading.road, &state, &row, flows);
+        print_step(&mut out, &state, t, flows);
+    }
+    let exits = model::exits(&answer.road, &answer.state);
+    put(
+        &mut out,
+        format_args!("total {} exits {}\n", answer.state.total, exits),
+    );
+    out
+}
+
+/// `refused`, number, step and place.
+pub fn refusal_line(answer: &Answer) -> String {
+    format!(
+        "refused {} {} {}\n",
+        answer.number, answer.step, answer.place
+    )
+}
+
+/// A line a place: step, place, outflow, and held and queue after the step.
+fn print_step(out: &mut String, after: &State, t: usize, flows: &[u32]) {
+    for (place, outflow) in flows.iter().enumerate() {
+        let (held, queue) = match place {
+            0 => (after.gate_queue, 0),
+            cell => (after.held[cell - 1], after.queue[cell - 1]),
+        };
+        put(out, format_args!("{t} {place} {outflow} {held} {queue}\n"));
+    }
+}
+
+fn put(out: &mut String, line: std::fmt::Arguments) {
+    out.write_fmt(line).expect("a string takes every line");
+}

@@ -1,0 +1,136 @@
+//! Reading a record: refusals 1 to 6.
+
+use crate::limits;
+use crate::model::{Road, State};
+
+const HEAD_BYTES: usize = 16;
+const CELL_BYTES: usize = 24;
+
+/// What reading gives. After a refusal road and state are all zero and T is 0.
+#[derive(Clone, Copy, Debug, PartialEq, Eq)]
+pub struct Reading {
+    /// 0, or the refusal.
+    pub number: u32,
+    /// The lowest cell (0 for the gate) for 5, the first step for 6, else 0.
+    pub place: usize,
+    pub road: Road,
+    /// T, the number of steps.
+    pub steps: usize,
+    /// The state before step 0.
+    pub state: State,
+}
+
+impl Reading {
+    fn refused(number: u32, place: usize) -> Reading {
+        Reading {
+            number,
+            place,
+            road: Road::empty(),
+            steps: 0,
+            state: State::empty(),
+        }
+    }
+}
+
+/// Reads a record.
+pub fn read(record: &[u8]) -> Reading {
+    if let Some(number) = frame_fault(record) {
+        return Reading::refused(number, 0);
+    }
+    let n = cells_of(record);
+    let steps = steps_of(record);
+    let (road, state) = road_and_state(record, n);
+    if let Some(place) = first_bad_place(&road, &state) {
+        return Reading::refused(5, place);
+    }
+    if let Some(step) = (0..steps).find(|&t| !limits::row_fits(&road, &row(record, n, t))) {
+        return Reading::refused(6, step);
+    }
+    Reading {
+        number: 0,
+        place: 0,
+        road,
+        steps,
+        state,
+    }
+}
+
+/// Number of bytes of a record of n cells and T steps.
+pub fn size(n: usize, steps: usize) -> usize {
+    HEAD_BYTES + CELL_BYTES * n + steps * (4 + 8 * n)
+}
+
+/// The row of a step, of 1 + 2n numbers, from a record of the right size.
+pub fn row(record: &[u8], n: usize, step: usize) -> Vec<u32> {
+    let start = size(n, step);
+    (0..1 + 2 * n)
+        .map(|k| u32_at(record, start + 4 * k))
+        .collect()
+}
+
+/// Refusals 1 to 4: the record's frame.
+fn frame_fault(record: &[u8]) -> Option<u32> {
+    if record.len() < HEAD_BYTES || record.len() > Road::MAX_BYTES {
+        return Some(1);
+    }
+    if u32_at(record, 0) as usize != record.len() - 4 {
+        return Some(1);
+    }
+    if record[4] != 1 {
+        return Some(2);
+    }
+    let (n, steps) = (cells_of(record), steps_of(record));
+    if !(1..=Road::MAX_CELLS).contains(&n) || !(1..=Road::MAX_STEPS).contains(&steps) {
+        return Some(3);
+    }
+    if record.len() != size(n, steps) {
+        return Some(4);
+    }
+    None
+}
+
+/// Refusal 5: the lowest place out of its limits.
+fn first_bad_place(road: &Road, state: &State) -> Option<usize> {
+    if !limits::gate_fits(road) || !limits::gate_queue_fits(state) {
+        return Some(0);
+    }
+    (1..=road.n)
+        .find(|&cell| !limits::cell_fits(road, cell) || !limits::cell_counts_fit(road, state, cell))
+}
+
+/// The road and the starting state as they stand in the bytes.
+fn road_and_state(record: &[u8], n: usize) -> (Road, State) {
+    let mut road = Road::empty();
+    let mut state = State::empty();
+    road.n = n;
+    road.gate_capacity = u32_at(record, 8);
+    state.gate_queue = u32_at(record, 12);
+    for i in 0..n {
+        let at = HEAD_BYTES + CELL_BYTES * i;
+        road.v[i] = u16_at(record, at);
+        road.w[i] = u16_at(record, at + 2);
+        road.b[i] = u16_at(record, at + 4);
+        road.ramp[i] = u16_at(record, at + 6);
+        road.jam[i] = u32_at(record, at + 8);
+        road.capacity[i] = u32_at(record, at + 12);
+        state.held[i] = u32_at(record, at + 16);
+        state.queue[i] = u32_at(record, at + 20);
+    }
+    (road, state)
+}
+
+fn cells_of(record: &[u8]) -> usize {
+    usize::from(record[5])
+}
+
+fn steps_of(record: &[u8]) -> usize {
+    usize::from(u16_at(record, 6))
+}
+
+fn u16_at(record: &[u8], at: usize) -> u16 {
+    u16::from_be_bytes([record[at], record[at + 1]])
+}
+
+fn u32_at(record: &[u8], at: usize) -> u32 {
+    u32::from_be_bytes([record[at], record[at + 1], record[at + 2], record[at + 3]])
+}

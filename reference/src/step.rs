@@ -1,0 +1,130 @@
+//! Stepping, and the parts of a step that running and judging share.
+
+use crate::limits;
+use crate::model::{self, Road, State};
+
+/// Bound of the total for each step done.
+const MAX_TOTAL_A_STEP: u64 = 200_000_000_000;
+
+/// What stepping returns. After a refusal the state is the one given.
+#[derive(Clone, Copy, Debug, PartialEq, Eq)]
+pub struct Stepped {
+    pub number: u32,
+    /// The cell for 9 and 10, else 0.
+    pub place: usize,
+    pub state: State,
+}
+
+/// One step, for any road, state and row.
+pub fn step(road: Road, state: State, row: &[u32]) -> Stepped {
+    let refused = |number, place| Stepped {
+        number,
+        place,
+        state,
+    };
+    if !all_within_limits(&road, &state, row) {
+        return refused(7, 0);
+    }
+    if state.steps == Road::MAX_STEPS {
+        return refused(8, 0);
+    }
+    if let Some((number, cell)) = release_fault(&road, &state, row) {
+        return refused(number, cell);
+    }
+    let outflows = greatest_outflows(&road, &state, row);
+    Stepped {
+        number: 0,
+        place: 0,
+        state: advance(&road, &state, row, &outflows),
+    }
+}
+
+/// None of the conditions of refusal 7 holds. Sizes are looked at first, so
+/// that the later conditions only meet cells that exist.
+fn all_within_limits(road: &Road, state: &State, row: &[u32]) -> bool {
+    (1..=Road::MAX_CELLS).contains(&road.n)
+        && row.len() == 1 + 2 * road.n
+        && state.steps <= Road::MAX_STEPS
+        && road_fits(road)
+        && limits::row_fits(road, row)
+        && state_fits(road, state)
+}
+
+fn road_fits(road: &Road) -> bool {
+    limits::gate_fits(road) && (1..=road.n).all(|cell| limits::cell_fits(road, cell))
+}
+
+/// The state's bounds after s steps.
+fn state_fits(road: &Road, state: &State) -> bool {
+    let s = state.steps as u64;
+    let f_bound = u64::from(Road::MAX_RATE) * s;
+    limits::gate_queue_fits(state)
+        && (1..=road.n).all(|cell| limits::cell_counts_fit(road, state, cell))
+        && (0..=road.n).all(|place| state.cumulative(place) <= f_bound)
+        && state.total <= MAX_TOTAL_A_STEP * s
+}
+
+/// Refusals 9 and 10: at the lowest cell with either, 9 before 10.
+pub fn release_fault(road: &Road, state: &State, row: &[u32]) -> Option<(u32, usize)> {
+    for cell in 1..=road.n {
+        let release = model::release(row, cell);
+        if release > u64::from(state.queue[cell - 1]) {
+            return Some((9, cell));
+        }
+        if release > model::supply(road, state, cell) {
+            return Some((10, cell));
+        }
+    }
+    None
+}
+
+/// What may enter a cell from upstream: supply less release. The release fits.
+pub fn room(road: &Road, state: &State, row: &[u32], cell: usize) -> u64 {
+    model::supply(road, state, cell) - model::release(row, cell)
+}
+
+/// The greatest outflow of every place, gate first. The releases fit.
+pub fn greatest_outflows(road: &Road, state: &State, row: &[u32]) -> Vec<u32> {
+    (0..=road.n)
+        .map(|place| {
+            let demand = model::demand(road, state, place);
+            if place == road.n {
+                return narrow(demand);
+            }
+            let room = room(road, state, row, place + 1);
+            let f = state.cumulative(place);
+            narrow(model::greatest_outflow(road.share(place), f, demand, room))
+        })
+        .collect()
+}
+
+/// The state after a step with these outflows, which obey the rules.
+/// Everything is taken from the state before; entries past cell n are kept.
+pub fn advance(road: &Road, state: &State, row: &[u32], outflows: &[u32]) -> State {
+    let mut next = *state;
+    next.gate_queue =
+        narrow(u64::from(state.gate_queue) + model::arrivals(row, 0) - u64::from(outflows[0]));
+    next.gate_f += outflows[0];
+    for cell in 1..=road.n {
+        let i = cell - 1;
+        let upstream = cell - 1;
+        let entering = model::entering(
+            road.share(upstream),
+            state.cumulative(upstream),
+            u64::from(outflows[upstream]),
+        );
+        let release = model::release(row, cell);
+        let held = u64::from(state.held[i]);
+        next.held[i] = narrow(held + entering + release - u64::from(outflows[cell]));
+        next.queue[i] = narrow(u64::from(state.queue[i]) + model::arrivals(row, cell) - release);
+        next.f[i] += outflows[cell];
+    }
+    next.steps += 1;
+    next.total += model::present(road, &next);
+    next
+}
+
+/// A count within the limits of refusal 7 fits 32 bits.
+fn narrow(count: u64) -> u32 {
+    u32::try_from(count).expect("a count within its limits")
+}

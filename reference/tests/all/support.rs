@@ -1,0 +1,70 @@
+//! What several tests use.
+
+use reference::answer::Answer;
+use reference::draft::{CellDraft, Draft};
+use reference::model::exits;
+use reference::record;
+use reference::run::run;
+use reference::text;
+
+/// The document's input.
+pub const EXAMPLE: &str = "
+steps 3
+gate capacity 2000 queue 3000
+cell v 500 w 250 b 750 ramp 0 jam 8000 capacity 2000 held 2000 queue 0
+cell v 500 w 250 b 0 ramp 1 jam 8000 capacity 1000 held 4000 queue 1500
+repeat 3 row gate 1000 ramp 2 arrivals 500 release 300
+";
+
+/// A number that running never writes.
+pub const LENT: u32 = u32::MAX;
+
+pub fn record_of(text: &str) -> Vec<u8> {
+    text::record_of(text).unwrap_or_else(|error| panic!("{error}"))
+}
+
+/// Runs a record with a list of just the table's length.
+pub fn run_whole(record: &[u8]) -> (Answer, Vec<u32>) {
+    let reading = record::read(record);
+    let mut list = vec![LENT; reading.steps * (reading.road.n + 1)];
+    let answer = run(record, &mut list);
+    (answer, list)
+}
+
+pub fn run_text(text: &str) -> (Answer, Vec<u32>) {
+    run_whole(&record_of(text))
+}
+
+/// Number, step and place.
+pub fn verdict(answer: &Answer) -> (u32, usize, usize) {
+    (answer.number, answer.step, answer.place)
+}
+
+/// Total and exits of an answer.
+pub fn sums(answer: &Answer) -> (u64, u64) {
+    (answer.state.total, exits(&answer.road, &answer.state))
+}
+
+/// The document's input in values.
+pub fn example_draft() -> Draft {
+    let first = CellDraft {
+        v: 500,
+        w: 250,
+        b: 750,
+        ramp: 0,
+        jam: 8000,
+        capacity: 2000,
+        held: 2000,
+        queue: 0,
+    };
+    let second = CellDraft {
+        b: 0,
+        ramp: 1,
+        capacity: 1000,
+        held: 4000,
+        queue: 1500,
+        ..first
+    };
+    let row = vec![1000, 0, 0, 500, 300];
+    Draft::new((2000, 3000), vec![first, second], vec![row; 3])
+}
