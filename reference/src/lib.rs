@@ -14,3 +14,4 @@ pub mod record;
 pub mod run;
 pub mod step;
 pub mod text;
+pub mod trials;

@@ -3,8 +3,11 @@
 //!     reference record < TEXT > RECORD      a text into a record
 //!     reference run < RECORD                a run printed whole
 //!     reference judge RECORD SCHEDULE       a schedule's numbers judged
+//!     reference schedule < RECORD           a run's own rows as a schedule
+//!     reference trials-input > FRAMES       cases for any implementation
+//!     reference trials-output < FRAMES      what it must print for them
 
-use reference::{judge, model, print, text};
+use reference::{judge, model, print, text, trials};
 use std::io::{self, Read, Write};
 use std::process::ExitCode;
 
@@ -12,6 +15,9 @@ const USAGE: &str = "usage:
   reference record < TEXT > RECORD
   reference run < RECORD
   reference judge RECORD SCHEDULE
+  reference schedule < RECORD
+  reference trials-input > FRAMES
+  reference trials-output < FRAMES
 ";
 
 fn main() -> ExitCode {
@@ -21,6 +27,9 @@ fn main() -> ExitCode {
         ["record"] => make_record(),
         ["run"] => run_record(),
         ["judge", record, schedule] => judge_files(record, schedule),
+        ["schedule"] => print_schedule(),
+        ["trials-input"] => Ok(trials::input()),
+        ["trials-output"] => print_trials(),
         _ => {
             eprint!("{USAGE}");
             return ExitCode::from(2);
@@ -54,6 +63,17 @@ fn judge_files(record: &str, schedule: &str) -> Result<Vec<u8>, String> {
     }
     let exits = model::exits(&answer.road, &answer.state);
     Ok(format!("accepted total {} exits {exits}\n", answer.state.total).into_bytes())
+}
+
+/// A refused run has no schedule; the refusal is an error here.
+fn print_schedule() -> Result<Vec<u8>, String> {
+    let text = print::printed_schedule(&standard_input()?);
+    text.map(String::into_bytes)
+        .map_err(|refusal| refusal.trim_end().to_string())
+}
+
+fn print_trials() -> Result<Vec<u8>, String> {
+    trials::output(&standard_input()?).map(String::into_bytes)
 }
 
 fn standard_input() -> Result<Vec<u8>, String> {

@@ -33,6 +33,24 @@ pub fn printed_run(record: &[u8]) -> String {
     out
 }
 
+/// The rows that running writes, as the text of a schedule: a line a step.
+/// Where the run is refused, the refusal line instead.
+pub fn printed_schedule(record: &[u8]) -> Result<String, String> {
+    let reading = record::read(record);
+    let width = reading.road.n + 1;
+    let mut outflows = vec![0; reading.steps * width];
+    let answer = run::run(record, &mut outflows);
+    if answer.number != 0 {
+        return Err(refusal_line(&answer));
+    }
+    let mut out = String::new();
+    for flows in outflows.chunks(width) {
+        let words: Vec<String> = flows.iter().map(u32::to_string).collect();
+        put(&mut out, format_args!("{}\n", words.join(" ")));
+    }
+    Ok(out)
+}
+
 /// `refused`, number, step and place.
 pub fn refusal_line(answer: &Answer) -> String {
     format!(

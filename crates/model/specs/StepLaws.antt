@@ -51,6 +51,16 @@ module _ (f : ℕ → ℕ) (n base : ℕ) where
           absurd (eqb-false (f (firstOf (λ i. eqb (f i) 0) n)) 0
           (a .stops (omega (arith, a .within, eqb-false (firstOf (λ i. eqb (f i) 0) n) n e))) z)
 
+  -- and its number is one of theirs
+  pub lowest-most : (b : ℕ) → ((i : ℕ) → f i ≤ b) → lowestOf f n base .number ≤ b
+  unfolding lowestOf
+  lowest-most b h = go (eqb (firstOf (λ i. eqb (f i) 0) n) n)
+    where
+      go : (t : Bool)
+          → cond t (fault 0 0) (fault (f (firstOf (λ i. eqb (f i) 0) n)) (firstOf (λ i. eqb (f i) 0) n + base)) .number ≤ b
+      go true = omega arith
+      go false = h (firstOf (λ i. eqb (f i) 0) n)
+
 -- two tests, one before the other
 pub two-zero : (a b c d m k : ℕ) → (m ≡ 0 → ⊥) → (k ≡ 0 → ⊥) → unless (leb a b) m (unless (leb c d) k 0) ≡ 0 → (a ≤ b) × (c ≤ d)
 two-zero a b c d m k hm hk h = go (leb a b) (leb c d) refl refl h
@@ -72,6 +82,16 @@ module _ (r : Road) (s : State) (row : List ℕ) where
       at-cell i l =
           two-zero (releaseAt row i) (mostReleaseAt s row i) (releaseAt row i) (supplyAt r s i) 9 10 (λ z. omega arith) (λ z. omega arith)
           (lowest-zero (releaseFaultAt r s row) (r .n) 1 h i l)
+
+  -- 9 and 10 are the only faults of a release
+  pub releases-number : releasesOf r s row .number ≤ 10
+  releases-number = lowest-most (releaseFaultAt r s row) (r .n) 1 10
+      (λ i. two-most (leb (releaseAt row i) (mostReleaseAt s row i)) (leb (releaseAt row i) (supplyAt r s i)))
+    where
+      two-most : (t u : Bool) → unless t 9 (unless u 10 0) ≤ 10
+      two-most true true = omega arith
+      two-most true false = omega arith
+      two-most false u = omega arith
 
   -- each release fits: no fault
   pub fit-releases : Released r s row → releasesOf r s row ≡ fault 0 0

@@ -135,3 +135,24 @@ pub struct Stepped {
     pub place: usize,
     pub state: State,
 }
+
+// What reading answers.
+pub struct Reading {
+    pub refusal: Refusal,
+    // The lowest place out of its limits, the first step whose row is, and otherwise 0.
+    pub place: usize,
+    // T.
+    pub steps: usize,
+    pub road: Road,
+    // The state before step 0.
+    pub state: State,
+}
+
+// What running and judging answer: the road with the final state, or with the state before a refused step.
+pub struct Ended {
+    pub refusal: Refusal,
+    pub step: usize,
+    pub place: usize,
+    pub road: Road,
+    pub state: State,
+}

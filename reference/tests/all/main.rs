@@ -9,3 +9,4 @@ mod running;
 mod stepping;
 mod support;
 mod text_form;
+mod trials;

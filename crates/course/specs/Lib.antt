@@ -1,0 +1,13 @@
+pub mod Tables
+pub mod Course
+pub mod Answers
+pub mod TableLaws
+pub mod CourseLaws
+pub mod Ends
+pub mod Readable
+pub mod Demand
+pub mod DemandLaws
+pub mod Whole
+pub mod Accounts
+pub mod Judged
+pub mod Printed

@@ -1,0 +1,86 @@
+-- `fields::row` meets its contract. The invariant: the k numbers passed are stored. Assumes nothing.
+use mathlib.Core.Path.{_≡_, refl, ap, _∙_}
+use Prim.Native.Nat.{ℕ, _≤_, _-_, _+_, _*_}
+use lib.ListN.{replicate}
+use Rattle.rows.specs.Rows.{fillOf}
+use Rattle.rows.specs.RowsLaws.{fill-more}
+use Rattle.fields.specs.Fields.{entryOf}
+use Rattle.fields.specs.FieldsLaws.{row-taken}
+use borrow.Author.Needs.{needs}
+use native.Mathlib.Omega.{arith}
+use Rattle.fields.proofs.row.Statement.{statement}
+use Rattle.fields.proofs.row.Tie as tie
+
+abbrev Inv-loop : tie.InvT-loop
+Inv-loop bytes n t start r₀ k₀ r k = (k ≤ 1 + 2 * n) × (r ≡ fillOf (entryOf bytes n t) k (replicate 129 0))
+
+abbrev μ-loop : tie.MeasureT-loop
+μ-loop bytes n t start r₀ k₀ r k = 1 + 2 * n - k
+
+row-start-requires : tie.Need-row-start-requires Inv-loop μ-loop
+row-start-requires c κs = search needs
+
+loop-holds : tie.Need-loop-holds Inv-loop μ-loop
+unfolding fillOf
+loop-holds c = (omega arith, refl)
+
+mul-loop : tie.Need-mul-loop Inv-loop μ-loop
+mul-loop c = search needs
+
+add-loop : tie.Need-add-loop Inv-loop μ-loop
+add-loop c = search needs
+
+mul-number : tie.Need-mul-number Inv-loop μ-loop
+mul-number c = search needs
+
+add-number : tie.Need-add-number Inv-loop μ-loop
+add-number c = search needs
+
+number-requires : tie.Need-number-requires Inv-loop μ-loop
+number-requires c κs = search needs
+
+mul-r : tie.Need-mul-r Inv-loop μ-loop
+mul-r c = search needs
+
+array-write-r : tie.Need-array-write-r Inv-loop μ-loop
+array-write-r c = search needs
+
+add-k : tie.Need-add-k Inv-loop μ-loop
+add-k c = search needs
+
+loop-less : tie.Need-loop-less Inv-loop μ-loop
+loop-less c = search needs
+
+loop-again : tie.Need-loop-again Inv-loop μ-loop
+loop-again c =
+    let l = c .before .before .loop in
+    let a = c .before .before .before .before .before .args in
+    let s = c .before .before .before .row-start in
+    (omega arith, cc (fill-more (entryOf (a .bytes .now) (a .n) (a .t)) (l .k) (replicate 129 0), c .number .ensures .0, s .ensures, l .inv .1))
+
+returns : tie.Need-returns Inv-loop μ-loop
+returns c =
+    let l = c .before .loop in
+    let a = c .before .before .before .before .args in
+    let e : l .k ≡ 1 + 2 * a .n = omega arith in
+    row-taken (a .bytes .now) (a .n) (a .t) (l .r) (omega arith) (l .inv .1 ∙ ap (λ (j : ℕ). fillOf (entryOf (a .bytes .now) (a .n) (a .t)) j (replicate 129 0)) e)
+
+pub row-spec : {M : Type 1} → statement M
+row-spec =
+    tie.close
+    (tie.spec
+    Inv-loop
+    μ-loop
+    row-start-requires
+    loop-holds
+    mul-loop
+    add-loop
+    mul-number
+    add-number
+    number-requires
+    mul-r
+    array-write-r
+    add-k
+    loop-less
+    loop-again
+    returns)

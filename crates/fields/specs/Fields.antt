@@ -1,0 +1,104 @@
+-- Document 01, 'The record': where each field stands, and the numbers, columns and rows that the bytes give. Assumes nothing.
+use mathlib.Core.List.{List}
+use Prim.Native.Nat.{ℕ, zero, suc, _+_, _*_}
+use Rattle.road.specs.Road.{at, zeros}
+use Rattle.rows.specs.Rows.{fillOf, listOf}
+
+-- bytes 0 to 3: the number of bytes that follow them
+abbrev pub countSize : ℕ
+countSize = 4
+
+-- byte 4: version 1
+abbrev pub versionOffset : ℕ
+versionOffset = 4
+
+abbrev pub recordVersion : ℕ
+recordVersion = 1
+
+-- byte 5: n
+abbrev pub cellsOffset : ℕ
+cellsOffset = 5
+
+-- bytes 6, 7: T
+abbrev pub stepsOffset : ℕ
+stepsOffset = 6
+
+-- bytes 8 to 11: gate capacity
+abbrev pub gateCapacityOffset : ℕ
+gateCapacityOffset = 8
+
+-- bytes 12 to 15: gate queue
+abbrev pub gateQueueOffset : ℕ
+gateQueueOffset = 12
+
+-- all that before the cells
+abbrev pub headerSize : ℕ
+headerSize = 16
+
+-- then 24 bytes a cell
+abbrev pub cellSize : ℕ
+cellSize = 24
+
+-- v, w, b, ramp mark, two bytes each
+abbrev pub shortSize : ℕ
+shortSize = 2
+
+abbrev pub speedOffset : ℕ
+speedOffset = 0
+
+abbrev pub waveOffset : ℕ
+waveOffset = 2
+
+abbrev pub shareOffset : ℕ
+shareOffset = 4
+
+abbrev pub rampOffset : ℕ
+rampOffset = 6
+
+-- J, C, held, ramp queue, four bytes each
+abbrev pub numberSize : ℕ
+numberSize = 4
+
+abbrev pub jamOffset : ℕ
+jamOffset = 8
+
+abbrev pub capacityOffset : ℕ
+capacityOffset = 12
+
+abbrev pub heldOffset : ℕ
+heldOffset = 16
+
+abbrev pub queueOffset : ℕ
+queueOffset = 20
+
+-- then a row a step, four bytes a number: gate arrivals; then for each cell its ramp arrivals and its release
+abbrev pub ratesSize : ℕ
+ratesSize = 8
+
+abbrev pub rowSize : ℕ → ℕ
+rowSize n = numberSize + ratesSize * n
+
+-- where the row of step t starts; the whole is 16 + 24n + T × (4 + 8n) bytes
+abbrev pub rowStart : ℕ → ℕ → ℕ
+rowStart n t = headerSize + cellSize * n + t * rowSize n
+
+-- all fields are big-endian and unsigned: the number in the w bytes from i, the highest byte first
+unfoldable pub numberOf : List ℕ → ℕ → ℕ → ℕ
+numberOf s i zero = 0
+numberOf s i (suc w) = numberOf s i w * 256 + at s (i + w)
+
+-- the field of w bytes at an offset into the cell at i
+abbrev pub fieldOf : List ℕ → ℕ → ℕ → ℕ → ℕ
+fieldOf s offset w i = numberOf s (headerSize + cellSize * i + offset) w
+
+-- one field of each of the n cells, in an array of 64; entries past cell n are 0
+abbrev pub columnOf : List ℕ → ℕ → ℕ → ℕ → List ℕ
+columnOf s offset w n = fillOf (fieldOf s offset w) n zeros
+
+-- number k of the row of step t
+abbrev pub entryOf : List ℕ → ℕ → ℕ → ℕ → ℕ
+entryOf s n t k = numberOf s (rowStart n t + numberSize * k) numberSize
+
+-- the row of step t: 1 + 2n numbers in the record's order
+abbrev pub recordRow : List ℕ → ℕ → ℕ → List ℕ
+recordRow s n t = listOf (entryOf s n t) (1 + 2 * n)

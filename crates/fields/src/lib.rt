@@ -1,0 +1,130 @@
+// The layout of document 01's record, and the numbers, columns and rows of its bytes.
+ghost use mathlib.Core.Path.{_≡_};
+ghost use Prim.Native.Nat.{_+_, _*_, _^_, _≤_, _<_};
+ghost use lib.ListN.{length, take};
+ghost use Rattle.fields.specs.Fields.{shortSize, numberSize, cellSize, rowSize, rowStart, numberOf, columnOf, recordRow};
+
+// The version of the layout below.
+pub const VERSION: u32 = 1;
+
+// Sizes in bytes: of the header, of its first field, of a cell, and of a cell's two numbers in a row.
+pub const HEADER_SIZE: usize = 16;
+
+pub const COUNT_SIZE: usize = 4;
+
+const CELL_SIZE: usize = 24;
+
+const RATES_SIZE: usize = 8;
+
+// Sizes of a field: v, w, b, the ramp mark and T have two bytes, the other numbers four.
+pub const SHORT_SIZE: usize = 2;
+
+pub const NUMBER_SIZE: usize = 4;
+
+// The header's fields, each at the byte where it starts: the version, n, T, the gate's capacity and queue.
+pub const VERSION_OFFSET: usize = 4;
+
+pub const CELLS_OFFSET: usize = 5;
+
+pub const STEPS_OFFSET: usize = 6;
+
+pub const GATE_CAPACITY_OFFSET: usize = 8;
+
+pub const GATE_QUEUE_OFFSET: usize = 12;
+
+// A cell's fields, each at the byte of the cell where it starts: v, w, b, the ramp mark, J, C, held and the ramp's queue.
+pub const SPEED_OFFSET: usize = 0;
+
+pub const WAVE_OFFSET: usize = 2;
+
+pub const SHARE_OFFSET: usize = 4;
+
+pub const RAMP_OFFSET: usize = 6;
+
+pub const JAM_OFFSET: usize = 8;
+
+pub const CAPACITY_OFFSET: usize = 12;
+
+pub const HELD_OFFSET: usize = 16;
+
+pub const QUEUE_OFFSET: usize = 20;
+
+fn wide(x: u8) -> u32
+    ensures { λ r. ⌜ (r ≡ x) × (r < 256) ⌝ }
+{
+    x as u32
+}
+
+// The number in the `size` bytes from `i`, the highest byte first.
+pub fn number(bytes: &[u8], i: usize, size: usize) -> u32
+    requires { ⌜ (size ≤ 4) × (i + size ≤ length (now bytes)) ⌝ }
+    ensures { λ r. ⌜ (r ≡ numberOf (now (bytes .entry)) i size) × (r < 256 ^ size) ⌝ }
+{
+    let mut r = 0;
+    let mut k = 0;
+    while k < size {
+        let byte = wide(bytes[i + k]);
+        r = r * 256 + byte;
+        k += 1;
+    }
+    r
+}
+
+// The number in the two bytes from `i`.
+pub fn short(bytes: &[u8], i: usize) -> u16
+    requires { ⌜ i + shortSize ≤ length (now bytes) ⌝ }
+    ensures { λ r. ⌜ r ≡ numberOf (now (bytes .entry)) i shortSize ⌝ }
+{
+    number(bytes, i, SHORT_SIZE) as u16
+}
+
+// A field of two bytes, `offset` into each of the n cells.
+pub fn short_column(bytes: &[u8], offset: usize, n: usize) -> [u16; 64]
+    requires { ⌜ (offset + shortSize ≤ cellSize) × ((n ≤ 64) × (rowStart n 0 ≤ length (now bytes))) ⌝ }
+    ensures { λ r. ⌜ r ≡ columnOf (now (bytes .entry)) offset shortSize n ⌝ }
+{
+    let mut r = [0u16; 64];
+    let mut i = 0;
+    while i < n {
+        r[i] = short(bytes, HEADER_SIZE + CELL_SIZE * i + offset);
+        i += 1;
+    }
+    r
+}
+
+// A field of four bytes, `offset` into each of the n cells.
+pub fn column(bytes: &[u8], offset: usize, n: usize) -> [u32; 64]
+    requires { ⌜ (offset + numberSize ≤ cellSize) × ((n ≤ 64) × (rowStart n 0 ≤ length (now bytes))) ⌝ }
+    ensures { λ r. ⌜ r ≡ columnOf (now (bytes .entry)) offset numberSize n ⌝ }
+{
+    let mut r = [0u32; 64];
+    let mut i = 0;
+    while i < n {
+        r[i] = number(bytes, HEADER_SIZE + CELL_SIZE * i + offset, NUMBER_SIZE);
+        i += 1;
+    }
+    r
+}
+
+// The byte at which the row of step `t` starts; at T, the record's size.
+pub fn row_start(n: usize, t: usize) -> usize
+    requires { ⌜ rowStart n t < 2 ^ 64 ⌝ }
+    ensures { λ r. ⌜ r ≡ rowStart n t ⌝ }
+{
+    HEADER_SIZE + CELL_SIZE * n + t * (NUMBER_SIZE + RATES_SIZE * n)
+}
+
+// The row of step `t` in the first 1 + 2n numbers: gate arrivals, then each cell's arrivals and release.
+pub fn row(bytes: &[u8], n: usize, t: usize) -> [u32; 129]
+    requires { ⌜ (n ≤ 64) × (rowStart n t + rowSize n ≤ length (now bytes)) ⌝ }
+    ensures { λ r. ⌜ take (1 + 2 * n) r ≡ recordRow (now (bytes .entry)) n t ⌝ }
+{
+    let start = row_start(n, t);
+    let mut r = [0u32; 129];
+    let mut k = 0;
+    while k < 1 + 2 * n {
+        r[k] = number(bytes, start + NUMBER_SIZE * k, NUMBER_SIZE);
+        k += 1;
+    }
+    r
+}

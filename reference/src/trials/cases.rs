@@ -1,0 +1,62 @@
+//! The cases in their order, as the groups add them.
+
+use super::frame::{Case, StepInput, MAX_LIST, MAX_RECORD, MAX_ROW};
+use crate::draft::Draft;
+use crate::run;
+
+#[derive(Default)]
+pub struct Cases {
+    pub list: Vec<Case>,
+}
+
+impl Cases {
+    pub fn read(&mut self, record: &[u8]) {
+        assert!(record.len() <= MAX_RECORD);
+        let record = record.to_vec();
+        self.list.push(Case::Read { record });
+    }
+
+    pub fn run(&mut self, length: usize, record: &[u8]) {
+        assert!(record.len() <= MAX_RECORD && length <= MAX_LIST);
+        let record = record.to_vec();
+        self.list.push(Case::Run { length, record });
+    }
+
+    pub fn judge(&mut self, schedule: &[u32], record: &[u8]) {
+        assert!(record.len() <= MAX_RECORD && schedule.len() <= MAX_LIST);
+        self.list.push(Case::Judge {
+            schedule: schedule.to_vec(),
+            record: record.to_vec(),
+        });
+    }
+
+    pub fn step(&mut self, input: &StepInput) {
+        assert!(input.row.len() <= MAX_ROW);
+        self.list.push(Case::Step(Box::new(input.clone())));
+    }
+
+    /// These bytes read, run with a list of this length, and judged with a
+    /// schedule of that length: the run's own rows, then zeros.
+    pub fn all_ways(&mut self, length: usize, record: &[u8]) {
+        self.read(record);
+        self.run(length, record);
+        self.judge(&own_rows(length, record), record);
+    }
+
+    /// As `all_ways`, with the length that the draft's lists ask for.
+    pub fn draft(&mut self, draft: &Draft) {
+        self.all_ways(table_length(draft), &draft.encode());
+    }
+}
+
+/// Length of the table of a draft's cells and rows.
+pub fn table_length(draft: &Draft) -> usize {
+    draft.rows.len() * (draft.cells.len() + 1)
+}
+
+/// The rows that running writes into a list of zeros.
+pub fn own_rows(length: usize, record: &[u8]) -> Vec<u32> {
+    let mut list = vec![0; length];
+    run::run(record, &mut list);
+    list
+}

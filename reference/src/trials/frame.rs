@@ -1,0 +1,229 @@
+//! The binary frames of the cases. All numbers are big-endian.
+//!
+//! ```text
+//! 'R'  u32 B, B bytes of a record
+//! 'U'  u32 L, the lent list's length; u32 B, B bytes
+//! 'J'  u32 Z, Z u32 of a schedule; u32 B, B bytes
+//! 'S'  u32 n, u32 gate capacity, 64 x (u16 v, w, b, ramp mark), 64 x (u32 J, C);
+//!      u32 steps, u64 total, u32 gate queue, u32 gate F,
+//!      64 x (u32 held, ramp queue, F); u32 K, K u32 of a row
+//! ```
+
+use crate::model::{Road, State};
+
+/// Most bytes of a record in a frame.
+pub const MAX_RECORD: usize = 65_540;
+/// Greatest length of a lent list or a schedule.
+pub const MAX_LIST: usize = 9_000;
+/// Most numbers of a row.
+pub const MAX_ROW: usize = 200;
+
+/// One case.
+#[derive(Clone, Debug, PartialEq, Eq)]
+pub enum Case {
+    Read { record: Vec<u8> },
+    Run { length: usize, record: Vec<u8> },
+    Judge { schedule: Vec<u32>, record: Vec<u8> },
+    Step(Box<StepInput>),
+}
+
+/// What stepping takes.
+#[derive(Clone, Debug, PartialEq, Eq)]
+pub struct StepInput {
+    pub road: Road,
+    pub state: State,
+    pub row: Vec<u32>,
+}
+
+impl Case {
+    pub fn encode(&self, out: &mut Vec<u8>) {
+        match self {
+            Case::Read { record } => {
+                out.push(b'R');
+                put_bytes(out, record);
+            }
+            Case::Run { length, record } => {
+                out.push(b'U');
+                put(out, *length as u32);
+                put_bytes(out, record);
+            }
+            Case::Judge { schedule, record } => {
+                out.push(b'J');
+                put_numbers(out, schedule);
+                put_bytes(out, record);
+            }
+            Case::Step(input) => {
+                out.push(b'S');
+                put_road(out, &input.road);
+                put_state(out, &input.state);
+                put_numbers(out, &input.row);
+            }
+        }
+    }
+}
+
+fn put(out: &mut Vec<u8>, number: u32) {
+    out.extend(number.to_be_bytes());
+}
+
+fn put_bytes(out: &mut Vec<u8>, bytes: &[u8]) {
+    put(out, bytes.len() as u32);
+    out.extend(bytes);
+}
+
+fn put_numbers(out: &mut Vec<u8>, numbers: &[u32]) {
+    put(out, numbers.len() as u32);
+    for &number in numbers {
+        put(out, number);
+    }
+}
+
+fn put_road(out: &mut Vec<u8>, road: &Road) {
+    put(out, road.n as u32);
+    put(out, road.gate_capacity);
+    for i in 0..Road::MAX_CELLS {
+        for number in [road.v[i], road.w[i], road.b[i], road.ramp[i]] {
+            out.extend(number.to_be_bytes());
+        }
+    }
+    for i in 0..Road::MAX_CELLS {
+        put(out, road.jam[i]);
+        put(out, road.capacity[i]);
+    }
+}
+
+fn put_state(out: &mut Vec<u8>, state: &State) {
+    put(out, state.steps as u32);
+    out.extend(state.total.to_be_bytes());
+    put(out, state.gate_queue);
+    put(out, state.gate_f);
+    for i in 0..Road::MAX_CELLS {
+        for number in [state.held[i], state.queue[i], state.f[i]] {
+            put(out, number);
+        }
+    }
+}
+
+/// The cases of all frames. The error names the frame, counted from 0.
+pub fn decode(bytes: &[u8]) -> Result<Vec<Case>, String> {
+    let mut reader = Reader { bytes, at: 0 };
+    let mut cases = Vec::new();
+    while reader.at < bytes.len() {
+        let start = reader.at;
+        let case = reader
+            .case()
+            .map_err(|message| format!("frame {} at byte {start}: {message}", cases.len()))?;
+        cases.push(case);
+    }
+    Ok(cases)
+}
+
+/// The input and how far it is read.
+struct Reader<'a> {
+    bytes: &'a [u8],
+    at: usize,
+}
+
+impl<'a> Reader<'a> {
+    fn case(&mut self) -> Result<Case, String> {
+        match self.take(1, "the kind")?[0] {
+            b'R' => Ok(Case::Read {
+                record: self.record()?,
+            }),
+            b'U' => Ok(Case::Run {
+                length: self.count("the list's length", MAX_LIST)?,
+                record: self.record()?,
+            }),
+            b'J' => Ok(Case::Judge {
+                schedule: self.numbers("the schedule", MAX_LIST)?,
+                record: self.record()?,
+            }),
+            b'S' => Ok(Case::Step(Box::new(StepInput {
+                road: self.road()?,
+                state: self.state()?,
+                row: self.numbers("the row", MAX_ROW)?,
+            }))),
+            kind => Err(format!("{kind} is not a kind of frame")),
+        }
+    }
+
+    /// The next bytes, which must be there.
+    fn take(&mut self, count: usize, what: &str) -> Result<&'a [u8], String> {
+        let left = self.bytes.len() - self.at;
+        if left < count {
+            return Err(format!(
+                "the input ends in {what}: {count} bytes wanted, {left} left"
+            ));
+        }
+        let start = self.at;
+        self.at += count;
+        Ok(&self.bytes[start..self.at])
+    }
+
+    fn u16(&mut self, what: &str) -> Result<u16, String> {
+        let bytes = self.take(2, what)?;
+        Ok(u16::from_be_bytes([bytes[0], bytes[1]]))
+    }
+
+    fn u32(&mut self, what: &str) -> Result<u32, String> {
+        let bytes = self.take(4, what)?;
+        Ok(u32::from_be_bytes([bytes[0], bytes[1], bytes[2], bytes[3]]))
+    }
+
+    fn u64(&mut self, what: &str) -> Result<u64, String> {
+        let high = self.u32(what)?;
+        let low = self.u32(what)?;
+        Ok(u64::from(high) << 32 | u64::from(low))
+    }
+
+    fn count(&mut self, what: &str, most: usize) -> Result<usize, String> {
+        let count = self.u32(what)? as usize;
+        if count > most {
+            return Err(format!("{what}: {count} is more than {most}"));
+        }
+        Ok(count)
+    }
+
+    fn record(&mut self) -> Result<Vec<u8>, String> {
+        let count = self.count("the record", MAX_RECORD)?;
+        Ok(self.take(count, "the record")?.to_vec())
+    }
+
+    fn numbers(&mut self, what: &str, most: usize) -> Result<Vec<u32>, String> {
+        let count = self.count(what, most)?;
+        (0..count).map(|_| self.u32(what)).collect()
+    }
+
+    fn road(&mut self) -> Result<Road, String> {
+        let what = "the road";
+        let mut road = Road::empty();
+        road.n = self.u32(what)? as usize;
+        road.gate_capacity = self.u32(what)?;
+        for i in 0..Road::MAX_CELLS {
+            road.v[i] = self.u16(what)?;
+            road.w[i] = self.u16(what)?;
+            road.b[i] = self.u16(what)?;
+            road.ramp[i] = self.u16(what)?;
+        }
+        for i in 0..Road::MAX_CELLS {
+            road.jam[i] = self.u32(what)?;
+            road.capacity[i] = self.u32(what)?;
+        }
+        Ok(road)
+    }
+
+    fn state(&mut self) -> Result<State, String> {
+        let what = "the state";
+        let mut state = State::empty();
+        state.steps = self.u32(what)? as usize;
+        state.total = self.u64(what)?;
+        state.gate_queue = self.u32(what)?;
+        state.gate_f = self.u32(what)?;
+        for i in 0..Road::MAX_CELLS {
+            state.held[i] = self.u32(what)?;
+            state.queue[i] = self.u32(what)?;
+            state.f[i] = self.u32(what)?;
+        }
+        Ok(state)
+    }
+}

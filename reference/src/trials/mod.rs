@@ -1,0 +1,64 @@
+//! Trials: cases for any implementation, and what it must print for them.
+//!
+//! `input` makes the cases as binary frames; nothing but fixed seeds goes into
+//! them. `output` reads frames and gives the text.
+
+pub mod cases;
+pub mod dice;
+pub mod digest;
+pub mod frame;
+pub mod report;
+
+mod cells;
+mod edges;
+mod judged;
+mod refusals;
+mod roads;
+mod samples;
+mod steps;
+mod sweep;
+mod trial;
+mod walk;
+
+use cases::Cases;
+use frame::Case;
+
+/// All cases, group by group.
+pub fn all_cases() -> Vec<Case> {
+    let mut cases = Cases::default();
+    // Group 1: the document's edges.
+    edges::add(&mut cases);
+    // Group 2: refusals 1 to 6 and 9 to 14, at the bounds and in pairs.
+    refusals::add(&mut cases);
+    // Group 3: single steps, refusals 7 to 10.
+    steps::add(&mut cases);
+    // Group 4: random roads, run.
+    let trials = roads::add(&mut cases);
+    // Group 5: schedules over those roads, judged.
+    judged::add(&mut cases, &trials);
+    cases.list
+}
+
+/// The frames of all cases.
+pub fn input() -> Vec<u8> {
+    let mut bytes = Vec::new();
+    for case in all_cases() {
+        case.encode(&mut bytes);
+    }
+    bytes
+}
+
+/// A line a case, and the line of the counts.
+pub fn output(input: &[u8]) -> Result<String, String> {
+    let cases = frame::decode(input)?;
+    let mut out = String::new();
+    let mut complete = 0;
+    for case in &cases {
+        let line = report::line(case);
+        complete += usize::from(line.complete);
+        out.push_str(&line.text);
+        out.push('\n');
+    }
+    out.push_str(&format!("cases {} complete {complete}\n", cases.len()));
+    Ok(out)
+}

@@ -1,0 +1,58 @@
+//! The states that a schedule produces, step by step.
+
+use crate::judge;
+use crate::model::{self, Road, State};
+use crate::record;
+use crate::step;
+
+/// The steps that a schedule reaches on a record that reading accepts.
+pub struct Walk {
+    pub road: Road,
+    /// The rows of the steps reached.
+    pub rows: Vec<Vec<u32>>,
+    /// The states before them.
+    pub states: Vec<State>,
+}
+
+impl Walk {
+    /// `schedule` holds at least the whole table.
+    pub fn new(record: &[u8], schedule: &[u32]) -> Walk {
+        let reading = record::read(record);
+        let road = reading.road;
+        let width = road.n + 1;
+        let table = &schedule[..reading.steps * width];
+        let answer = judge::judge(record, table);
+        let mut walk = Walk {
+            road,
+            rows: Vec::new(),
+            states: Vec::new(),
+        };
+        let mut state = reading.state;
+        for (t, outflows) in table.chunks(width).take(answer.state.steps).enumerate() {
+            let row = record::row(record, road.n, t);
+            walk.states.push(state);
+            state = step::advance(&road, &state, &row, outflows);
+            walk.rows.push(row);
+        }
+        walk
+    }
+
+    /// Steps reached.
+    pub fn steps(&self) -> usize {
+        self.rows.len()
+    }
+
+    /// Index of a step and place in a schedule.
+    pub fn at(&self, t: usize, place: usize) -> usize {
+        t * (self.road.n + 1) + place
+    }
+
+    pub fn demand(&self, t: usize, place: usize) -> u64 {
+        model::demand(&self.road, &self.states[t], place)
+    }
+
+    /// The greatest outflow of every place in a step.
+    pub fn greatest(&self, t: usize) -> Vec<u32> {
+        step::greatest_outflows(&self.road, &self.states[t], &self.rows[t])
+    }
+}

@@ -1,0 +1,331 @@
+//! The trials: digest, frames, lines, and what the cases hold.
+
+use crate::support::*;
+use reference::model::{onward_total, Road};
+use reference::print::printed_schedule;
+use reference::record::read;
+use reference::run::run;
+use reference::text::schedule_of;
+use reference::trials::digest::{of_list, of_road_and_state, Digest};
+use reference::trials::frame::{decode, Case, StepInput};
+use reference::trials::report::{lent, line};
+use reference::trials::{all_cases, input, output};
+use std::collections::BTreeSet;
+use std::sync::OnceLock;
+
+/// The cases and their lines, made once for all tests.
+fn made() -> &'static (Vec<Case>, Vec<String>) {
+    static MADE: OnceLock<(Vec<Case>, Vec<String>)> = OnceLock::new();
+    MADE.get_or_init(|| {
+        let cases = all_cases();
+        let lines = cases.iter().map(|case| line(case).text).collect();
+        (cases, lines)
+    })
+}
+
+fn encoded(case: &Case) -> Vec<u8> {
+    let mut bytes = Vec::new();
+    case.encode(&mut bytes);
+    bytes
+}
+
+/// The number after a word of a line.
+fn after(line: &str, word: &str) -> u64 {
+    let mut words = line.split(' ').skip_while(|&w| w != word);
+    words.nth(1).unwrap().parse().unwrap()
+}
+
+/// A line's number: the word after the operation.
+fn number(line: &str) -> u64 {
+    line.split(' ').nth(1).unwrap().parse().unwrap()
+}
+
+fn is_complete(line: &str) -> bool {
+    line.starts_with("run 0 ")
+        && ["ramps", "released", "held"]
+            .iter()
+            .all(|word| after(line, word) > 0)
+}
+
+/// Where group 4 starts: after the last step.
+fn roads_start(cases: &[Case]) -> usize {
+    let last = cases.iter().rposition(|c| matches!(c, Case::Step(_)));
+    last.unwrap() + 1
+}
+
+/// One small case of each kind.
+fn small_cases() -> [Case; 4] {
+    let reading = read(&record_of(EXAMPLE));
+    [
+        Case::Read {
+            record: vec![0xAA, 0xBB],
+        },
+        Case::Run {
+            length: 9,
+            record: vec![0xAA, 0xBB],
+        },
+        Case::Judge {
+            schedule: vec![5, u32::MAX],
+            record: vec![0xAA],
+        },
+        Case::Step(Box::new(StepInput {
+            road: reading.road,
+            state: reading.state,
+            row: vec![1, 2, 3],
+        })),
+    ]
+}
+
+#[test]
+fn a_digest_by_hand() {
+    // 0 * 1000003 + 0 + 1 = 1; 1 * 1000003 + 5 + 1 = 1000009;
+    // 1000009 * 1000003 + 4294967295 + 1 = 1004306967323, and 233 times
+    // 4294967291 is 1000727378803: 3579588520 is left.
+    assert_eq!(of_list(&[]), 0);
+    assert_eq!(of_list(&[0]), 1);
+    assert_eq!(of_list(&[0, 5]), 1_000_009);
+    assert_eq!(of_list(&[0, 5, u32::MAX]), 3_579_588_520);
+}
+
+#[test]
+fn a_long_number_is_fed_high_half_first() {
+    let mut digest = Digest::default();
+    digest.add_u64((7 << 32) + 9);
+    assert_eq!(digest.value(), of_list(&[7, 9]));
+}
+
+#[test]
+fn road_and_state_are_fed_in_order() {
+    let reading = read(&record_of(EXAMPLE));
+    let mut state = reading.state;
+    (state.steps, state.total, state.gate_f) = (3, (2 << 32) + 1, 77);
+    (state.f[0], state.held[63]) = (88, 99);
+    let mut numbers = vec![2, 2000];
+    numbers.extend([500, 250, 750, 0, 8000, 2000]);
+    numbers.extend([500, 250, 0, 1, 8000, 1000]);
+    numbers.extend([0; 62 * 6]);
+    numbers.extend([3, 2, 1, 3000, 77]);
+    numbers.extend([2000, 0, 88, 4000, 1500, 0]);
+    numbers.extend([0; 61 * 3]);
+    numbers.extend([99, 0, 0]);
+    assert_eq!(of_road_and_state(&reading.road, &state), of_list(&numbers));
+}
+
+#[test]
+fn small_frames_byte_by_byte() {
+    let [read, run, judge, step] = small_cases().map(|case| encoded(&case));
+    assert_eq!(read, [b'R', 0, 0, 0, 2, 0xAA, 0xBB]);
+    assert_eq!(run, [b'U', 0, 0, 0, 9, 0, 0, 0, 2, 0xAA, 0xBB]);
+    let numbers = [0, 0, 0, 2, 0, 0, 0, 5, 255, 255, 255, 255];
+    assert_eq!(judge, [&b"J"[..], &numbers, &[0, 0, 0, 1, 0xAA]].concat());
+    // 1, n and capacity 8, 64 * 8, 64 * 8, 20, 64 * 12, then the row.
+    assert_eq!(step.len(), 1 + 8 + 512 + 512 + 20 + 768 + 4 + 12);
+    assert_eq!(step[..9], [b'S', 0, 0, 0, 2, 0, 0, 0x07, 0xD0]);
+    // v 500, w 250, b 750, no ramp; then cell 2.
+    assert_eq!(step[9..19], [1, 0xF4, 0, 250, 2, 0xEE, 0, 0, 1, 0xF4]);
+    // J 8000, C 2000; steps 0; total 0, gate queue 3000, gate F 0.
+    assert_eq!(step[521..529], [0, 0, 0x1F, 0x40, 0, 0, 0x07, 0xD0]);
+    assert_eq!(step[1033..1045], [0; 12]);
+    assert_eq!(step[1045..1053], [0, 0, 0x0B, 0xB8, 0, 0, 0, 0]);
+    // Held 2000, queue 0, F 0; held 4000, queue 1500.
+    assert_eq!(step[1053..1061], [0, 0, 0x07, 0xD0, 0, 0, 0, 0]);
+    assert_eq!(step[1065..1073], [0, 0, 0x0F, 0xA0, 0, 0, 0x05, 0xDC]);
+    assert_eq!(
+        step[1821..],
+        [0, 0, 0, 3, 0, 0, 0, 1, 0, 0, 0, 2, 0, 0, 0, 3]
+    );
+}
+
+#[test]
+fn truncated_input_is_rejected() {
+    for case in small_cases() {
+        let bytes = encoded(&case);
+        assert_eq!(decode(&bytes), Ok(vec![case]));
+        for length in 1..bytes.len() {
+            let error = decode(&bytes[..length]).unwrap_err();
+            let start = "frame 0 at byte 0: the input ends in the ";
+            assert!(error.starts_with(start), "{length}: {error}");
+        }
+    }
+    let two = [
+        encoded(&small_cases()[0]),
+        encoded(&small_cases()[1])[..10].to_vec(),
+    ];
+    assert_eq!(
+        decode(&two.concat()).unwrap_err(),
+        "frame 1 at byte 7: the input ends in the record: 2 bytes wanted, 1 left"
+    );
+    assert!(output(&two.concat()).is_err());
+    assert_eq!(output(&[]), Ok("cases 0 complete 0\n".to_string()));
+}
+
+#[test]
+fn frames_beyond_their_limits_are_rejected() {
+    let error = |bytes: &[u8]| decode(bytes).unwrap_err();
+    assert_eq!(
+        error(b"X"),
+        "frame 0 at byte 0: 88 is not a kind of frame".to_string()
+    );
+    // 65,541 bytes; lists of 9,001 numbers; a row of 201.
+    assert!(error(&[b'R', 0, 1, 0, 5]).ends_with("the record: 65541 is more than 65540"));
+    assert!(error(&[b'U', 0, 0, 0x23, 0x29]).ends_with("9001 is more than 9000"));
+    assert!(error(&[b'J', 0, 0, 0x23, 0x29]).ends_with("9001 is more than 9000"));
+    let mut step = encoded(&small_cases()[3]);
+    step[1824] = 201;
+    assert!(error(&step).ends_with("the row: 201 is more than 200"));
+}
+
+#[test]
+fn every_case_comes_back_from_its_frame() {
+    let (cases, _) = made();
+    let bytes: Vec<u8> = cases.iter().flat_map(encoded).collect();
+    assert_eq!(&decode(&bytes).unwrap(), cases);
+    // The same each time, and below 5 MB.
+    assert!(bytes == input());
+    assert!(bytes.len() < 5_000_000, "{}", bytes.len());
+}
+
+#[test]
+fn the_first_lines_are_those_of_the_printed_run() {
+    let (_, lines) = made();
+    // Present 1890 + 3309 + 4000 + 2100. The gate and cell 1 are held in all
+    // three steps; 900 is released.
+    let start = "run 0 0 0 total 33098 exits 3701 present 11299 digest ";
+    assert!(lines[0].starts_with("read 0 0 steps 3 digest "));
+    assert!(lines[1].starts_with(start));
+    assert!(lines[1].ends_with(" ramps 1 released 900 held 6"));
+    assert!(lines[2].starts_with("run 11 0 0 total 0 exits 0 present 0 digest "));
+    assert!(lines[2].ends_with(" ramps 0 released 0 held 0"));
+    // An empty list has digest 0.
+    assert_eq!(after(&lines[3], "list"), 0);
+    assert!(lines[4].starts_with(start));
+    assert_eq!(&lines[5][5..60], &lines[1][3..58]);
+    assert!(lines[6].starts_with("judge 14 1 1 "));
+    assert!(lines[7].starts_with("judge 0 0 0 total 40500 exits 0 present 15000 digest "));
+    assert!(lines[8].starts_with("judge 12 0 0 total 0 "));
+    assert!(lines[9].starts_with("judge 12 0 0 total 0 "));
+}
+
+#[test]
+fn a_lent_list_is_as_agreed() {
+    assert_eq!(lent(4), [3, 10, 17, 24]);
+    let mut table = lent(12);
+    run(&record_of(EXAMPLE), &mut table);
+    assert_eq!(table[9..], [66, 73, 80]);
+    let (_, lines) = made();
+    assert_eq!(after(&lines[4], "list"), of_list(&table));
+}
+
+#[test]
+fn the_last_line_counts() {
+    let (cases, lines) = made();
+    let complete = lines.iter().filter(|line| is_complete(line)).count();
+    let out = output(&input()).unwrap();
+    assert_eq!(out.lines().count(), cases.len() + 1);
+    let last = format!("cases {} complete {complete}\n", cases.len());
+    assert!(out.ends_with(&last));
+    assert!(complete >= 250);
+}
+
+#[test]
+fn there_are_enough_cases_of_each_kind() {
+    let (cases, lines) = made();
+    let roads = roads_start(cases);
+    let count = |from: usize, word: &str| {
+        let lines = lines[from..].iter();
+        lines.filter(|line| line.starts_with(word)).count()
+    };
+    assert!(count(0, "read ") >= 400);
+    assert!(count(0, "step ") >= 400);
+    assert!(count(roads, "run ") >= 400);
+    assert!(count(roads, "judge ") >= 120);
+    assert!(count(0, "step 0 ") >= 200);
+    // On the random roads alone.
+    let complete = lines[roads..].iter().filter(|line| is_complete(line));
+    assert!(complete.count() >= 250);
+    assert!(count(roads, "run 9 ") >= 10 && count(roads, "run 10 ") >= 10);
+    assert!(count(roads, "run 11 ") >= 10);
+    assert!(count(roads, "judge 0 ") >= 60);
+    assert!(count(roads, "judge 13 ") >= 30 && count(roads, "judge 14 ") >= 30);
+}
+
+#[test]
+fn every_refusal_of_every_operation_occurs() {
+    let (_, lines) = made();
+    let found = |word: &str| -> BTreeSet<u64> {
+        let lines = lines.iter().filter(|line| line.starts_with(word));
+        lines.map(|line| number(line)).collect()
+    };
+    assert_eq!(found("read "), (0..=6).collect());
+    let run = (0..=6).chain(9..=11).collect();
+    assert_eq!(found("run "), run);
+    let judge = (0..=6).chain([9, 10, 12, 13, 14]).collect();
+    assert_eq!(found("judge "), judge);
+    assert_eq!(found("step "), [0, 7, 8, 9, 10].into());
+}
+
+#[test]
+fn random_roads_have_every_n_and_the_longest_table() {
+    let (cases, lines) = made();
+    let mut complete = BTreeSet::new();
+    let mut longest = 0;
+    for (case, line) in cases.iter().zip(lines).skip(roads_start(cases)) {
+        let Case::Run { length, record } = case else {
+            continue;
+        };
+        let (n, steps) = (record[5], [record[6], record[7]]);
+        if is_complete(line) {
+            complete.insert(n);
+            let wanted = (6, 1_257_u16.to_be_bytes(), 8_799);
+            longest += usize::from((n, steps, *length) == wanted);
+        }
+    }
+    assert_eq!(complete, (1..=64).collect());
+    assert_eq!(longest, 1);
+}
+
+#[test]
+fn the_run_s_own_rows_are_accepted_with_its_state() {
+    let (cases, lines) = made();
+    let mut own = 0;
+    for (case, judged) in cases.iter().zip(lines) {
+        let Case::Judge { schedule, record } = case else {
+            continue;
+        };
+        let (answer, list) = run_whole(record);
+        if answer.number == 0 && list == *schedule {
+            let run = line(&Case::Run {
+                length: list.len(),
+                record: record.clone(),
+            });
+            let words = judged.strip_prefix("judge ").unwrap();
+            assert!(run.text.starts_with(&format!("run {words} list ")));
+            own += 1;
+        }
+    }
+    assert!(own >= 100);
+}
+
+#[test]
+fn no_exits_depend_on_a_share_that_is_too_great() {
+    for case in &made().0 {
+        let Case::Step(input) = case else { continue };
+        let (road, state) = (&input.road, &input.state);
+        for cell in 1..=road.n.min(Road::MAX_CELLS) {
+            let f = state.cumulative(cell);
+            assert!(onward_total(road.share(cell), f) <= f);
+        }
+    }
+}
+
+#[test]
+fn the_run_s_own_rows_as_text() {
+    let text = printed_schedule(&record_of(EXAMPLE)).unwrap();
+    assert_eq!(text, "1500 934 1000\n1358 933 1000\n1252 934 1000\n");
+    let list = run_text(EXAMPLE).1;
+    assert_eq!(schedule_of(&text), Ok(list));
+    let mut draft = example_draft();
+    draft.rows[1][4] = 1_001;
+    let refused = printed_schedule(&draft.encode());
+    assert_eq!(refused, Err("refused 10 1 2\n".to_string()));
+}
