@@ -6,9 +6,8 @@ use road::State;
 ghost use mathlib.Core.Path.{_≡_};
 ghost use Prim.Native.Nat.{_+_, _*_};
 ghost use lib.ListN.{length};
-ghost use Rattle.road.specs.Refusals.{refusalNumber};
 ghost use Rattle.fields.specs.Fields.{recordRow};
-ghost use Rattle.course.specs.Course.{scheduledAt, judgeSays, endOf, noState, judgingOf};
+ghost use Rattle.course.specs.Course.{scheduledAt, judgeSays, endOf, judgingOf};
 ghost use Rattle.course.specs.Answers.{answered};
 ghost use Rattle.course.specs.Readable.{Readable};
 
@@ -51,19 +50,6 @@ fn judge_rows(bytes: &[u8], r: Road, s: State, steps: usize, schedule: &[u32]) -
     }
 }
 
-// A refusal that names no state gives an all-zero road and state.
-fn refused(refusal: Refusal, place: usize) -> Ended
-    ensures { λ e. ⌜ answered e ≡ noState (refusalNumber refusal) place ⌝ }
-{
-    Ended {
-        refusal: refusal,
-        step: 0,
-        place: place,
-        road: Road::empty(),
-        state: State::empty(),
-    }
-}
-
 // Judges a proposed schedule: 1 to 6 as in reading, 12, then 9 or 10 and 13 or 14 step by step.
 pub fn judge(bytes: &[u8], schedule: &[u32]) -> Ended
     ensures { λ e. ⌜ answered e ≡ judgingOf (now (bytes .entry)) (now (schedule .entry)) ⌝ }
@@ -71,12 +57,12 @@ pub fn judge(bytes: &[u8], schedule: &[u32]) -> Ended
     let a = record::read(bytes);
     let refusal = a.refusal;
     if refusal.number() != 0 {
-        return refused(refusal, a.place);
+        return Ended::without_state(refusal, a.place);
     }
     let road = a.road;
     let state = a.state;
     if schedule.len() != a.steps * (road.n + 1) {
-        return refused(Refusal::ScheduleLength, 0);
+        return Ended::without_state(Refusal::ScheduleLength, 0);
     }
     judge_rows(bytes, road, state, a.steps, schedule)
 }

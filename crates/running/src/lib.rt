@@ -9,11 +9,10 @@ ghost use lib.ListN.{length};
 ghost use Rattle.model.specs.Runs.{engineAfter};
 ghost use Rattle.fields.specs.Fields.{recordRow};
 ghost use Rattle.record.specs.Reading.{readingOf};
-ghost use Rattle.course.specs.Course.{runSays, firstFault, endOf, noState, tableOf, runningOf, writtenOf};
+ghost use Rattle.course.specs.Course.{runSays, firstFault, endOf, tableOf, runningOf, writtenOf};
 ghost use Rattle.course.specs.Answers.{answered};
 ghost use Rattle.course.specs.Readable.{Readable};
 ghost use Rattle.course.specs.Demand.{Demand};
-ghost use Rattle.road.specs.Refusals.{refusalNumber};
 
 // Writes the rows of the steps before the first fault, 9 or 10.
 fn run_rows(bytes: &[u8], r: Road, s: State, steps: usize, out: &mut [u32]) -> Ended
@@ -54,19 +53,6 @@ fn run_rows(bytes: &[u8], r: Road, s: State, steps: usize, out: &mut [u32]) -> E
     }
 }
 
-// A refusal that names no state gives an all-zero road and state.
-fn refused(refusal: Refusal, place: usize) -> Ended
-    ensures { λ e. ⌜ answered e ≡ noState (refusalNumber refusal) place ⌝ }
-{
-    Ended {
-        refusal: refusal,
-        step: 0,
-        place: place,
-        road: Road::empty(),
-        state: State::empty(),
-    }
-}
-
 // Runs a record: 1 to 6 as in reading, 11, then 9 or 10 with its step and cell.
 pub fn run(bytes: &[u8], out: &mut [u32]) -> Ended
     ensures answer { λ e. ⌜ answered e ≡ runningOf (now (bytes .entry)) (now (out .entry)) ⌝ }
@@ -76,13 +62,13 @@ pub fn run(bytes: &[u8], out: &mut [u32]) -> Ended
     let a = record::read(bytes);
     let refusal = a.refusal;
     if refusal.number() != 0 {
-        return refused(refusal, a.place);
+        return Ended::without_state(refusal, a.place);
     }
     let road = a.road;
     let state = a.state;
     let steps = a.steps;
     if out.len() < steps * (road.n + 1) {
-        return refused(Refusal::ListLength, 0);
+        return Ended::without_state(Refusal::ListLength, 0);
     }
     run_rows(bytes, road, state, steps, out)
 }

@@ -1,5 +1,6 @@
 -- `judging::judge` meets its contract. Each return, by the tests on the way to it. Assumes nothing.
-use mathlib.Core.Path.{_≡_}
+use Rattle.course.specs.Answers as ends
+use mathlib.Core.Path.{_≡_, ap}
 use Rattle.road.specs.Refusals.{refusalNumber}
 use Rattle.course.specs.Readable.{Readable, readable}
 use Rattle.judging.specs.Ends.{ends-unread, ends-length, ends-rows}
@@ -23,13 +24,13 @@ read-requires c κs = search needs
 number-requires : tie.Need-number-requires
 number-requires c κs = search needs
 
-refused-requires : tie.Need-refused-requires
-refused-requires c κs = search needs
+without-state-requires : tie.Need-without-state-requires
+without-state-requires c κs = search needs
 
 returns : tie.Need-returns
 returns c =
     let a = c .before .before .before .before .before .before .args in
-    ends-unread (a .bytes .now) (a .schedule .now) (c .before .before .before .read .ensures) (search needs) (c .refused .ensures)
+    ends-unread (a .bytes .now) (a .schedule .now) (c .before .before .before .read .ensures) (search needs) (ap ends.answered (c .without-state .ensures))
 
 add-if2 : tie.Need-add-if2
 add-if2 c = omega (arith, held (c .before .before .before) .course .road .cells)
@@ -37,13 +38,13 @@ add-if2 c = omega (arith, held (c .before .before .before) .course .road .cells)
 mul-if2 : tie.Need-mul-if2
 mul-if2 c = omega (arith, held (c .before .before .before .before) .outflows)
 
-refused-requires-2 : tie.Need-refused-requires-2
-refused-requires-2 c κs = search needs
+without-state-requires-2 : tie.Need-without-state-requires-2
+without-state-requires-2 c κs = search needs
 
 returns-2 : tie.Need-returns-2
 returns-2 c =
     let a = c .before .before .before .before .before .before .before .before .before .before .before .args in
-    ends-length (a .bytes .now) (a .schedule .now) (c .before .before .before .before .before .before .before .before .read .ensures) (read-well (c .before .before .before .before .before .before)) (search needs) (c .refused2 .ensures)
+    ends-length (a .bytes .now) (a .schedule .now) (c .before .before .before .before .before .before .before .before .read .ensures) (read-well (c .before .before .before .before .before .before)) (search needs) (ap ends.answered (c .without-state2 .ensures))
 
 judge-rows-requires : tie.Need-judge-rows-requires
 judge-rows-requires c κs = (held (c .before .before .before .before .before), search needs)
@@ -59,11 +60,11 @@ judge-spec =
     (tie.spec
     read-requires
     number-requires
-    refused-requires
+    without-state-requires
     returns
     add-if2
     mul-if2
-    refused-requires-2
+    without-state-requires-2
     returns-2
     judge-rows-requires
     returns-3)

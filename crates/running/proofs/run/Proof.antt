@@ -1,5 +1,6 @@
 -- `running::run` meets its contract. Assumes nothing.
-use mathlib.Core.Path.{sym, _∙_}
+use Rattle.course.specs.Answers as ends
+use mathlib.Core.Path.{sym, _∙_, ap}
 use Rattle.record.specs.Reading.{answered}
 use Rattle.course.specs.Readable.{readable}
 use Rattle.running.specs.Promise.{refused-promise, short-promise, long-promise, size}
@@ -14,11 +15,11 @@ read-requires c κs = search needs
 number-requires : tie.Need-number-requires
 number-requires c κs = search needs
 
-refused-requires : tie.Need-refused-requires
-refused-requires c κs = search needs
+without-state-requires : tie.Need-without-state-requires
+without-state-requires c κs = search needs
 
 returns : tie.Need-returns
-returns c = refused-promise (c .before .before .before .before .before .before .args .bytes .now) (c .before .before .before .before .before .before .args .out .now) (answered (c .before .before .before .read .result)) (c .before .before .before .read .ensures) (λ z. c .before .if1 .taken (c .before .before .number .ensures ∙ z)) _ (c .refused .ensures)
+returns c = refused-promise (c .before .before .before .before .before .before .args .bytes .now) (c .before .before .before .before .before .before .args .out .now) (answered (c .before .before .before .read .result)) (c .before .before .before .read .ensures) (λ z. c .before .if1 .taken (c .before .before .number .ensures ∙ z)) _ (ap ends.answered (c .without-state .ensures))
 
 add-if2 : tie.Need-add-if2
 add-if2 c = let z = size (c .before .before .before .before .before .before .before .before .args .bytes .now) (c .before .before .before .before .before .before .before .before .args .out .now) (answered (c .before .before .before .before .before .read .result)) (c .before .before .before .before .before .read .ensures) (sym (c .before .before .before .before .number .ensures) ∙ c .before .before .before .if1 .left) in omega (arith, z .cells)
@@ -26,11 +27,11 @@ add-if2 c = let z = size (c .before .before .before .before .before .before .bef
 mul-if2 : tie.Need-mul-if2
 mul-if2 c = let z = size (c .before .before .before .before .before .before .before .before .args .bytes .now) (c .before .before .before .before .before .before .before .before .args .out .now) (answered (c .before .before .before .before .before .read .result)) (c .before .before .before .before .before .read .ensures) (sym (c .before .before .before .before .number .ensures) ∙ c .before .before .before .if1 .left) in omega (arith, z .table)
 
-refused-requires-2 : tie.Need-refused-requires-2
-refused-requires-2 c κs = search needs
+without-state-requires-2 : tie.Need-without-state-requires-2
+without-state-requires-2 c κs = search needs
 
 returns-2 : tie.Need-returns-2
-returns-2 c = short-promise (c .before .before .before .before .before .before .before .before .before .before .args .bytes .now) (c .before .before .before .before .before .before .before .before .before .before .args .out .now) (answered (c .before .before .before .before .before .before .before .read .result)) (c .before .before .before .before .before .before .before .read .ensures) (sym (c .before .before .before .before .before .before .number .ensures) ∙ c .before .before .before .before .before .if1 .left) (omega arith) _ (c .refused2 .ensures)
+returns-2 c = short-promise (c .before .before .before .before .before .before .before .before .before .before .args .bytes .now) (c .before .before .before .before .before .before .before .before .before .before .args .out .now) (answered (c .before .before .before .before .before .before .before .read .result)) (c .before .before .before .before .before .before .before .read .ensures) (sym (c .before .before .before .before .before .before .number .ensures) ∙ c .before .before .before .before .before .if1 .left) (omega arith) _ (ap ends.answered (c .without-state2 .ensures))
 
 run-rows-requires : tie.Need-run-rows-requires
 run-rows-requires c κs = (readable (c .before .before .before .before .before .before .before .before .before .before .args .bytes .now) (answered (c .before .before .before .before .before .before .before .read .result)) (c .before .before .before .before .before .before .before .read .ensures) (sym (c .before .before .before .before .before .before .number .ensures) ∙ c .before .before .before .before .before .if1 .left), omega arith)
@@ -47,11 +48,11 @@ run-spec =
     (tie.spec
     read-requires
     number-requires
-    refused-requires
+    without-state-requires
     returns
     add-if2
     mul-if2
-    refused-requires-2
+    without-state-requires-2
     returns-2
     run-rows-requires
     same-length

@@ -1,0 +1,76 @@
+-- Document 01, 'A run printed whole': the listing's lines, as bytes. Assumes nothing.
+use mathlib.Core.Bool.{cond}
+use mathlib.Core.List.{List, [], _∷_, _++_}
+use Prim.Native.Nat.{ℕ, zero, suc, _+_, _/_, _%_}
+use lib.Dec.{ltb}
+use Rattle.road.specs.declared.State.{State}
+use Rattle.road.specs.Road.{at}
+
+abbrev pub blank : ℕ
+blank = 32
+
+abbrev pub newline : ℕ
+newline = 10
+
+-- the digit of a number below 10
+abbrev pub digitOf : ℕ → ℕ
+digitOf d = 48 + d
+
+-- a number in decimal, its highest digit first: as many digits as it has, at most `most`
+unfoldable pub digitsOf : ℕ → ℕ → List ℕ
+digitsOf zero n = []
+digitsOf (suc most) n = cond (ltb n 10) (digitOf n ∷ []) (digitsOf most (n / 10) ++ (digitOf (n % 10) ∷ []))
+
+-- 20 digits hold every number of 64 bits
+abbrev pub decimalOf : ℕ → List ℕ
+decimalOf n = digitsOf 20 n
+
+-- a number and the byte after it
+abbrev pub wordOf : ℕ → ℕ → List ℕ
+wordOf n after = decimalOf n ++ (after ∷ [])
+
+-- how long a word may be, and a line: it has at most five words
+abbrev pub mostWord : ℕ
+mostWord = 21
+
+abbrev pub mostLine : ℕ
+mostLine = 105
+
+-- `step place outflow held queue`
+unfoldable pub headerLine : List ℕ
+headerLine =
+    115 ∷ 116 ∷ 101 ∷ 112 ∷ 32 ∷ 112 ∷ 108 ∷ 97 ∷ 99 ∷ 101 ∷ 32 ∷ 111 ∷ 117 ∷ 116 ∷ 102 ∷ 108 ∷ 111 ∷ 119 ∷ 32 ∷ 104 ∷ 101 ∷ 108 ∷ 100 ∷ 32 ∷ 113 ∷ 117 ∷ 101 ∷ 117 ∷ 101 ∷ 10 ∷ []
+
+-- one line a place, separated by blanks: step, place, outflow in the step, held after the step, ramp queue after it
+unfoldable pub lineOf : ℕ → ℕ → ℕ → ℕ → ℕ → List ℕ
+lineOf step place outflow held queue =
+    wordOf step blank ++ (wordOf place blank ++ (wordOf outflow blank ++ (wordOf held blank ++ wordOf queue newline)))
+
+-- the lines of a step's first cells, from its row of outflows and the state after it
+unfoldable pub cellLines : ℕ → List ℕ → State → ℕ → List ℕ
+cellLines step y s zero = []
+cellLines step y s (suc i) = cellLines step y s i ++ lineOf step (suc i) (at y (suc i)) (at (s .held) i) (at (s .queue) i)
+
+-- the lines of a step: the gate, whose held is its queue, and n cells
+abbrev pub linesOf : ℕ → List ℕ → State → ℕ → List ℕ
+linesOf step y s n = lineOf step 0 (at y 0) (s .«gate_queue») 0 ++ cellLines step y s n
+
+-- `total `
+abbrev pub totalWord : List ℕ
+totalWord = 116 ∷ 111 ∷ 116 ∷ 97 ∷ 108 ∷ 32 ∷ []
+
+-- `exits `
+abbrev pub exitsWord : List ℕ
+exitsWord = 101 ∷ 120 ∷ 105 ∷ 116 ∷ 115 ∷ 32 ∷ []
+
+-- `refused `
+abbrev pub refusedWord : List ℕ
+refusedWord = 114 ∷ 101 ∷ 102 ∷ 117 ∷ 115 ∷ 101 ∷ 100 ∷ 32 ∷ []
+
+-- the last line is `total`, the total time spent, `exits` and the exits
+unfoldable pub totalLine : ℕ → ℕ → List ℕ
+totalLine total exits = totalWord ++ (wordOf total blank ++ (exitsWord ++ wordOf exits newline))
+
+-- a refusal prints only `refused`, number, step, place
+unfoldable pub refusedLine : ℕ → ℕ → ℕ → List ℕ
+refusedLine number step place = refusedWord ++ (wordOf number blank ++ (wordOf step blank ++ wordOf place newline))

@@ -1,0 +1,201 @@
+-- Laws of the listing: how long its texts are, and that io's digits are its own. Assumes nothing.
+use mathlib.Core.Path.{_≡_, refl, sym, _∙_}
+use mathlib.Core.Bool.{Bool, true, false, cond}
+use mathlib.Core.List.{List, [], _∷_, _++_}
+use Prim.Native.Nat.{ℕ, zero, suc, _+_, _-_, _*_, _/_, _%_, _^_, _≤_, _<_}
+use native.Mathlib.Nat.{mod-eq-of-lt, mod-lt, pow-suc, one-le-pow, pow-le-pow-right}
+use native.Mathlib.Numerals.{add-one}
+use native.Mathlib.Omega.{arith}
+use lib.Dec.{leb, ltb}
+use lib.ListN.{length, length-append}
+use borrow.Author.Tests.{lt-ltb, le-ltb, leb-true, leb-false}
+use Rattle.io.specs.Digits.{digits, Fewest}
+use Rattle.road.specs.declared.State.{State}
+use Rattle.road.specs.Road.{at}
+use Rattle.listing.specs.Placed.{Puts, placed-none, puts-more, Room, room}
+use Rattle.listing.specs.Listing.{blank, newline, mostWord, mostLine, digitsOf, decimalOf, wordOf, headerLine, lineOf, cellLines, linesOf, totalWord, exitsWord, refusedWord, totalLine, refusedLine}
+
+one-or-more : (b : Bool) (x y : ℕ) (front : List ℕ) (most : ℕ) → length front ≤ most → length (cond b (x ∷ []) (front ++ (y ∷ []))) ≤ suc most
+one-or-more true x y front most h = omega arith
+one-or-more false x y front most h = omega (arith, length-append front (y ∷ []))
+
+pub digits-length : (most n : ℕ) → length (digitsOf most n) ≤ most
+unfolding digitsOf
+digits-length zero n = omega arith
+digits-length (suc most) n = one-or-more (ltb n 10) _ _ (digitsOf most (n / 10)) most (digits-length most (n / 10))
+
+pub word-length : (n after : ℕ) → length (wordOf n after) ≤ mostWord
+word-length n after = omega (arith, length-append (decimalOf n) (after ∷ []), digits-length 20 n)
+
+-- io's digits of a number, as many as it has
+pub decimal-digits : (most k n : ℕ) → Fewest 10 1 n k → k ≤ most → digits 10 k n ≡ digitsOf most n
+unfolding digitsOf
+decimal-digits zero k n f l = absurd (omega (arith, f .0))
+decimal-digits (suc most) zero n f l = absurd (omega (arith, f .0))
+decimal-digits (suc most) (suc zero) n f l =
+    let h : n < 10 = omega (arith, f .1) in
+    simp (mod-eq-of-lt h, lt-ltb n 10 h)
+decimal-digits (suc most) (suc (suc k)) n f l =
+    let p : 10 ^ suc k ≡ 10 ^ k * 10 = pow-suc 10 k in
+    let q : 10 ^ suc (suc k) ≡ 10 ^ suc k * 10 = pow-suc 10 (suc k) in
+    let e : suc (suc k) - 1 ≡ suc k = omega arith in
+    let d : suc k - 1 ≡ k = omega arith in
+    let h : 10 ^ suc k ≤ n = rw e at (f .2 (omega arith)) in
+    let g : 0 < 10 ^ k = one-le-pow k 10 (omega arith) in
+    let i : digits 10 (suc k) (n / 10) ≡ digitsOf most (n / 10) =
+    decimal-digits most (suc k) (n / 10) (omega arith, omega (arith, f .1), λ _. rw d (omega arith)) (omega arith) in
+    let m : n % 10 < 10 = mod-lt n (omega arith) in
+    rw (le-ltb n 10 (omega arith), i, lt-ltb (n % 10) 10 m)
+
+pub decimal-most : (n k : ℕ) → n < 2 ^ 64 → Fewest 10 1 n k → k ≤ 20
+decimal-most n k h f = go (leb k 20) refl
+  where
+    go : (b : Bool) → leb k 20 ≡ b → k ≤ 20
+    go true e = leb-true k 20 e
+    go false e =
+        let l : 20 < k = leb-false k 20 e in
+        let p : 10 ^ 20 ≤ 10 ^ (k - 1) = pow-le-pow-right {n = 10} (omega arith) {i = 20} {j = k - 1} (omega arith) in
+        absurd (omega (arith, f .2 (omega arith)))
+
+-- a number's digits and the byte after it, each put
+pub word-put : (a : List ℕ) (start n after k : ℕ) (text b : List ℕ) (m : ℕ) (c : List ℕ) (e : ℕ) → Fewest 10 1 n k → k ≤ 20 → text ≡ digits 10 k n
+    → Puts a start text b m → Puts b m (after ∷ []) c e → Puts a start (wordOf n after) c e
+word-put a start n after k text b m c e f l et p q =
+    rw (et ∙ decimal-digits 20 k n f l) at (puts-more a start text b m (after ∷ []) c e p q)
+
+-- what a word, and a line, leave of the room
+pub word-room : (a : List ℕ) (start n after : ℕ) (b : List ℕ) (m : ℕ) → Puts a start (wordOf n after) b m → Room a start b m mostWord
+word-room a start n after b m p = room a start (wordOf n after) b m mostWord p (word-length n after)
+
+line-length : (step place outflow held queue : ℕ) → length (lineOf step place outflow held queue) ≤ mostLine
+unfolding lineOf
+line-length step place outflow held queue =
+    let e = wordOf queue newline in
+    let d = wordOf held blank ++ wordOf queue newline in
+    let c = wordOf outflow blank ++ (wordOf held blank ++ wordOf queue newline) in
+    let b = wordOf place blank ++ (wordOf outflow blank ++ (wordOf held blank ++ wordOf queue newline)) in
+    omega (
+      arith,
+      length-append (wordOf step blank) b,
+      length-append (wordOf place blank) c,
+      length-append (wordOf outflow blank) d,
+      length-append (wordOf held blank) e,
+      word-length step blank,
+      word-length place blank,
+      word-length outflow blank,
+      word-length held blank,
+      word-length queue newline,
+    )
+
+pub line-room : (a : List ℕ) (start step place outflow held queue : ℕ) (b : List ℕ) (m : ℕ) → Puts a start (lineOf step place outflow held queue) b m
+    → Room a start b m mostLine
+line-room a start step place outflow held queue b m p =
+    room a start (lineOf step place outflow held queue) b m mostLine p (line-length step place outflow held queue)
+
+cells-length : (step : ℕ) (y : List ℕ) (s : State) (i : ℕ) → length (cellLines step y s i) ≤ mostLine * i
+unfolding cellLines
+cells-length step y s zero = omega arith
+cells-length step y s (suc i) =
+    let e = lineOf step (suc i) (at y (suc i)) (at (s .held) i) (at (s .queue) i) in
+    omega (
+      arith,
+      length-append (cellLines step y s i) e,
+      cells-length step y s i,
+      line-length step (suc i) (at y (suc i)) (at (s .held) i) (at (s .queue) i),
+    )
+
+pub lines-length : (step : ℕ) (y : List ℕ) (s : State) (n : ℕ) → length (linesOf step y s n) ≤ mostLine * (n + 1)
+lines-length step y s n =
+    let gate = lineOf step 0 (at y 0) (s .«gate_queue») 0 in
+    omega (
+      arith,
+      length-append gate (cellLines step y s n),
+      line-length step 0 (at y 0) (s .«gate_queue») 0,
+      cells-length step y s n,
+    )
+
+pub lines-room : (a : List ℕ) (start step : ℕ) (y : List ℕ) (s : State) (n : ℕ) (b : List ℕ) (m : ℕ) → Puts a start (linesOf step y s n) b m
+    → Room a start b m (mostLine * (n + 1))
+lines-room a start step y s n b m p = room a start (linesOf step y s n) b m (mostLine * (n + 1)) p (lines-length step y s n)
+
+pub header-room : (a : List ℕ) (start : ℕ) (b : List ℕ) (m : ℕ) → Puts a start headerLine b m → Room a start b m mostLine
+unfolding headerLine
+header-room a start b m p = room a start headerLine b m mostLine p (omega arith)
+
+pub total-room : (a : List ℕ) (start total exits : ℕ) (b : List ℕ) (m : ℕ) → Puts a start (totalLine total exits) b m → Room a start b m mostLine
+unfolding totalLine
+total-room a start total exits b m p =
+    let d = exitsWord ++ wordOf exits newline in
+    let c = wordOf total blank ++ (exitsWord ++ wordOf exits newline) in
+    room a start (totalLine total exits) b m mostLine p (omega (
+      arith,
+      length-append totalWord c,
+      length-append (wordOf total blank) d,
+      length-append exitsWord (wordOf exits newline),
+      word-length total blank,
+      word-length exits newline,
+    ))
+
+pub refused-room : (a : List ℕ) (start number step place : ℕ) (b : List ℕ) (m : ℕ) → Puts a start (refusedLine number step place) b m
+    → Room a start b m mostLine
+unfolding refusedLine
+refused-room a start number step place b m p =
+    let d = wordOf step blank ++ wordOf place newline in
+    let c = wordOf number blank ++ (wordOf step blank ++ wordOf place newline) in
+    room a start (refusedLine number step place) b m mostLine p (omega (
+      arith,
+      length-append refusedWord c,
+      length-append (wordOf number blank) d,
+      length-append (wordOf step blank) (wordOf place newline),
+      word-length number blank,
+      word-length step blank,
+      word-length place newline,
+    ))
+
+-- the words of a line, put one after the other
+module _ (a : List ℕ) (start : ℕ) (b : List ℕ) (p : ℕ) (c : List ℕ) (q : ℕ) (d : List ℕ) (u : ℕ) where
+  pub line-put : (step place outflow held queue : ℕ) (e : List ℕ) (v : ℕ) (f : List ℕ) (w : ℕ)
+      → Puts a start (wordOf step blank) b p → Puts b p (wordOf place blank) c q → Puts c q (wordOf outflow blank) d u
+      → Puts d u (wordOf held blank) e v → Puts e v (wordOf queue newline) f w
+      → Puts a start (lineOf step place outflow held queue) f w
+  unfolding lineOf
+  line-put step place outflow held queue e v f w h i j k l =
+      puts-more a start _ b p _ f w h (puts-more b p _ c q _ f w i (puts-more c q _ d u _ f w j (puts-more d u _ e v _ f w k l)))
+
+  pub total-put : (total exits : ℕ) (e : List ℕ) (v : ℕ)
+      → Puts a start totalWord b p → Puts b p (wordOf total blank) c q → Puts c q exitsWord d u → Puts d u (wordOf exits newline) e v
+      → Puts a start (totalLine total exits) e v
+  unfolding totalLine
+  total-put total exits e v h i j k = puts-more a start _ b p _ e v h (puts-more b p _ c q _ e v i (puts-more c q _ d u _ e v j k))
+
+  pub refused-put : (number step place : ℕ) (e : List ℕ) (v : ℕ)
+      → Puts a start refusedWord b p → Puts b p (wordOf number blank) c q → Puts c q (wordOf step blank) d u → Puts d u (wordOf place newline) e v
+      → Puts a start (refusedLine number step place) e v
+  unfolding refusedLine
+  refused-put number step place e v h i j k = puts-more a start _ b p _ e v h (puts-more b p _ c q _ e v i (puts-more c q _ d u _ e v j k))
+
+-- when the lines of i cells are put after those before
+pub record Listed (a : List ℕ) (start step n : ℕ) (y : List ℕ) (s : State) (b : List ℕ) (end i : ℕ) : Type 0 where
+  pub within : i ≤ n
+  pub puts : Puts a start (cellLines step y s i) b end
+  pub room : Room a start b end (mostLine * i)
+
+module _ (a : List ℕ) (start step n : ℕ) (y : List ℕ) (s : State) where
+  pub listed-none : Listed a start step n y s a start 0
+  unfolding cellLines
+  listed-none = record {
+    within = omega arith;
+    puts = (omega arith, sym (placed-none a start));
+    room = record { end = omega arith; same = refl };
+  }
+
+  pub listed-more : (b : List ℕ) (end i : ℕ) (c : List ℕ) (m : ℕ) → Listed a start step n y s b end i → i < n
+      → Puts b end (lineOf step (i + 1) (at y (i + 1)) (at (s .held) i) (at (s .queue) i)) c m → Listed a start step n y s c m (i + 1)
+  unfolding cellLines
+  listed-more b end i c m h l p =
+      let z = line-room b end _ _ _ _ _ c m p in
+      record {
+        within = omega arith;
+        puts = rw (add-one i) (puts-more a start (cellLines step y s i) b end _ c m (h .puts) (rw (add-one i) at p));
+        room = record { end = omega (arith, z .end, h .room .end); same = z .same ∙ h .room .same };
+      }

@@ -1,0 +1,110 @@
+// The lines of document 01's listing, put into a buffer: each contract gives the bytes.
+use road::State;
+ghost use mathlib.Core.Path.{_≡_};
+ghost use Prim.Native.Nat.{_+_, _*_, _≤_, _<_};
+ghost use lib.ListN.{length};
+ghost use Rattle.listing.specs.Listing.{mostWord, mostLine, wordOf, headerLine, lineOf, linesOf, totalLine, refusedLine};
+ghost use Rattle.listing.specs.Placed.{Puts};
+
+// Copies a text into the buffer from `at` on, and gives the index after it.
+fn put(buffer: &mut [u8], at: usize, text: &[u8]) -> usize
+    requires { ⌜ at + length (now text) ≤ length (now buffer) ⌝ }
+    ensures { λ r. ⌜ Puts (now (buffer .entry)) at (now (text .entry)) (now (buffer .exit)) r ⌝ }
+{
+    let mut i = 0;
+    while i < text.len() {
+        buffer[at + i] = text[i];
+        i += 1;
+    }
+    at + i
+}
+
+// A number in decimal and the byte after it.
+fn word(buffer: &mut [u8], at: usize, n: u64, after: u8) -> usize
+    requires { ⌜ at + mostWord ≤ length (now buffer) ⌝ }
+    ensures { λ r. ⌜ Puts (now (buffer .entry)) at (wordOf n after) (now (buffer .exit)) r ⌝ }
+{
+    let mut digits = [0u8; 20];
+    let k = io::decimal(n, &mut digits);
+    let end = put(buffer, at, &digits[..k]);
+    put(buffer, end, &[after])
+}
+
+// One place of a step.
+fn line(
+    buffer: &mut [u8],
+    at: usize,
+    step: usize,
+    place: usize,
+    outflow: u32,
+    held: u32,
+    queue: u32,
+) -> usize
+    requires { ⌜ at + mostLine ≤ length (now buffer) ⌝ }
+    ensures { λ r. ⌜ Puts (now (buffer .entry)) at (lineOf step place outflow held queue) (now (buffer .exit)) r ⌝ }
+{
+    let to_place = word(buffer, at, step as u64, b' ');
+    let to_outflow = word(buffer, to_place, place as u64, b' ');
+    let to_held = word(buffer, to_outflow, outflow as u64, b' ');
+    let to_queue = word(buffer, to_held, held as u64, b' ');
+    word(buffer, to_queue, queue as u64, b'\n')
+}
+
+// All places of a step: its row of outflows and the state after it.
+pub fn lines(
+    buffer: &mut [u8],
+    at: usize,
+    step: usize,
+    n: usize,
+    outflows: &[u32],
+    s: State,
+) -> usize
+    requires { ⌜ (n ≤ 64) × ((n < length (now outflows)) × (at + mostLine * (n + 1) ≤ length (now buffer))) ⌝ }
+    ensures { λ r. ⌜ Puts (now (buffer .entry)) at (linesOf step (now (outflows .entry)) s n) (now (buffer .exit)) r ⌝ }
+{
+    let mut end = line(buffer, at, step, 0, outflows[0], s.gate_queue, 0);
+    let mut i = 0;
+    while i < n {
+        end = line(
+            buffer,
+            end,
+            step,
+            i + 1,
+            outflows[i + 1],
+            s.held[i],
+            s.queue[i],
+        );
+        i += 1;
+    }
+    end
+}
+
+// The names of the columns.
+pub fn header(buffer: &mut [u8], at: usize) -> usize
+    requires { ⌜ at + mostLine ≤ length (now buffer) ⌝ }
+    ensures { λ r. ⌜ Puts (now (buffer .entry)) at headerLine (now (buffer .exit)) r ⌝ }
+{
+    put(buffer, at, b"step place outflow held queue\n")
+}
+
+// The last line.
+pub fn total(buffer: &mut [u8], at: usize, total: u64, exits: u64) -> usize
+    requires { ⌜ at + mostLine ≤ length (now buffer) ⌝ }
+    ensures { λ r. ⌜ Puts (now (buffer .entry)) at (totalLine total exits) (now (buffer .exit)) r ⌝ }
+{
+    let to_total = put(buffer, at, b"total ");
+    let to_exits = word(buffer, to_total, total, b' ');
+    let to_number = put(buffer, to_exits, b"exits ");
+    word(buffer, to_number, exits, b'\n')
+}
+
+// The only line of a refusal.
+pub fn refused(buffer: &mut [u8], at: usize, number: u8, step: usize, place: usize) -> usize
+    requires { ⌜ at + mostLine ≤ length (now buffer) ⌝ }
+    ensures { λ r. ⌜ Puts (now (buffer .entry)) at (refusedLine number step place) (now (buffer .exit)) r ⌝ }
+{
+    let to_number = put(buffer, at, b"refused ");
+    let to_step = word(buffer, to_number, number as u64, b' ');
+    let to_place = word(buffer, to_step, step as u64, b' ');
+    word(buffer, to_place, place as u64, b'\n')
+}
