@@ -10,4 +10,5 @@ pub mod DemandLaws
 pub mod Whole
 pub mod Accounts
 pub mod Judged
+pub mod Returned
 pub mod Printed

@@ -21,12 +21,13 @@ pub record Fault : Type 0 where
 abbrev pub fault : ℕ → ℕ → Fault
 fault number place = record { number = number; place = place }
 
--- the fault of the lowest of n cells or places that has one; `base` is the place of the first
+-- the lowest of n cells or places that has a fault, n where none has
+abbrev pub lowestAt : (ℕ → ℕ) → ℕ → ℕ
+lowestAt f n = firstOf (λ i. eqb (f i) 0) n
+
+-- its fault; `base` is the place of the first
 unfoldable pub lowestOf : (ℕ → ℕ) → ℕ → ℕ → Fault
-lowestOf f n base =
-    cond (eqb (firstOf (λ i. eqb (f i) 0) n) n)
-    (fault 0 0)
-    (fault (f (firstOf (λ i. eqb (f i) 0) n)) (firstOf (λ i. eqb (f i) 0) n + base))
+lowestOf f n base = cond (eqb (lowestAt f n) n) (fault 0 0) (fault (f (lowestAt f n)) (lowestAt f n + base))
 
 -- at one cell: 9, release above queue, before 10, release above supply
 abbrev pub releaseFault : ℕ → ℕ → ℕ → ℕ

@@ -10,26 +10,26 @@ use Rattle.road.specs.declared.Road.{Road}
 use Rattle.road.specs.declared.State.{State}
 use Rattle.road.specs.Road.{mostSteps}
 use Rattle.road.specs.Refusals.{unless}
-use Rattle.limits.specs.First.{firstOf, First, first, first-is, first-none}
+use Rattle.limits.specs.First.{first, first-is, first-none}
 use Rattle.limits.specs.Limits.{inputOk}
 use Rattle.model.specs.Places.{releaseAt, mostReleaseAt, supplyAt}
 use Rattle.model.specs.Move.{nextOf}
 use Rattle.model.specs.Rules.{Released, outflowsOf}
-use Rattle.model.specs.Step.{Fault, fault, lowestOf, releaseFault, releaseFaultAt, releasesOf, Answer, answer, steppingOf}
+use Rattle.model.specs.Step.{Fault, fault, lowestAt, lowestOf, releaseFault, releaseFaultAt, releasesOf, Answer, answer, steppingOf}
 
 -- the lowest fault
 module _ (f : ℕ → ℕ) (n base : ℕ) where
   pub lowest-none : ((i : ℕ) → i < n → f i ≡ 0) → lowestOf f n base ≡ fault 0 0
   unfolding lowestOf
   lowest-none h =
-      let e : firstOf (λ i. eqb (f i) 0) n ≡ n = first-none (λ i. eqb (f i) 0) n (λ i l. eq-eqb (f i) 0 (h i l)) in
-      rw (eq-eqb (firstOf (λ i. eqb (f i) 0) n) n e)
+      let e : lowestAt f n ≡ n = first-none (λ i. eqb (f i) 0) n (λ i l. eq-eqb (f i) 0 (h i l)) in
+      rw (eq-eqb (lowestAt f n) n e)
 
   -- the lowest with a fault has one, and none below it has
   pub lowest-at : (i m : ℕ) → i < n → ((j : ℕ) → j < i → f j ≡ 0) → f i ≡ m → (m ≡ 0 → ⊥) → lowestOf f n base ≡ fault m (i + base)
   unfolding lowestOf
   lowest-at i m l h e ne =
-      let q : firstOf (λ i. eqb (f i) 0) n ≡ i =
+      let q : lowestAt f n ≡ i =
       first-is (λ i. eqb (f i) 0) n i (record {
         within = omega arith;
         before = λ j k. eq-eqb (f j) 0 (h j k);
@@ -39,27 +39,27 @@ module _ (f : ℕ → ℕ) (n base : ℕ) where
 
   pub lowest-zero : lowestOf f n base .number ≡ 0 → (i : ℕ) → i < n → f i ≡ 0
   unfolding lowestOf
-  lowest-zero h = go (eqb (firstOf (λ i. eqb (f i) 0) n) n) refl h
+  lowest-zero h = go (eqb (lowestAt f n) n) refl h
     where
-      go : (b : Bool) → eqb (firstOf (λ i. eqb (f i) 0) n) n ≡ b
-          → cond b (fault 0 0) (fault (f (firstOf (λ i. eqb (f i) 0) n)) (firstOf (λ i. eqb (f i) 0) n + base)) .number ≡ 0
+      go : (b : Bool) → eqb (lowestAt f n) n ≡ b
+          → cond b (fault 0 0) (fault (f (lowestAt f n)) (lowestAt f n + base)) .number ≡ 0
           → (i : ℕ) → i < n → f i ≡ 0
       go true e z i l =
-          eqb-true (f i) 0 (first (λ i. eqb (f i) 0) n .before i (omega (arith, eqb-true (firstOf (λ i. eqb (f i) 0) n) n e)))
+          eqb-true (f i) 0 (first (λ i. eqb (f i) 0) n .before i (omega (arith, eqb-true (lowestAt f n) n e)))
       go false e z i l =
           let a = first (λ i. eqb (f i) 0) n in
-          absurd (eqb-false (f (firstOf (λ i. eqb (f i) 0) n)) 0
-          (a .stops (omega (arith, a .within, eqb-false (firstOf (λ i. eqb (f i) 0) n) n e))) z)
+          absurd (eqb-false (f (lowestAt f n)) 0
+          (a .stops (omega (arith, a .within, eqb-false (lowestAt f n) n e))) z)
 
   -- and its number is one of theirs
   pub lowest-most : (b : ℕ) → ((i : ℕ) → f i ≤ b) → lowestOf f n base .number ≤ b
   unfolding lowestOf
-  lowest-most b h = go (eqb (firstOf (λ i. eqb (f i) 0) n) n)
+  lowest-most b h = go (eqb (lowestAt f n) n)
     where
       go : (t : Bool)
-          → cond t (fault 0 0) (fault (f (firstOf (λ i. eqb (f i) 0) n)) (firstOf (λ i. eqb (f i) 0) n + base)) .number ≤ b
+          → cond t (fault 0 0) (fault (f (lowestAt f n)) (lowestAt f n + base)) .number ≤ b
       go true = omega arith
-      go false = h (firstOf (λ i. eqb (f i) 0) n)
+      go false = h (lowestAt f n)
 
 -- two tests, one before the other
 pub two-zero : (a b c d m k : ℕ) → (m ≡ 0 → ⊥) → (k ≡ 0 → ⊥) → unless (leb a b) m (unless (leb c d) k 0) ≡ 0 → (a ≤ b) × (c ≤ d)
