@@ -1,6 +1,8 @@
 //! A record still in values, and its bytes. Nothing is checked, so that
 //! damaged records can be made too.
 
+use crate::record::{u16_at, u32_at};
+
 /// One cell's 24 bytes.
 #[derive(Clone, Copy, Debug, Default, PartialEq, Eq)]
 pub struct CellDraft {
@@ -75,6 +77,20 @@ impl Draft {
 }
 
 impl CellDraft {
+    /// A cell's 24 bytes in values.
+    pub fn decode(bytes: &[u8]) -> CellDraft {
+        CellDraft {
+            v: u16_at(bytes, 0),
+            w: u16_at(bytes, 2),
+            b: u16_at(bytes, 4),
+            ramp: u16_at(bytes, 6),
+            jam: u32_at(bytes, 8),
+            capacity: u32_at(bytes, 12),
+            held: u32_at(bytes, 16),
+            queue: u32_at(bytes, 20),
+        }
+    }
+
     fn encode(&self, bytes: &mut Vec<u8>) {
         for number in [self.v, self.w, self.b, self.ramp] {
             bytes.extend(number.to_be_bytes());

@@ -5,6 +5,8 @@
 #![forbid(unsafe_code)]
 
 pub mod answer;
+pub mod as_text;
+pub mod compare;
 pub mod draft;
 pub mod judge;
 pub mod limits;

@@ -51,6 +51,15 @@ pub fn printed_schedule(record: &[u8]) -> Result<String, String> {
     Ok(out)
 }
 
+/// What is printed of a judged schedule: its sums, or the refusal line.
+pub fn judgement_line(answer: &Answer) -> String {
+    if answer.number != 0 {
+        return refusal_line(answer);
+    }
+    let exits = model::exits(&answer.road, &answer.state);
+    format!("accepted total {} exits {exits}\n", answer.state.total)
+}
+
 /// `refused`, number, step and place.
 pub fn refusal_line(answer: &Answer) -> String {
     format!(

@@ -3,8 +3,9 @@
 use crate::limits;
 use crate::model::{Road, State};
 
-const HEAD_BYTES: usize = 16;
-const CELL_BYTES: usize = 24;
+/// Bytes before the first cell, and of a cell.
+pub const HEAD_BYTES: usize = 16;
+pub const CELL_BYTES: usize = 24;
 
 /// What reading gives. After a refusal road and state are all zero and T is 0.
 #[derive(Clone, Copy, Debug, PartialEq, Eq)]
@@ -119,18 +120,22 @@ fn road_and_state(record: &[u8], n: usize) -> (Road, State) {
     (road, state)
 }
 
-fn cells_of(record: &[u8]) -> usize {
+/// n as the record names it.
+pub fn cells_of(record: &[u8]) -> usize {
     usize::from(record[5])
 }
 
-fn steps_of(record: &[u8]) -> usize {
+/// T as the record names it.
+pub fn steps_of(record: &[u8]) -> usize {
     usize::from(u16_at(record, 6))
 }
 
-fn u16_at(record: &[u8], at: usize) -> u16 {
+/// The two bytes from here as a number.
+pub fn u16_at(record: &[u8], at: usize) -> u16 {
     u16::from_be_bytes([record[at], record[at + 1]])
 }
 
-fn u32_at(record: &[u8], at: usize) -> u32 {
+/// The four bytes from here as a number.
+pub fn u32_at(record: &[u8], at: usize) -> u32 {
     u32::from_be_bytes([record[at], record[at + 1], record[at + 2], record[at + 3]])
 }

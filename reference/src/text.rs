@@ -7,7 +7,8 @@
 //! gate capacity N [queue N]
 //! [repeat K] cell v N w N b N jam N capacity N [ramp N] [held N] [queue N]
 //! [repeat K] row [gate N] {ramp CELL [arrivals N] [release N]}
-//! [repeat K] row N N N ...                   all numbers in the record's order
+//! [repeat K] row N N N ...                   all 1 + 2n numbers in the record's order
+//! [repeat K] unchecked row ...               as either row, taken as it is
 //! damage length|version|cells|steps N        another number in that field
 //! damage cut|extra N                         drop or add N bytes at the end
 //! damage byte AT N                           another byte, done last
@@ -15,6 +16,9 @@
 //!
 //! Cells stand from upstream and before the rows. What isn't named is 0. A
 //! number beyond the road's limits is kept as it is if its field can hold it.
+//! A row of numbers has all 1 + 2n of them, and a row names nothing but 0 for a
+//! cell without a ramp. An `unchecked row` may break both, to make a record that
+//! is refused. `as_text` goes the other way, from a record to its text.
 
 use crate::draft::{CellDraft, Draft};
 use std::fmt;
@@ -37,8 +41,23 @@ impl fmt::Display for TextError {
     }
 }
 
+/// The text of a file's bytes, which must be UTF-8.
+pub fn decoded(bytes: &[u8]) -> Result<&str, TextError> {
+    std::str::from_utf8(bytes).map_err(|error| {
+        let sound = &bytes[..error.valid_up_to()];
+        let line = 1 + sound.iter().filter(|&&byte| byte == b'\n').count();
+        let byte = bytes[sound.len()];
+        let message = format!("byte {byte} is not UTF-8 text here");
+        TextError { line, message }
+    })
+}
+
 /// The bytes of the record that a text describes.
 pub fn record_of(text: &str) -> Result<Vec<u8>, TextError> {
+    if without_mark(text).is_empty() {
+        let message = "the text is empty".to_string();
+        return Err(TextError { line: 1, message });
+    }
     let mut sheet = Sheet::default();
     for mut words in lines(text) {
         sheet.statement(&mut words)?;
@@ -57,8 +76,14 @@ pub fn schedule_of(text: &str) -> Result<Vec<u32>, TextError> {
     Ok(schedule)
 }
 
+/// A text without the byte-order mark that some editors put first.
+fn without_mark(text: &str) -> &str {
+    text.strip_prefix('\u{FEFF}').unwrap_or(text)
+}
+
 /// The lines that say something, without their comments.
 fn lines(text: &str) -> impl Iterator<Item = Words<'_>> {
+    let text = without_mark(text);
     text.lines().enumerate().filter_map(|(i, line)| {
         let said = line.split('#').next().unwrap_or("");
         let words: Vec<&str> = said.split_whitespace().collect();
@@ -201,13 +226,15 @@ impl Sheet {
             "steps" => self.steps_line(words)?,
             "gate" => self.gate_line(words)?,
             "cell" => self.cell_lines(words, 1)?,
-            "row" => self.row_lines(words, 1)?,
+            "row" => self.row_lines(words, 1, true)?,
+            "unchecked" => self.unchecked_lines(words, 1)?,
             "damage" => self.damage_line(words)?,
             "repeat" => {
                 let count = words.number("the count of repeats", U16)? as usize;
                 match words.word("'cell' or 'row'")? {
                     "cell" => self.cell_lines(words, count)?,
-                    "row" => self.row_lines(words, count)?,
+                    "row" => self.row_lines(words, count, true)?,
+                    "unchecked" => self.unchecked_lines(words, count)?,
                     other => return words.error(format!("'{other}' can't be repeated")),
                 }
             }
@@ -255,7 +282,21 @@ impl Sheet {
         Ok(())
     }
 
-    fn row_lines(&mut self, words: &mut Words, count: usize) -> Result<(), TextError> {
+    /// Rows after the word `unchecked`.
+    fn unchecked_lines(&mut self, words: &mut Words, count: usize) -> Result<(), TextError> {
+        match words.word("'row'")? {
+            "row" => self.row_lines(words, count, false),
+            other => words.error(format!("only a row can be unchecked, not '{other}'")),
+        }
+    }
+
+    /// Like rows, all numbers or by name.
+    fn row_lines(
+        &mut self,
+        words: &mut Words,
+        count: usize,
+        checked: bool,
+    ) -> Result<(), TextError> {
         if self.rows.len() + count > usize::from(u16::MAX) {
             return words.error("a record can't name more than 65535 steps".to_string());
         }
@@ -263,7 +304,34 @@ impl Sheet {
             Some(word) if is_number(word) => plain_row(words)?,
             _ => named_row(words, self.cells.len())?,
         };
+        if checked {
+            self.check_row(words, &row)?;
+        }
         self.rows.extend(vec![row; count]);
+        Ok(())
+    }
+
+    /// A row has 1 + 2n numbers, those of a cell without a ramp 0.
+    fn check_row(&self, words: &Words, row: &[u32]) -> Result<(), TextError> {
+        let (n, found) = (self.cells.len(), row.len());
+        let wanted = 1 + 2 * n;
+        if found != wanted {
+            return words.error(format!(
+                "a row has {wanted} numbers (the gate's arrivals, then arrivals and release \
+                 of each cell; cells: {n}), not {found}"
+            ));
+        }
+        let pairs = self.cells.iter().zip(row[1..].chunks(2));
+        for (i, (cell, pair)) in pairs.enumerate() {
+            for (name, number) in ["arrivals", "release"].iter().zip(pair) {
+                if cell.ramp == 0 && *number != 0 {
+                    let place = i + 1;
+                    return words.error(format!(
+                        "cell {place} has no ramp, but {name} of {number} there"
+                    ));
+                }
+            }
+        }
         Ok(())
     }
 
@@ -290,7 +358,7 @@ impl Sheet {
     /// The record's bytes, once all lines are read.
     fn finish(self, last_line: usize) -> Result<Vec<u8>, TextError> {
         let missing = |name: &str| TextError {
-            line: last_line,
+            line: last_line.max(1),
             message: format!("the text ends without '{name}'"),
         };
         let gate = self.gate.ok_or_else(|| missing("gate"))?;

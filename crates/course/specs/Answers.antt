@@ -1,4 +1,4 @@
--- What the code of running and judging answers, in document 01's numbers. Assumes nothing.
+-- What the code of running and judging answers, in the model's numbers. Assumes nothing.
 use Rattle.road.specs.declared.Ended.{Ended}
 use Rattle.road.specs.Refusals.{refusalNumber}
 use Rattle.course.specs.Course.{EndAnswer, ended}

@@ -1,4 +1,4 @@
--- Document 01, 'Running' and 'Judging': step by step over the rows of a record. Assumes nothing.
+-- docs/MODEL.md, 'Running' and 'Judging': step by step over the rows of a record. Assumes nothing.
 use mathlib.Core.Bool.{cond}
 use mathlib.Core.List.{List, [], _++_}
 use Prim.Native.Nat.{ℕ, zero, suc, _+_, _*_}

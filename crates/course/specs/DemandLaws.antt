@@ -62,7 +62,7 @@ module _ (r : Road) (s : State) (rows : ℕ → List ℕ) (T : ℕ) (ok : Course
   pub obeys-faults : (zs : List ℕ) (k : ℕ) → k ≤ T
       → ((j : ℕ) → j < k → Obeys r (scheduledAt r s rows zs j) (rows j) (proposedAt r zs j)) → k ≤ firstFault (judgeSays r s rows zs) T
   obeys-faults zs k l h = fault-far (judgeSays r s rows zs) T k l
-      (λ j m. ap (λ (q : Fault). q .number) (obeys-verdict r (scheduledAt r s rows zs j) (rows j) (proposedAt r zs j) (ok .road) (h j m)))
+      (λ j m. ap (λ (q : Fault). q .number) (obeys-verdict r (scheduledAt r s rows zs j) (rows j) (proposedAt r zs j) (h j m)))
 
   pub faults-obeys : (zs : List ℕ) (j : ℕ) → j < firstFault (judgeSays r s rows zs) T
       → Obeys r (scheduledAt r s rows zs j) (rows j) (proposedAt r zs j)

@@ -1,9 +1,11 @@
 -- How running and judging end, for a record that reads without refusal. Assumes nothing.
 use mathlib.Core.Path.{_≡_, ap}
+use mathlib.Core.Bool.{Bool}
 use mathlib.Core.List.{List}
 use Prim.Native.Nat.{ℕ, _+_, _*_, _≤_, _<_}
 use borrow.Author.Tests.{eq-eqb, ne-eqb, le-leb, lt-leb}
 use lib.ListN.{length}
+use Rattle.road.specs.Refusals.{unless}
 use Rattle.model.specs.Runs.{engineAfter}
 use Rattle.record.specs.Reading.{ReadAnswer, readingOf}
 use Rattle.course.specs.Course.{scheduledAt, runSays, judgeSays, firstFault, endOf, noState, rowsOf, runningOf, judgingOf, tableOf, writtenOf}
@@ -29,7 +31,9 @@ module _ (s : List ℕ) (a : ReadAnswer) (e : a ≡ readingOf s) where
     -- 11 and 12
     pub runs-short : (list : List ℕ) → length list < a .steps * (a .road .n + 1) → runningOf s list ≡ noState 11 0
     unfolding runningOf
-    runs-short list l = rw (← e, eq-eqb (a .number) 0 h, lt-leb (a .steps * (a .road .n + 1)) (length list) l)
+    runs-short list l = rw (← e, eq-eqb (a .number) 0 h)
+        (ap (λ (b : Bool). unless b (noState 11 0) (endOf (a .road) (runSays (a .road) (a .state) (rowsOf s a)) (engineAfter (a .road) (a .state) (rowsOf s a)) (a .steps)))
+        (lt-leb (a .steps * (a .road .n + 1)) (length list) l))
 
     pub writes-short : (list : List ℕ) → length list < a .steps * (a .road .n + 1) → writtenOf s list ≡ list
     unfolding writtenOf

@@ -14,7 +14,7 @@ use Rattle.model.specs.Places.{capacityAt, demandAt, mostReleaseAt, shareAt, cu
 use Rattle.model.specs.Move.{movedTo, countedOf, exitsOf, totalOf}
 use Rattle.model.specs.Rules.{outflowsOf}
 use Rattle.model.specs.Step.{lowestOf}
-use Rattle.model.specs.Verdict.{verdictOf}
+use Rattle.model.specs.Verdict.{outflowFaultAt, verdictOf}
 use Rattle.model.specs.Runs.{scheduleAfter, engineAfter}
 use Rattle.record.specs.Reading.{readingOf}
 use Rattle.record.specs.Sample.{sample, header, upstream, downstream, row}
@@ -39,7 +39,7 @@ pub record Both : Type 0 where
   pub exits : exitsOf (roadIn sample) (judgingOf sample still .state) ≡ 0
 
 pub both : Both
-unfolding sample header upstream downstream row readingOf numberOf thousandthsOf demandOf gateDemandOf supplyOf roomOf onwardOf enteringOf greatestOf outflowOf sumOf fillOf listOf firstFrom firstOf placeOk rowOk capacityAt demandAt mostReleaseAt shareAt cumulativeAt movedTo countedOf exitsOf outflowsOf lowestOf verdictOf scheduleAfter engineAfter rowAt firstFault endOf runningOf judgingOf
+unfolding sample header upstream downstream row readingOf numberOf thousandthsOf demandOf gateDemandOf supplyOf roomOf onwardOf enteringOf greatestOf outflowOf sumOf fillOf listOf firstFrom firstOf placeOk rowOk capacityAt demandAt mostReleaseAt shareAt cumulativeAt movedTo countedOf exitsOf outflowsOf lowestOf outflowFaultAt verdictOf scheduleAfter engineAfter rowAt firstFault endOf runningOf judgingOf
 both = record { reads = refl; steps = refl; right = refl; run = refl; judged = refl; fast = refl; slow = refl; exits = refl }
 
 -- the schedule reaches all three steps

@@ -1,4 +1,4 @@
--- Document 01, 'A run printed whole': what the program prints, byte by byte. Assumes nothing.
+-- docs/MODEL.md, 'A run printed whole': what the program prints, byte by byte. Assumes nothing.
 use mathlib.Core.List.{List, [], _++_}
 use Prim.Native.Nat.{ℕ, zero, suc}
 use lib.Dec.{eqb}

@@ -36,8 +36,8 @@ found-number s _ (atPlace place l) = omega arith
 found-number s _ (atStep step l) = omega arith
 found-number s _ (clear h) = omega arith
 
-module _ (s list : List ℕ) (long : length list ≡ mostOutflows) where
-  -- a list of 8,799 numbers is long enough for every record that reads: running never says 11
+module _ (s list : List ℕ) (long : mostOutflows ≤ length list) where
+  -- a list of at least 8,799 numbers is long enough for every record that reads: running never says 11
   pub never-short : runningOf s list .number ≡ 11 → ⊥
   never-short e = go (eqb (readingOf s .number) 0) refl
     where
@@ -89,7 +89,7 @@ module _ (s list : List ℕ) (e : EndAnswer) (ee : e ≡ runningOf s list) where
 
     module _ (out : List ℕ) (a : ReadAnswer) (ea : a ≡ readingOf s) where
       -- the rows that running wrote may be replayed
-      pub listable : length list ≡ mostOutflows → out ≡ writtenOf s list → (readingOf s .number ≡ 0 → Demand s out e)
+      pub listable : mostOutflows ≤ length list → out ≡ writtenOf s list → (readingOf s .number ≡ 0 → Demand s out e)
           → Listable s (a .road) (a .state) (a .steps) out
       listable l eo d = rw ea (
           let m = d reads in
@@ -129,13 +129,13 @@ steps-room a start r s rows zs T b m h p =
 abbrev pub Promise : List ℕ → List ℕ → List ℕ → ℕ → Type 0
 Promise s list b m = (take m b ≡ printedOf s list) × ((Counts m b) × (runningOf s list .number ≡ 11 → ⊥))
 
-promised : (s list a b : List ℕ) (m k : ℕ) (text : List ℕ) → length list ≡ mostOutflows → printedOf s list ≡ text → Puts a 0 text b m
+promised : (s list a b : List ℕ) (m k : ℕ) (text : List ℕ) → mostOutflows ≤ length list → printedOf s list ≡ text → Puts a 0 text b m
     → Room a 0 b m k → k ≤ length a → Promise s list b m
 promised s list a b m k text l e p z h =
     let c : m ≤ length b = omega (arith, z .end, z .same) in
     (puts-first a text b m p (omega (arith, p .0, z .end)) ∙ sym e, ((c, sym (length-take-le m b c)), never-short s list l))
 
-module _ (s list : List ℕ) (long : length list ≡ mostOutflows) (e : EndAnswer) (ee : e ≡ runningOf s list) (number : ℕ) (en : number ≡ e .number)
+module _ (s list : List ℕ) (long : mostOutflows ≤ length list) (e : EndAnswer) (ee : e ≡ runningOf s list) (number : ℕ) (en : number ≡ e .number)
     (a : List ℕ) (enough : mostText ≤ length a) where
   pub refused-promise : (number ≡ 0 → ⊥) → (b : List ℕ) (m : ℕ) → Puts a 0 (refusedLine number (e .step) (e .place)) b m → Promise s list b m
   refused-promise n b m p =

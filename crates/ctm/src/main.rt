@@ -50,7 +50,7 @@ fn steps_lines(
 
 // Runs a record and puts all that is printed of it at the start of the buffer.
 fn printed(bytes: &[u8], outflows: &mut [u32], buffer: &mut [u8]) -> usize
-    requires { ⌜ (length (now outflows) ≡ mostOutflows) × (mostText ≤ length (now buffer)) ⌝ }
+    requires { ⌜ (mostOutflows ≤ length (now outflows)) × (mostText ≤ length (now buffer)) ⌝ }
     ensures text { λ e. ⌜ take e (now (buffer .exit)) ≡ printedOf (now (bytes .entry)) (now (outflows .entry)) ⌝ }
     ensures count { λ e. ⌜ Counts e (now (buffer .exit)) ⌝ }
     ensures list { λ e. ⌜ (runningOf (now (bytes .entry)) (now (outflows .entry)) .number ≡ 11 → ⊥) ⌝ }

@@ -1,4 +1,4 @@
-// Document 01's edges, as far as leaves and stepping go, computed by the compiled code.
+// The model's edges, as far as leaves and stepping go, computed by the compiled code.
 use freeway::Road;
 use freeway::State;
 
@@ -8,7 +8,7 @@ fn show(label: &[u8], value: u64) {
     io::write_all(1, b"\n");
 }
 
-fn leaves() {
+fn demands() {
     show(
         b"v 500 C 2000 held 2566: demand ",
         freeway::demand(500, 2000, 2566) as u64,
@@ -25,6 +25,9 @@ fn leaves() {
         b"gate capacity 2000 queue 3000: demand ",
         freeway::gate_demand(2000, 3000) as u64,
     );
+}
+
+fn supplies() {
     show(
         b"w 250 C 2000 J 8000 held 2566: supply ",
         freeway::supply(250, 2000, 8000, 2566) as u64,
@@ -41,6 +44,9 @@ fn leaves() {
         b"supply 1000 release 1001: room ",
         freeway::room(1000, 1001) as u64,
     );
+}
+
+fn onwards() {
     show(b"b 750 F 934: onward total ", freeway::onward(750, 934));
     show(
         b"b 750 F 934 outflow 933: entering ",
@@ -50,6 +56,9 @@ fn leaves() {
         b"b 750 F 934 outflow 934: entering ",
         freeway::entering(750, 934, 934),
     );
+}
+
+fn outflows() {
     show(
         b"b 750 F 0 room 0 demand 1283: outflow ",
         freeway::outflow(750, 0, 0, 1283) as u64,
@@ -215,7 +224,10 @@ fn limits() {
 }
 
 fn main() {
-    leaves();
+    demands();
+    supplies();
+    onwards();
+    outflows();
     printed_run();
     releases();
     limits();

@@ -1,4 +1,4 @@
--- Document 01, 'The record': where each field stands, and the numbers, columns and rows that the bytes give. Assumes nothing.
+-- docs/MODEL.md, 'The record': where each field stands, and the numbers, columns and rows that the bytes give. Assumes nothing.
 use mathlib.Core.List.{List}
 use Prim.Native.Nat.{ℕ, zero, suc, _+_, _*_}
 use Rattle.road.specs.Road.{at, zeros}

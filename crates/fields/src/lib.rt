@@ -1,4 +1,4 @@
-// The layout of document 01's record, and the numbers, columns and rows of its bytes.
+// The layout of the model's record, and the numbers, columns and rows of its bytes.
 ghost use mathlib.Core.Path.{_≡_};
 ghost use Prim.Native.Nat.{_+_, _*_, _^_, _≤_, _<_};
 ghost use lib.ListN.{length, take};

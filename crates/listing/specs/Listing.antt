@@ -1,4 +1,4 @@
--- Document 01, 'A run printed whole': the listing's lines, as bytes. Assumes nothing.
+-- docs/MODEL.md, 'A run printed whole': the listing's lines, as bytes. Assumes nothing.
 use mathlib.Core.Bool.{cond}
 use mathlib.Core.List.{List, [], _∷_, _++_}
 use Prim.Native.Nat.{ℕ, zero, suc, _+_, _/_, _%_}

@@ -1,4 +1,4 @@
-// The lines of document 01's listing, put into a buffer: each contract gives the bytes.
+// The lines of the model's listing, put into a buffer: each contract gives the bytes.
 use road::State;
 ghost use mathlib.Core.Path.{_≡_};
 ghost use Prim.Native.Nat.{_+_, _*_, _≤_, _<_};

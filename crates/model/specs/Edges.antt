@@ -1,4 +1,4 @@
--- Document 01, 'Edges': the starred ones, and the printed run, as one fact about a table of rules. Assumes nothing.
+-- docs/MODEL.md, 'Edges': the starred ones, and the printed run, as one fact about a table of rules. Assumes nothing.
 use mathlib.Core.Path.{_≡_, refl}
 use mathlib.Core.Bool.{Bool, true, _&&_}
 use mathlib.Core.List.{List, [], _∷_, _++_}

@@ -1,4 +1,4 @@
--- Document 01, 'One step': every place moved by a row of outflows, all quantities taken from the state before; present, total and exits.
+-- docs/MODEL.md, 'One step': every place moved by a row of outflows, all quantities taken from the state before; present, total and exits.
 -- Assumes nothing.
 use mathlib.Core.List.{List}
 use Prim.Native.Nat.{ℕ, _+_, _-_}

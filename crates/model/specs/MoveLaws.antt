@@ -1,4 +1,4 @@
--- Document 01's sentences about a step, place by place, for a step by any row of outflows. Assumes nothing.
+-- The model's sentences about a step, place by place, for a step by any row of outflows. Assumes nothing.
 use mathlib.Core.Path.{_≡_, refl, sym, ap, _∙_}
 use mathlib.Core.List.{List}
 use Prim.Native.Nat.{ℕ, zero, suc, _+_, _-_, _≤_, _<_}

@@ -1,4 +1,4 @@
--- Document 01, 'One step': what the rules take of each place. Place 0 is the gate and place i + 1 the cell at i of the arrays,
+-- docs/MODEL.md, 'One step': what the rules take of each place. Place 0 is the gate and place i + 1 the cell at i of the arrays,
 -- so the cell at p is the one after place p. Assumes nothing.
 use mathlib.Core.List.{List}
 use Prim.Native.Nat.{ℕ, zero, suc, _+_, _*_}

@@ -1,4 +1,4 @@
--- Document 01: what it is to obey the rules in a state, and the engine's row of outflows. Assumes nothing.
+-- docs/MODEL.md, 'Schedules': what it is to obey the rules in a state, and the engine's row of outflows. Assumes nothing.
 use mathlib.Core.Path.{_≡_}
 use mathlib.Core.List.{List, [], _∷_, _++_}
 use Prim.Native.Nat.{ℕ, _≤_, _<_}

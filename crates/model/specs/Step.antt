@@ -1,4 +1,4 @@
--- Document 01, 'Stepping': the refusals 7 to 10 in their order, and the answer of a step for every road, state and row. Assumes nothing.
+-- docs/MODEL.md, 'Stepping': the refusals 7 to 10 in their order, and the answer of a step for every road, state and row. Assumes nothing.
 use mathlib.Core.Bool.{cond}
 use mathlib.Core.List.{List}
 use Prim.Native.Nat.{ℕ, _+_}

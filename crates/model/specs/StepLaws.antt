@@ -61,6 +61,17 @@ module _ (f : ℕ → ℕ) (n base : ℕ) where
       go true = omega arith
       go false = h (lowestAt f n)
 
+-- one test
+pub one-zero : (a b m : ℕ) → (m ≡ 0 → ⊥) → unless (leb a b) m 0 ≡ 0 → a ≤ b
+one-zero a b m hm h = go (leb a b) refl h
+  where
+    go : (t : Bool) → leb a b ≡ t → unless t m 0 ≡ 0 → a ≤ b
+    go true e z = leb-true a b e
+    go false e z = absurd (hm z)
+
+pub one-pass : (a b m : ℕ) → a ≤ b → unless (leb a b) m 0 ≡ 0
+one-pass a b m h = rw (le-leb a b h)
+
 -- two tests, one before the other
 pub two-zero : (a b c d m k : ℕ) → (m ≡ 0 → ⊥) → (k ≡ 0 → ⊥) → unless (leb a b) m (unless (leb c d) k 0) ≡ 0 → (a ≤ b) × (c ≤ d)
 two-zero a b c d m k hm hk h = go (leb a b) (leb c d) refl refl h

@@ -1,7 +1,8 @@
--- Document 01, 'Judging': what is said of one row of a proposed schedule. Assumes nothing.
+-- docs/MODEL.md, 'Judging': what is said of one row of a proposed schedule. Assumes nothing.
+use mathlib.Core.Bool.{cond}
 use mathlib.Core.List.{List}
 use Prim.Native.Nat.{ℕ, _+_}
-use lib.Dec.{leb, eqb}
+use lib.Dec.{leb, ltb, eqb}
 use Rattle.road.specs.declared.Road.{Road}
 use Rattle.road.specs.declared.State.{State}
 use Rattle.road.specs.Road.{at}
@@ -9,13 +10,20 @@ use Rattle.road.specs.Refusals.{unless}
 use Rattle.model.specs.Places.{demandAt, roomAt, enteringAt}
 use Rattle.model.specs.Step.{Fault, lowestOf, releasesOf}
 
--- at one place: 13, outflow above demand, before 14, too much let into the next cell
+-- at a place before the last: 13, outflow above demand, before 14, too much let into the next cell
 abbrev pub outflowFault : ℕ → ℕ → ℕ → ℕ → ℕ
 outflowFault outflow demand entering room = unless (leb outflow demand) 13 (unless (leb entering room) 14 0)
 
--- of place p by its outflow in y; the last share is 0, so the last place lets nothing in
-abbrev pub outflowFaultAt : Road → State → List ℕ → List ℕ → ℕ → ℕ
-outflowFaultAt r s row y p = outflowFault (at y p) (demandAt r s p) (enteringAt r s y p) (roomAt r s row p)
+-- at the last place, which no cell follows: 13 alone
+abbrev pub lastFault : ℕ → ℕ → ℕ
+lastFault outflow demand = unless (leb outflow demand) 13 0
+
+-- of place p by its outflow in y
+unfoldable pub outflowFaultAt : Road → State → List ℕ → List ℕ → ℕ → ℕ
+outflowFaultAt r s row y p =
+    cond (ltb p (r .n))
+    (outflowFault (at y p) (demandAt r s p) (enteringAt r s y p) (roomAt r s row p))
+    (lastFault (at y p) (demandAt r s p))
 
 -- at the lowest place with either; the place of 14 is the sender
 abbrev pub outflowsFaultOf : Road → State → List ℕ → List ℕ → Fault

@@ -7,29 +7,26 @@ use Prim.Native.Nat.{ℕ, _+_, _≤_, _<_}
 use native.Mathlib.Nat.{eq-or-lt-of-le}
 use native.Mathlib.Omega.{arith}
 use lib.Dec.{leb, eqb}
-use borrow.Author.Tests.{eqb-true, eqb-false, eq-eqb, ne-eqb, lt-leb}
-use Rattle.flow.specs.FlowLaws.{entering-none}
+use borrow.Author.Tests.{eqb-true, eqb-false, eq-eqb, ne-eqb, lt-ltb, le-ltb, lt-leb}
 use Rattle.road.specs.declared.Road.{Road}
 use Rattle.road.specs.declared.State.{State}
 use Rattle.road.specs.Road.{at}
 use Rattle.road.specs.Refusals.{unless}
-use Rattle.limits.specs.LimitsLaws.{RoadOk}
-use Rattle.model.specs.Places.{demandAt, roomAt, enteringAt, shareAt, cumulativeAt}
+use Rattle.model.specs.Places.{demandAt, roomAt, enteringAt}
 use Rattle.model.specs.Rules.{Released, Obeys}
 use Rattle.model.specs.Step.{Fault, fault, lowestOf, releasesOf}
-use Rattle.model.specs.Verdict.{outflowFault, outflowFaultAt, outflowsFaultOf, verdictOf}
-use Rattle.model.specs.RulesLaws.{share-last}
-use Rattle.model.specs.StepLaws.{lowest-none, lowest-zero, two-zero, two-pass, releases-fit, fit-releases}
+use Rattle.model.specs.Verdict.{outflowFault, lastFault, outflowFaultAt, outflowsFaultOf, verdictOf}
+use Rattle.model.specs.StepLaws.{lowest-none, lowest-zero, one-zero, one-pass, two-zero, two-pass, releases-fit, fit-releases}
 
 module _ (r : Road) (s : State) (row y : List ℕ) where
   -- the verdict is the releases' fault, or else the outflows'
   pub verdict-releases : (releasesOf r s row .number ≡ 0 → ⊥) → verdictOf r s row y ≡ releasesOf r s row
   unfolding verdictOf
-  verdict-releases h = rw (ne-eqb (releasesOf r s row .number) 0 h)
+  verdict-releases h = ap (λ (b : Bool). unless b (releasesOf r s row) (outflowsFaultOf r s row y)) (ne-eqb (releasesOf r s row .number) 0 h)
 
   pub verdict-outflows : releasesOf r s row .number ≡ 0 → verdictOf r s row y ≡ outflowsFaultOf r s row y
   unfolding verdictOf
-  verdict-outflows h = rw (eq-eqb (releasesOf r s row .number) 0 h)
+  verdict-outflows h = ap (λ (b : Bool). unless b (releasesOf r s row) (outflowsFaultOf r s row y)) (eq-eqb (releasesOf r s row .number) 0 h)
 
   parts : verdictOf r s row y .number ≡ 0 → (releasesOf r s row .number ≡ 0) × (outflowsFaultOf r s row y .number ≡ 0)
   parts h = go (eqb (releasesOf r s row .number) 0) refl
@@ -42,36 +39,51 @@ module _ (r : Road) (s : State) (row y : List ℕ) where
           let n : releasesOf r s row .number ≡ 0 → ⊥ = eqb-false (releasesOf r s row .number) 0 e in
           absurd (n (sym (ap (λ (q : Fault). q .number) (verdict-releases n)) ∙ h))
 
+  -- the fault of a place before the last, and of the last
+  pub fault-before-last : (p : ℕ) → p < r .n
+      → outflowFaultAt r s row y p ≡ outflowFault (at y p) (demandAt r s p) (enteringAt r s y p) (roomAt r s row p)
+  unfolding outflowFaultAt
+  fault-before-last p l = rw (lt-ltb p (r .n) l)
+
+  fault-last : outflowFaultAt r s row y (r .n) ≡ lastFault (at y (r .n)) (demandAt r s (r .n))
+  unfolding outflowFaultAt
+  fault-last = rw (le-ltb (r .n) (r .n) (omega arith))
+
   -- no fault: the row obeys the rules
   pub verdict-obeys : verdictOf r s row y .number ≡ 0 → Obeys r s row y
   verdict-obeys h = record {
     released = releases-fit r s row (parts h .0);
-    demand = λ p l. place p (omega arith) .0;
-    enters = λ p l. place p (omega arith) .1;
+    demand = λ p l. ⊎-elim (λ (e : p ≡ r .n). rw e last) (λ (m : p < r .n). place p m .0) (eq-or-lt-of-le l);
+    enters = λ p l. place p l .1;
   }
     where
-      place : (p : ℕ) → p < r .n + 1 → (at y p ≤ demandAt r s p) × (enteringAt r s y p ≤ roomAt r s row p)
+      none : (p : ℕ) → p < r .n + 1 → outflowFaultAt r s row y p ≡ 0
+      none = lowest-zero (outflowFaultAt r s row y) (r .n + 1) 0 (parts h .1)
+
+      place : (p : ℕ) → p < r .n → (at y p ≤ demandAt r s p) × (enteringAt r s y p ≤ roomAt r s row p)
       place p l =
           two-zero (at y p) (demandAt r s p) (enteringAt r s y p) (roomAt r s row p) 13 14 (λ z. omega arith) (λ z. omega arith)
-          (lowest-zero (outflowFaultAt r s row y) (r .n + 1) 0 (parts h .1) p l)
+          (sym (fault-before-last p l) ∙ none p (omega arith))
+
+      last : at y (r .n) ≤ demandAt r s (r .n)
+      last = one-zero (at y (r .n)) (demandAt r s (r .n)) 13 (λ z. omega arith) (sym fault-last ∙ none (r .n) (omega arith))
 
   -- the last place has no fault but 13
-  pub last-passes : RoadOk r → at y (r .n) ≤ demandAt r s (r .n) → outflowFaultAt r s row y (r .n) ≡ 0
-  last-passes road h =
-      two-pass (at y (r .n)) (demandAt r s (r .n)) (enteringAt r s y (r .n)) (roomAt r s row (r .n)) 13 14 h
-      (rw (share-last r road) (omega (arith, entering-none (cumulativeAt s (r .n)) (at y (r .n)))))
+  pub last-passes : at y (r .n) ≤ demandAt r s (r .n) → outflowFaultAt r s row y (r .n) ≡ 0
+  last-passes h = fault-last ∙ one-pass (at y (r .n)) (demandAt r s (r .n)) 13 h
 
-  pub above-demand : (p : ℕ) → demandAt r s p < at y p → outflowFaultAt r s row y p ≡ 13
-  above-demand p h = rw (lt-leb (at y p) (demandAt r s p) h)
+  pub last-above-demand : demandAt r s (r .n) < at y (r .n) → outflowFaultAt r s row y (r .n) ≡ 13
+  last-above-demand h = fault-last ∙ rw (lt-leb (at y (r .n)) (demandAt r s (r .n)) h)
 
   -- a row that obeys the rules has no fault
-  pub obeys-verdict : RoadOk r → Obeys r s row y → verdictOf r s row y ≡ fault 0 0
-  obeys-verdict road ok =
+  pub obeys-verdict : Obeys r s row y → verdictOf r s row y ≡ fault 0 0
+  obeys-verdict ok =
       verdict-outflows (ap (λ (q : Fault). q .number) (fit-releases r s row (ok .released)))
       ∙ lowest-none (outflowFaultAt r s row y) (r .n + 1) 0 (λ p l. ⊎-elim
-      (λ (e : p ≡ r .n). rw e (last-passes road (ok .demand (r .n) (omega arith))))
+      (λ (e : p ≡ r .n). rw e (last-passes (ok .demand (r .n) (omega arith))))
       (λ (m : p < r .n).
-      two-pass (at y p) (demandAt r s p) (enteringAt r s y p) (roomAt r s row p) 13 14 (ok .demand p (omega arith)) (ok .enters p m))
+      fault-before-last p m
+      ∙ two-pass (at y p) (demandAt r s p) (enteringAt r s y p) (roomAt r s row p) 13 14 (ok .demand p (omega arith)) (ok .enters p m))
       (eq-or-lt-of-le (below p l)))
     where
       below : (p : ℕ) → p < r .n + 1 → p ≤ r .n

@@ -1,4 +1,4 @@
--- Document 01, 'The four operations and their refusals', reading: its refusals in order, and what it gives. Assumes nothing.
+-- docs/MODEL.md, 'The four operations and their refusals', reading: its refusals in order, and what it gives. Assumes nothing.
 use mathlib.Core.Bool.{Bool, _&&_}
 use mathlib.Core.List.{List}
 use Prim.Native.Nat.{ℕ, _+_, _-_}

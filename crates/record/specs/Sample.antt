@@ -1,4 +1,4 @@
--- The record of document 01 that is run whole, read by the definitions, and faults put into it. Assumes nothing.
+-- The record of docs/MODEL.md that is run whole, read by the definitions, and faults put into it. Assumes nothing.
 use mathlib.Core.Path.{_≡_, refl}
 use mathlib.Core.Bool.{true, false}
 use mathlib.Core.List.{List, [], _∷_, _++_, map}

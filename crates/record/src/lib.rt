@@ -1,4 +1,4 @@
-// Reading a record: the road, T and the state before step 0, or the first refusal in document 01's order.
+// Reading a record: the road, T and the state before step 0, or the first refusal in the model's order.
 use road::Reading;
 use road::Refusal;
 use road::Road;

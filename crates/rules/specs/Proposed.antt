@@ -15,7 +15,7 @@ use Rattle.model.specs.Places.{releaseAt, demandAt}
 use Rattle.model.specs.Step.{Fault, fault, lowestOf, releasesOf}
 use Rattle.model.specs.Verdict.{outflowFault, outflowFaultAt, outflowsFaultOf, verdictOf}
 use Rattle.model.specs.StepLaws.{lowest-none, lowest-at}
-use Rattle.model.specs.VerdictLaws.{last-passes, above-demand, verdict-releases, verdict-outflows}
+use Rattle.model.specs.VerdictLaws.{fault-before-last, last-passes, last-above-demand, verdict-releases, verdict-outflows}
 use Rattle.moves.specs.Carried.{Carried, supply-is}
 
 -- a road within its limits, the row of a step and a row of outflows, gate first
@@ -29,14 +29,14 @@ pub record Passed (r : Road) (s : State) (row y : List ℕ) (share cumulative de
   pub carried : Carried r s share cumulative demand i
   pub before : (j : ℕ) → j < i → outflowFaultAt r s row y j ≡ 0
 
--- a place's fault, from what the code computes
+-- the fault of a place before the last, from what the code computes
 pub place-fault : (r : Road) (s : State) (row y : List ℕ) (share cumulative demand i supply room entering m : ℕ)
-    → Carried r s share cumulative demand i
+    → Carried r s share cumulative demand i → i < r .n
     → supply ≡ supplyOf (at (r .wave) i) (at (r .capacity) i) (at (r .jam) i) (at (s .held) i)
     → room ≡ roomOf supply (releaseAt row i) → entering ≡ enteringOf share cumulative (at y i)
     → m ≡ outflowFault (at y i) demand entering room → outflowFaultAt r s row y i ≡ m
-place-fault r s row y share cumulative demand i supply room entering m k es er ee h =
-    sym (rw (ee, er, supply-is r s i supply es, k .shares, k .cumulatives, k .demands) at h)
+place-fault r s row y share cumulative demand i supply room entering m k l es er ee h =
+    fault-before-last r s row y i l ∙ sym (rw (ee, er, supply-is r s i supply es, k .shares, k .cumulatives, k .demands) at h)
 
 -- the last place: only its demand is looked at
 module _ (r : Road) (s : State) (row y : List ℕ) (share cumulative demand i : ℕ) (h : Passed r s row y share cumulative demand i) (end : r .n ≤ i) where
@@ -51,12 +51,12 @@ module _ (r : Road) (s : State) (row y : List ℕ) (share cumulative demand i : 
       let e : r .n + 0 ≡ r .n = omega arith in
       ap (fault 13) (sym e)
       ∙ sym (lowest-at (outflowFaultAt r s row y) (r .n + 1) 0 (r .n) 13 (omega arith) (λ j m. h .before j (omega arith))
-      (above-demand r s row y (r .n) (omega (arith, demand-last))) (λ z. omega arith))
+      (last-above-demand r s row y (omega (arith, demand-last))) (λ z. omega arith))
 
-  pub none-at-all : RoadOk r → at y (r .n) ≤ demand → fault 0 0 ≡ outflowsFaultOf r s row y
-  none-at-all road l =
+  pub none-at-all : at y (r .n) ≤ demand → fault 0 0 ≡ outflowsFaultOf r s row y
+  none-at-all l =
       sym (lowest-none (outflowFaultAt r s row y) (r .n + 1) 0 (λ j m. ⊎-elim
-      (λ (e : j ≡ r .n). rw e (last-passes r s row y road (omega (arith, demand-last))))
+      (λ (e : j ≡ r .n). rw e (last-passes r s row y (omega (arith, demand-last))))
       (λ (k : j < r .n). h .before j (omega arith))
       (eq-or-lt-of-le (below j m))))
     where

@@ -24,7 +24,7 @@ fn outflow_refusal(outflow: u32, demand: u32, entering: u64, room: u32) -> Refus
     Refusal::None
 }
 
-// The lowest place whose outflow does not obey, with its refusal. The last share is 0: nothing enters from there.
+// The lowest place whose outflow does not obey, with its refusal. No cell follows the last place: only its demand is looked at.
 fn outflows_fault(r: Road, s: State, row: &[u32], y: &[u32]) -> Fault
     requires { ⌜ Proposed r (now row) (now y) ⌝ }
     ensures { λ q. ⌜ faultOf q ≡ outflowsFaultOf r s (now (row .entry)) (now (y .entry)) ⌝ }

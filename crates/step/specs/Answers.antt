@@ -1,4 +1,4 @@
--- What the code answers, in document 01's numbers. Assumes nothing.
+-- What the code answers, in the model's numbers. Assumes nothing.
 use Rattle.road.specs.Refusals.{refusalNumber}
 use Rattle.model.specs.Step.{Answer, fault}
 use Rattle.model.specs.Step as model

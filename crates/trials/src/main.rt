@@ -1,17 +1,11 @@
 // Prints one line for each framed case of the standard input; an independent reference gives the same lines.
-mod cases;
-mod digest;
-mod field;
-mod input;
-mod replay;
-mod text;
+use frames::input;
 
-// Where the lines and the counts stand.
+// Where the lines and their count stand.
 struct Tally {
     // Bytes of lines that wait in the buffer.
     pub at: usize,
     pub cases: u64,
-    pub complete: u64,
     pub is_open: bool,
 }
 
@@ -29,10 +23,10 @@ fn write(out: &[u8], at: usize) {
 
 // Writes them once too little room is left for another.
 fn flushed(out: &[u8], at: usize) -> usize {
-    if out.len() < text::LINE {
+    if out.len() < answers::LINE {
         return at;
     }
-    if at < out.len() - text::LINE {
+    if at < out.len() - answers::LINE {
         return at;
     }
     write(out, at);
@@ -45,22 +39,20 @@ fn closed(out: &[u8], at: usize, tally: Tally) -> Tally {
     Tally {
         at: 0,
         cases: tally.cases,
-        complete: tally.complete,
         is_open: false,
     }
 }
 
-// The last line, with the counts.
+// The last line, with the count of cases.
 fn ended(out: &mut [u8], tally: Tally) -> Tally {
-    let mut at = text::word(out, tally.at, b"cases ", tally.cases);
-    at = text::word(out, at, b" complete ", tally.complete);
-    at = text::put(out, at, b"\n");
+    let mut at = answers::word(out, tally.at, b"cases ", tally.cases);
+    at = answers::put(out, at, b"\n");
     closed(out, at, tally)
 }
 
 // A frame that is cut short, or of no kind.
 fn bad(out: &mut [u8], tally: Tally) -> Tally {
-    let at = text::put(out, tally.at, b"bad frame\n");
+    let at = answers::put(out, tally.at, b"bad frame\n");
     closed(out, at, tally)
 }
 
@@ -74,14 +66,9 @@ fn next(record: &mut [u8], list: &mut [u32], out: &mut [u8], tally: Tally) -> Ta
     if !case.is_whole {
         return bad(out, tally);
     }
-    let mut complete = tally.complete;
-    if case.is_complete {
-        complete = more(complete);
-    }
     Tally {
         at: flushed(out, case.at),
         cases: more(tally.cases),
-        complete: complete,
         is_open: true,
     }
 }
@@ -91,7 +78,6 @@ fn all(record: &mut [u8], list: &mut [u32], out: &mut [u8]) {
     let mut tally = Tally {
         at: 0,
         cases: 0,
-        complete: 0,
         is_open: true,
     };
     let mut turns = u64::MAX;

@@ -61,12 +61,11 @@ fn run_line(length: usize, record: &[u8]) -> Line {
         0 => counts(record, &list),
         _ => Counts::default(),
     };
-    let (ramps, released, held) = (counts.ramps, counts.released, counts.held);
     let words = answer_words(&answer);
     let list = digest::of_list(&list);
     Line {
-        text: format!("run {words} list {list} ramps {ramps} released {released} held {held}"),
-        complete: ramps > 0 && released > 0 && held > 0,
+        text: format!("run {words} list {list}"),
+        complete: counts.ramps > 0 && counts.released > 0 && counts.held > 0,
     }
 }
 

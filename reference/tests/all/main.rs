@@ -1,8 +1,12 @@
 //! The tests of the reference, in one program.
 
+mod as_text;
 mod by_hand;
+mod compare;
 mod edges;
+mod examples;
 mod order;
+mod program;
 mod random;
 mod reading;
 mod running;

@@ -68,3 +68,10 @@ pub fn example_draft() -> Draft {
     let row = vec![1000, 0, 0, 500, 300];
     Draft::new((2000, 3000), vec![first, second], vec![row; 3])
 }
+
+/// The lines of a text that say something, without comments.
+pub fn without_comments(text: &str) -> String {
+    let said = text.lines().map(|line| line.split('#').next().unwrap());
+    let kept = said.map(str::trim_end).filter(|line| !line.is_empty());
+    kept.map(|line| format!("{line}\n")).collect()
+}

@@ -2,7 +2,7 @@
 
 use crate::support::*;
 use reference::print::printed_run;
-use reference::text::{record_of as parse, schedule_of};
+use reference::text::{decoded, record_of as parse, schedule_of};
 
 #[test]
 fn the_example_byte_by_byte() {
@@ -94,7 +94,7 @@ fn numbers_past_the_limits_are_kept() {
 const HEAD: &str = "steps 1\ngate capacity 1\ncell v 1 w 1 b 0 jam 1 capacity 1\n";
 
 /// What follows the head, and what is said of it.
-const FAULTY: [(&str, &str); 21] = [
+const FAULTY: [(&str, &str); 30] = [
     ("lane 3", "line 4: unknown statement 'lane'"),
     ("row\nsteps 1", "line 5: 'steps' stands twice"),
     ("gate capacity 1", "line 4: 'gate' stands twice"),
@@ -131,7 +131,42 @@ const FAULTY: [(&str, &str); 21] = [
         "line 5: there is no byte 52 in a record of 52",
     ),
     ("repeat 2 row", "line 1: steps is 1, but there are 2 rows"),
+    ("row 5", WRONG_COUNT_1),
+    ("repeat 1 row 5 0 0 0", WRONG_COUNT_4),
+    (
+        "row 5 7 0",
+        "line 4: cell 1 has no ramp, but arrivals of 7 there",
+    ),
+    (
+        "row 5 0 7",
+        "line 4: cell 1 has no ramp, but release of 7 there",
+    ),
+    (
+        "repeat 1 row ramp 1 release 7",
+        "line 4: cell 1 has no ramp, but release of 7 there",
+    ),
+    (
+        "\nrow ramp 1 arrivals 7 release 0",
+        "line 5: cell 1 has no ramp, but arrivals of 7 there",
+    ),
+    (
+        "unchecked",
+        "line 4: 'row' is missing at the end of the line",
+    ),
+    (
+        "unchecked cell v 1",
+        "line 4: only a row can be unchecked, not 'cell'",
+    ),
+    (
+        "unchecked row gate x",
+        "line 4: gate should be a number, not 'x'",
+    ),
 ];
+
+const WRONG_COUNT_1: &str = "line 4: a row has 3 numbers (the gate's arrivals, \
+    then arrivals and release of each cell; cells: 1), not 1";
+const WRONG_COUNT_4: &str = "line 4: a row has 3 numbers (the gate's arrivals, \
+    then arrivals and release of each cell; cells: 1), not 4";
 
 #[test]
 fn faulty_lines_are_named() {
@@ -141,6 +176,48 @@ fn faulty_lines_are_named() {
     }
     let error = parse("steps 0\n\n").unwrap_err();
     assert_eq!(error.to_string(), "line 2: the text ends without 'gate'");
+}
+
+#[test]
+fn unchecked_rows_are_taken_as_they_are() {
+    let refusal = |rows: &str| printed_run(&record_of(&format!("{HEAD}{rows}")));
+    assert_eq!(refusal("unchecked row 5"), "refused 4 0 0\n");
+    assert_eq!(refusal("unchecked row 5 0 0 0"), "refused 4 0 0\n");
+    assert_eq!(refusal("unchecked row 5 0 7"), "refused 6 0 0\n");
+    assert_eq!(
+        refusal("repeat 1 unchecked row ramp 1 release 7"),
+        "refused 6 0 0\n"
+    );
+    let sound = "row gate 5 ramp 1 arrivals 0 release 0";
+    assert_eq!(refusal(&format!("unchecked {sound}")), refusal(sound));
+}
+
+#[test]
+fn a_byte_order_mark_is_skipped() {
+    let marked = format!("\u{FEFF}{EXAMPLE}");
+    assert_eq!(record_of(&marked), record_of(EXAMPLE));
+    assert_eq!(schedule_of("\u{FEFF}1 2").unwrap(), [1, 2]);
+    let error = parse("\u{FEFF}lane 3").unwrap_err();
+    assert_eq!(error.to_string(), "line 1: unknown statement 'lane'");
+}
+
+#[test]
+fn empty_texts_and_other_bytes_are_named_with_a_line() {
+    let said = |text: &str| parse(text).unwrap_err().to_string();
+    assert_eq!(said(""), "line 1: the text is empty");
+    assert_eq!(said("\u{FEFF}"), "line 1: the text is empty");
+    assert_eq!(
+        said("# a comment\n\n# another"),
+        "line 3: the text ends without 'gate'"
+    );
+    assert_eq!(decoded(EXAMPLE.as_bytes()), Ok(EXAMPLE));
+    let error = decoded(b"steps 1\n# caf\xE9\n").unwrap_err();
+    assert_eq!(error.to_string(), "line 2: byte 233 is not UTF-8 text here");
+    let cut_short = decoded(b"\n\n\xC3").unwrap_err();
+    assert_eq!(
+        cut_short.to_string(),
+        "line 3: byte 195 is not UTF-8 text here"
+    );
 }
 
 #[test]

@@ -13,13 +13,16 @@ use reference::trials::{all_cases, input, output};
 use std::collections::BTreeSet;
 use std::sync::OnceLock;
 
-/// The cases and their lines, made once for all tests.
-fn made() -> &'static (Vec<Case>, Vec<String>) {
-    static MADE: OnceLock<(Vec<Case>, Vec<String>)> = OnceLock::new();
+/// Cases, their lines, and which of them are complete.
+type Made = (Vec<Case>, Vec<String>, Vec<bool>);
+
+/// All cases, made once for all tests.
+fn made() -> &'static Made {
+    static MADE: OnceLock<Made> = OnceLock::new();
     MADE.get_or_init(|| {
         let cases = all_cases();
-        let lines = cases.iter().map(|case| line(case).text).collect();
-        (cases, lines)
+        let (lines, complete) = cases.iter().map(line).map(|l| (l.text, l.complete)).unzip();
+        (cases, lines, complete)
     })
 }
 
@@ -38,13 +41,6 @@ fn after(line: &str, word: &str) -> u64 {
 /// A line's number: the word after the operation.
 fn number(line: &str) -> u64 {
     line.split(' ').nth(1).unwrap().parse().unwrap()
-}
-
-fn is_complete(line: &str) -> bool {
-    line.starts_with("run 0 ")
-        && ["ramps", "released", "held"]
-            .iter()
-            .all(|word| after(line, word) > 0)
 }
 
 /// Where group 4 starts: after the last step.
@@ -156,7 +152,7 @@ fn truncated_input_is_rejected() {
         "frame 1 at byte 7: the input ends in the record: 2 bytes wanted, 1 left"
     );
     assert!(output(&two.concat()).is_err());
-    assert_eq!(output(&[]), Ok("cases 0 complete 0\n".to_string()));
+    assert_eq!(output(&[]), Ok("cases 0\n".to_string()));
 }
 
 #[test]
@@ -177,7 +173,7 @@ fn frames_beyond_their_limits_are_rejected() {
 
 #[test]
 fn every_case_comes_back_from_its_frame() {
-    let (cases, _) = made();
+    let (cases, ..) = made();
     let bytes: Vec<u8> = cases.iter().flat_map(encoded).collect();
     assert_eq!(&decode(&bytes).unwrap(), cases);
     // The same each time, and below 5 MB.
@@ -187,15 +183,15 @@ fn every_case_comes_back_from_its_frame() {
 
 #[test]
 fn the_first_lines_are_those_of_the_printed_run() {
-    let (_, lines) = made();
+    let (_, lines, complete) = made();
     // Present 1890 + 3309 + 4000 + 2100. The gate and cell 1 are held in all
     // three steps; 900 is released.
     let start = "run 0 0 0 total 33098 exits 3701 present 11299 digest ";
     assert!(lines[0].starts_with("read 0 0 steps 3 digest "));
     assert!(lines[1].starts_with(start));
-    assert!(lines[1].ends_with(" ramps 1 released 900 held 6"));
+    assert!(complete[1]);
     assert!(lines[2].starts_with("run 11 0 0 total 0 exits 0 present 0 digest "));
-    assert!(lines[2].ends_with(" ramps 0 released 0 held 0"));
+    assert!(!complete[2]);
     // An empty list has digest 0.
     assert_eq!(after(&lines[3], "list"), 0);
     assert!(lines[4].starts_with(start));
@@ -212,24 +208,21 @@ fn a_lent_list_is_as_agreed() {
     let mut table = lent(12);
     run(&record_of(EXAMPLE), &mut table);
     assert_eq!(table[9..], [66, 73, 80]);
-    let (_, lines) = made();
+    let (_, lines, _) = made();
     assert_eq!(after(&lines[4], "list"), of_list(&table));
 }
 
 #[test]
 fn the_last_line_counts() {
-    let (cases, lines) = made();
-    let complete = lines.iter().filter(|line| is_complete(line)).count();
+    let (cases, ..) = made();
     let out = output(&input()).unwrap();
     assert_eq!(out.lines().count(), cases.len() + 1);
-    let last = format!("cases {} complete {complete}\n", cases.len());
-    assert!(out.ends_with(&last));
-    assert!(complete >= 250);
+    assert!(out.ends_with(&format!("cases {}\n", cases.len())));
 }
 
 #[test]
 fn there_are_enough_cases_of_each_kind() {
-    let (cases, lines) = made();
+    let (cases, lines, complete) = made();
     let roads = roads_start(cases);
     let count = |from: usize, word: &str| {
         let lines = lines[from..].iter();
@@ -241,8 +234,7 @@ fn there_are_enough_cases_of_each_kind() {
     assert!(count(roads, "judge ") >= 120);
     assert!(count(0, "step 0 ") >= 200);
     // On the random roads alone.
-    let complete = lines[roads..].iter().filter(|line| is_complete(line));
-    assert!(complete.count() >= 250);
+    assert!(complete[roads..].iter().filter(|&&c| c).count() >= 250);
     assert!(count(roads, "run 9 ") >= 10 && count(roads, "run 10 ") >= 10);
     assert!(count(roads, "run 11 ") >= 10);
     assert!(count(roads, "judge 0 ") >= 60);
@@ -251,7 +243,7 @@ fn there_are_enough_cases_of_each_kind() {
 
 #[test]
 fn every_refusal_of_every_operation_occurs() {
-    let (_, lines) = made();
+    let (_, lines, _) = made();
     let found = |word: &str| -> BTreeSet<u64> {
         let lines = lines.iter().filter(|line| line.starts_with(word));
         lines.map(|line| number(line)).collect()
@@ -266,27 +258,27 @@ fn every_refusal_of_every_operation_occurs() {
 
 #[test]
 fn random_roads_have_every_n_and_the_longest_table() {
-    let (cases, lines) = made();
-    let mut complete = BTreeSet::new();
+    let (cases, _, complete) = made();
+    let mut sizes = BTreeSet::new();
     let mut longest = 0;
-    for (case, line) in cases.iter().zip(lines).skip(roads_start(cases)) {
+    for (case, &complete) in cases.iter().zip(complete).skip(roads_start(cases)) {
         let Case::Run { length, record } = case else {
             continue;
         };
         let (n, steps) = (record[5], [record[6], record[7]]);
-        if is_complete(line) {
-            complete.insert(n);
+        if complete {
+            sizes.insert(n);
             let wanted = (6, 1_257_u16.to_be_bytes(), 8_799);
             longest += usize::from((n, steps, *length) == wanted);
         }
     }
-    assert_eq!(complete, (1..=64).collect());
+    assert_eq!(sizes, (1..=64).collect());
     assert_eq!(longest, 1);
 }
 
 #[test]
 fn the_run_s_own_rows_are_accepted_with_its_state() {
-    let (cases, lines) = made();
+    let (cases, lines, _) = made();
     let mut own = 0;
     for (case, judged) in cases.iter().zip(lines) {
         let Case::Judge { schedule, record } = case else {

@@ -1,4 +1,7 @@
 -- `moves::counted` meets its contract. Assumes nothing.
+use mathlib.Core.Path.{ap}
+use Prim.Native.Nat.{ℕ, _+_}
+use Rattle.road.specs.declared.State.{State}
 use Rattle.model.specs.Move.{countedOf}
 use native.Mathlib.Omega.{arith}
 use borrow.Author.Needs.{needs}
@@ -14,9 +17,21 @@ add-t c = search needs
 add-t-2 : tie.Need-add-t-2
 add-t-2 c = omega (arith, c .before .before .present .ensures, c .before .before .before .pre .total, c .before .before .before .pre .present)
 
+-- a state with one step more, and a sum added to its total
+abbrev added : State → ℕ → State
+added s sum = record {
+  done = s .done + 1;
+  total = s .total + sum;
+  «gate_queue» = s .«gate_queue»;
+  «gate_cumulative» = s .«gate_cumulative»;
+  held = s .held;
+  queue = s .queue;
+  cumulative = s .cumulative;
+}
+
 returns : tie.Need-returns
 unfolding countedOf
-returns c = simp (c .before .before .present .ensures)
+returns c = ap (added (c .before .before .before .args .s)) (c .before .before .present .ensures)
 
 pub counted-spec : {M : Type 1} → statement M
 counted-spec = tie.close (tie.spec present-requires add-t add-t-2 returns)

@@ -41,7 +41,7 @@ refused-requires-2 : tie.Need-refused-requires-2
 refused-requires-2 c κs = search needs
 
 returns-2 : tie.Need-returns-2
-returns-2 c = c .refused2 .ensures ∙ answer-version (c .before .before .before .before .before .before .args .bytes .now) (c .before .before .number .result) (lengthy (c .before .before .before)) (c .before .before .number .ensures .0) (c .before .if2 .taken)
+returns-2 c = c .refused2 .ensures ∙ answer-version (c .before .before .before .before .before .before .args .bytes .now) (c .before .before .number .result) (lengthy (c .before .before .before)) (c .before .before .number .ensures .0) (search needs)
 
 number-requires-2 : tie.Need-number-requires-2
 number-requires-2 c κs = let l = long (c .before .before) in search needs

@@ -25,7 +25,7 @@ found c =
     let l = c .before .before .before .before .before .before .before .before .before .before .before .loop in
     place-fault (a .t1) (a .t2) (a .row .now) (a .y .now) (l .share) (l .cumulative) (l .demand) (l .i)
     (c .before .before .before .before .before .supply .result) (c .before .before .before .room .result) (c .before .entering .result) (refusalNumber (c .outflow-refusal .result))
-    (l .inv .carried) (c .before .before .before .before .before .supply .ensures) (c .before .before .before .room .ensures) (c .before .entering .ensures) (c .outflow-refusal .ensures)
+    (l .inv .carried) (c .before .before .before .before .before .before .before .before .before .before .loop-test .taken) (c .before .before .before .before .before .supply .ensures) (c .before .before .before .room .ensures) (c .before .entering .ensures) (c .outflow-refusal .ensures)
 
 gate-demand-requires : tie.Need-gate-demand-requires Inv-loop μ-loop
 gate-demand-requires c κs = search needs
@@ -149,7 +149,7 @@ returns-3 : tie.Need-returns-3 Inv-loop μ-loop
 returns-3 c =
     let a = c .before .before .before .before .before .before .before .args in
     let l = c .before .before .before .loop in
-    none-at-all (a .t1) (a .t2) (a .row .now) (a .y .now) (l .share) (l .cumulative) (l .demand) (l .i) (l .inv) (c .before .before .loop-test .left) (c .before .before .before .before .before .before .before .pre .road) (omega arith)
+    none-at-all (a .t1) (a .t2) (a .row .now) (a .y .now) (l .share) (l .cumulative) (l .demand) (l .i) (l .inv) (c .before .before .loop-test .left) (omega arith)
 
 pub outflows-fault-spec : {M : Type 1} → statement M
 outflows-fault-spec =

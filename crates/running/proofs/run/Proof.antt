@@ -19,7 +19,7 @@ without-state-requires : tie.Need-without-state-requires
 without-state-requires c κs = search needs
 
 returns : tie.Need-returns
-returns c = refused-promise (c .before .before .before .before .before .before .args .bytes .now) (c .before .before .before .before .before .before .args .out .now) (answered (c .before .before .before .read .result)) (c .before .before .before .read .ensures) (λ z. c .before .if1 .taken (c .before .before .number .ensures ∙ z)) _ (ap ends.answered (c .without-state .ensures))
+returns c = refused-promise (c .before .before .before .before .before .before .args .bytes .now) (c .before .before .before .before .before .before .args .out .now) (answered (c .before .before .before .read .result)) (c .before .before .before .read .ensures) (search needs) _ (ap ends.answered (c .without-state .ensures))
 
 add-if2 : tie.Need-add-if2
 add-if2 c = let z = size (c .before .before .before .before .before .before .before .before .args .bytes .now) (c .before .before .before .before .before .before .before .before .args .out .now) (answered (c .before .before .before .before .before .read .result)) (c .before .before .before .before .before .read .ensures) (sym (c .before .before .before .before .number .ensures) ∙ c .before .before .before .if1 .left) in omega (arith, z .cells)

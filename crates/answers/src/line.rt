@@ -1,0 +1,51 @@
+// The line of each operation's answer, put from `at` on; each function answers where it ends.
+use crate::text;
+use road::Ended;
+use road::Reading;
+use road::Road;
+use road::Stepped;
+
+fn ended(out: &mut [u8], at: usize) -> usize {
+    text::put(out, at, b"\n")
+}
+
+// Number, step, place and sums of an answer.
+fn answer(out: &mut [u8], at: usize, answer: Ended) -> usize {
+    let refusal = answer.refusal;
+    let mut next = text::word(out, at, b" ", refusal.number() as u64);
+    next = text::word(out, next, b" ", answer.step as u64);
+    next = text::word(out, next, b" ", answer.place as u64);
+    text::sums(out, next, answer.road, answer.state)
+}
+
+pub fn of_reading(out: &mut [u8], at: usize, reading: Reading) -> usize {
+    let refusal = reading.refusal;
+    let mut next = text::word(out, at, b"read ", refusal.number() as u64);
+    next = text::word(out, next, b" ", reading.place as u64);
+    next = text::word(out, next, b" steps ", reading.steps as u64);
+    let number = digest::of(reading.road, reading.state);
+    next = text::word(out, next, b" digest ", number as u64);
+    ended(out, next)
+}
+
+// A run's line has the digest of the list that was lent.
+pub fn of_run(out: &mut [u8], at: usize, run: Ended, list: &[u32]) -> usize {
+    let mut next = text::put(out, at, b"run");
+    next = answer(out, next, run);
+    next = text::word(out, next, b" list ", digest::of_list(list) as u64);
+    ended(out, next)
+}
+
+pub fn of_judging(out: &mut [u8], at: usize, judging: Ended) -> usize {
+    let mut next = text::put(out, at, b"judge");
+    next = answer(out, next, judging);
+    ended(out, next)
+}
+
+pub fn of_step(out: &mut [u8], at: usize, road: Road, stepped: Stepped) -> usize {
+    let refusal = stepped.refusal;
+    let mut next = text::word(out, at, b"step ", refusal.number() as u64);
+    next = text::word(out, next, b" ", stepped.place as u64);
+    next = text::sums(out, next, road, stepped.state);
+    ended(out, next)
+}

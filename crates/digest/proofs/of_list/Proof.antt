@@ -1,0 +1,51 @@
+-- `digest::of_list` is safe and ends. Assumes nothing.
+use Prim.Native.Nat.{_≤_, _-_}
+use lib.ListN.{length}
+use borrow.Author.Needs.{needs}
+use Rattle.digest.proofs.of_list.Statement.{statement}
+use Rattle.digest.proofs.of_list.Tie as tie
+
+abbrev Inv-loop : tie.InvT-loop
+Inv-loop list d₀ i₀ d i = i ≤ length list
+
+abbrev μ-loop : tie.MeasureT-loop
+μ-loop list d₀ i₀ d i = length list - i
+
+loop-holds : tie.Need-loop-holds Inv-loop μ-loop
+loop-holds c = search needs
+
+mul-fed : tie.Need-mul-fed Inv-loop μ-loop
+mul-fed c = search needs
+
+shared-slice-read-fed : tie.Need-shared-slice-read-fed Inv-loop μ-loop
+shared-slice-read-fed c = search needs
+
+fed-requires : tie.Need-fed-requires Inv-loop μ-loop
+fed-requires c κs = search needs
+
+add-i : tie.Need-add-i Inv-loop μ-loop
+add-i c = search needs
+
+loop-less : tie.Need-loop-less Inv-loop μ-loop
+loop-less c = search needs
+
+loop-again : tie.Need-loop-again Inv-loop μ-loop
+loop-again c = search needs
+
+returns : tie.Need-returns Inv-loop μ-loop
+returns c = search needs
+
+pub of-list-spec : {M : Type 1} → statement M
+of-list-spec =
+    tie.close
+    (tie.spec
+    Inv-loop
+    μ-loop
+    loop-holds
+    mul-fed
+    shared-slice-read-fed
+    fed-requires
+    add-i
+    loop-less
+    loop-again
+    returns)

@@ -1,0 +1,167 @@
+//! A record told as text, the way back from `text`.
+//!
+//! Every record can be told whose bytes are a head, whole cells and whole
+//! numbers, refused ones too. The text is canonical: zeros that need no name
+//! have none, like rows that follow each other are one line, and `damage`
+//! stands last.
+
+use crate::draft::CellDraft;
+use crate::record::{self, HEAD_BYTES};
+use std::fmt::Write;
+
+/// Most rows that a text can have.
+const MAX_ROWS: usize = u16::MAX as usize;
+
+/// The text that gives these bytes again, or why there is none.
+pub fn text_of(bytes: &[u8]) -> Result<String, String> {
+    let told = Told::of(bytes)?;
+    let mut out = format!("steps {}\n", told.rows.len());
+    put(&mut out, format_args!("gate capacity {}", told.gate.0));
+    put_named(&mut out, "queue", told.gate.1);
+    out.push('\n');
+    for (i, cell) in told.cells.iter().enumerate() {
+        put_cell(&mut out, cell);
+        put(&mut out, format_args!("  # cell {}\n", i + 1));
+    }
+    let mut step = 0;
+    for like in told.rows.chunk_by(|a, b| a == b) {
+        put_rows(&mut out, &told.cells, like, step);
+        step += like.len();
+    }
+    put_damage(&mut out, bytes, &told);
+    Ok(out)
+}
+
+/// A record's values as far as its bytes go.
+struct Told {
+    gate: (u32, u32),
+    cells: Vec<CellDraft>,
+    rows: Vec<Vec<u32>>,
+}
+
+impl Told {
+    /// Cells as many as byte 5 says and the bytes have, then rows to the end.
+    fn of(bytes: &[u8]) -> Result<Told, String> {
+        let size = bytes.len();
+        if size < HEAD_BYTES {
+            return Err(format!(
+                "a record of {size} bytes has no whole head, which takes {HEAD_BYTES}"
+            ));
+        }
+        let n = record::cells_of(bytes);
+        let after_cells = record::size(n, 0).min(size);
+        let cells = whole_cells(&bytes[HEAD_BYTES..after_cells])?;
+        let rows = whole_rows(&bytes[after_cells..], 1 + 2 * n)?;
+        let gate = (record::u32_at(bytes, 8), record::u32_at(bytes, 12));
+        Ok(Told { gate, cells, rows })
+    }
+}
+
+/// The cells in these bytes, which must not end within one.
+fn whole_cells(bytes: &[u8]) -> Result<Vec<CellDraft>, String> {
+    let parts = bytes.chunks_exact(record::CELL_BYTES);
+    if !parts.remainder().is_empty() {
+        let cell = 1 + bytes.len() / record::CELL_BYTES;
+        return Err(format!("the record ends in the middle of cell {cell}"));
+    }
+    Ok(parts.map(CellDraft::decode).collect())
+}
+
+/// The rows in these bytes, the last perhaps short, but not within a number.
+fn whole_rows(bytes: &[u8], width: usize) -> Result<Vec<Vec<u32>>, String> {
+    let parts = bytes.chunks_exact(4);
+    if !parts.remainder().is_empty() {
+        let step = bytes.len() / (4 * width);
+        return Err(format!(
+            "the record ends in the middle of a number, in the row of step {step}"
+        ));
+    }
+    let numbers: Vec<u32> = parts.map(|part| record::u32_at(part, 0)).collect();
+    let rows: Vec<Vec<u32>> = numbers.chunks(width).map(<[u32]>::to_vec).collect();
+    match rows.len() {
+        0..=MAX_ROWS => Ok(rows),
+        count => Err(format!(
+            "the record has {count} rows, a text at most {MAX_ROWS}"
+        )),
+    }
+}
+
+/// A cell's line, without its end.
+fn put_cell(out: &mut String, cell: &CellDraft) {
+    let (v, w, b) = (cell.v, cell.w, cell.b);
+    put(out, format_args!("cell v {v} w {w} b {b}"));
+    put_named(out, "ramp", u32::from(cell.ramp));
+    let (jam, capacity) = (cell.jam, cell.capacity);
+    put(out, format_args!(" jam {jam} capacity {capacity}"));
+    put_named(out, "held", cell.held);
+    put_named(out, "queue", cell.queue);
+}
+
+/// One line for rows that are all alike, the first of them that of `step`.
+fn put_rows(out: &mut String, cells: &[CellDraft], like: &[Vec<u32>], step: usize) {
+    let (row, count) = (&like[0], like.len());
+    if count > 1 {
+        put(out, format_args!("repeat {count} "));
+    }
+    let whole = row.len() == 1 + 2 * cells.len();
+    if !whole || !only_at_ramps(cells, row) {
+        out.push_str("unchecked ");
+    }
+    out.push_str("row");
+    match whole {
+        true => put_places(out, row),
+        false => row.iter().for_each(|x| put(out, format_args!(" {x}"))),
+    }
+    match count {
+        1 => put(out, format_args!("  # step {step}\n")),
+        _ => put(
+            out,
+            format_args!("  # steps {step} to {}\n", step + count - 1),
+        ),
+    }
+}
+
+/// The numbers of a whole row that aren't 0, by name.
+fn put_places(out: &mut String, row: &[u32]) {
+    put_named(out, "gate", row[0]);
+    for (i, pair) in row[1..].chunks(2).enumerate() {
+        if pair != [0, 0] {
+            put(out, format_args!(" ramp {}", i + 1));
+            put_named(out, "arrivals", pair[0]);
+            put_named(out, "release", pair[1]);
+        }
+    }
+}
+
+/// No number of a whole row stands at a cell without a ramp.
+fn only_at_ramps(cells: &[CellDraft], row: &[u32]) -> bool {
+    let mut pairs = cells.iter().zip(row[1..].chunks(2));
+    pairs.all(|(cell, pair)| cell.ramp != 0 || pair == [0, 0])
+}
+
+/// A `damage` line for each field of the head that the rest doesn't give.
+fn put_damage(out: &mut String, bytes: &[u8], told: &Told) {
+    let fields = [
+        ("length", record::u32_at(bytes, 0) as usize, bytes.len() - 4),
+        ("version", usize::from(bytes[4]), 1),
+        ("cells", record::cells_of(bytes), told.cells.len()),
+        ("steps", record::steps_of(bytes), told.rows.len()),
+    ];
+    for (name, found, given) in fields {
+        if found != given {
+            put(out, format_args!("damage {name} {found}\n"));
+        }
+    }
+}
+
+/// A name and its number, if that isn't 0.
+fn put_named(out: &mut String, name: &str, number: u32) {
+    if number != 0 {
+        put(out, format_args!(" {name} {number}"));
+    }
+}
+
+/// Words at the end of the text.
+fn put(out: &mut String, words: std::fmt::Arguments) {
+    out.write_fmt(words).expect("a string takes every word");
+}
