@@ -1,7 +1,9 @@
 -- docs/MODEL.md, 'The record': where each field stands, and the numbers, columns and rows that the bytes give. Assumes nothing.
 use mathlib.Core.List.{List}
-use Prim.Native.Nat.{ℕ, zero, suc, _+_, _*_}
-use Rattle.road.specs.Road.{at, zeros}
+use Prim.Native.Nat.{ℕ, zero, suc, _+_, _*_, _≤_}
+use lib.ListN.{length}
+use Rattle.numbers.specs.Lists.{at}
+use Rattle.road.specs.Road.{mostCells, zeros}
 use Rattle.rows.specs.Rows.{fillOf, listOf}
 
 -- bytes 0 to 3: the number of bytes that follow them
@@ -99,6 +101,15 @@ columnOf s offset w n = fillOf (fieldOf s offset w) n zeros
 abbrev pub entryOf : List ℕ → ℕ → ℕ → ℕ → ℕ
 entryOf s n t k = numberOf s (rowStart n t + numberSize * k) numberSize
 
+-- how many numbers a row of n cells has
+abbrev pub rowNumbers : ℕ → ℕ
+rowNumbers n = 1 + 2 * n
+
 -- the row of step t: 1 + 2n numbers in the record's order
 abbrev pub recordRow : List ℕ → ℕ → ℕ → List ℕ
-recordRow s n t = listOf (entryOf s n t) (1 + 2 * n)
+recordRow s n t = listOf (entryOf s n t) (rowNumbers n)
+
+-- what taking the row of step t of n cells asks: the bytes hold it
+pub record HoldsRow (s : List ℕ) (n t : ℕ) : Type 0 where
+  pub cells : n ≤ mostCells
+  pub row : rowStart n t + rowSize n ≤ length s

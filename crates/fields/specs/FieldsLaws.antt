@@ -1,16 +1,18 @@
 -- Laws of the record's fields. Assumes nothing.
 use mathlib.Core.Path.{_≡_, refl, ap, _∙_}
 use mathlib.Core.List.{List}
-use Prim.Native.Nat.{ℕ, zero, suc, _+_, _*_, _^_, _≤_, _<_}
+use Prim.Native.Nat.{ℕ, _+_, _*_, _^_, _≤_, _<_}
 use native.Mathlib.Nat.{pow-suc, pow-le-pow-right, mul-le-mul-right, suc-mul}
 use native.Mathlib.Numerals.{add-one}
 use native.Mathlib.Omega.{arith}
-use lib.ListN.{length, take, drop, replicate, length-replicate}
+use lib.ListN.{length, take, drop, set, replicate, length-replicate}
 use lib.Seq.{take-at}
-use Rattle.road.specs.Road.{at, zeros}
+use Rattle.numbers.specs.Lists.{at}
+use Rattle.road.specs.Road.{mostCells, zeros}
+use Rattle.road.specs.RoadLaws.{length-zeros, zeros-at}
 use Rattle.rows.specs.Rows.{fillOf}
-use Rattle.rows.specs.RowsLaws.{fill-at, fill-past, fill-list, length-fill, length-list, list-at}
-use Rattle.fields.specs.Fields.{rowSize, rowStart, numberOf, fieldOf, columnOf, entryOf, recordRow}
+use Rattle.rows.specs.RowsLaws.{fill-at, fill-more, fill-past, fill-list, length-fill, length-list, list-at}
+use Rattle.fields.specs.Fields.{rowSize, rowStart, numberOf, fieldOf, columnOf, entryOf, recordRow, HoldsRow}
 
 pub number-more : (s : List ℕ) (i w : ℕ) → numberOf s i (w + 1) ≡ numberOf s i w * 256 + at s (i + w)
 unfolding numberOf
@@ -22,18 +24,6 @@ power-more k r b h l = rw (add-one, pow-suc) (omega arith)
 
 pub power-small : (k : ℕ) → k ≤ 3 → 256 ^ k ≤ 16777216
 power-small k h = let p : 0 < 256 = omega arith in pow-le-pow-right p h
-
--- an array of 64 zeros, past its end too
-pub length-zeros : length zeros ≡ 64
-length-zeros = length-replicate {A = ℕ} 64 0
-
-repeat-at : (k i : ℕ) → at (replicate k 0) i ≡ 0
-repeat-at zero i = refl
-repeat-at (suc k) zero = refl
-repeat-at (suc k) (suc i) = repeat-at k i
-
-pub zeros-at : (i : ℕ) → at zeros i ≡ 0
-zeros-at i = repeat-at 64 i
 
 -- a column l of n cells: an entry up to cell n is that cell's field, and an entry past it is 0
 pub record Column (s : List ℕ) (offset w n : ℕ) (l : List ℕ) : Type 0 where
@@ -48,6 +38,25 @@ column s offset w n h = record {
   past = λ i l. fill-past (fieldOf s offset w) n zeros i l ∙ zeros-at i;
 }
 
+-- the loop over a column's cells: the fields of the first i stand in l
+pub record Stored (s : List ℕ) (offset w n : ℕ) (l : List ℕ) (i : ℕ) : Type 0 where
+  pub within : i ≤ n
+  pub fields : l ≡ fillOf (fieldOf s offset w) i zeros
+
+module _ {s : List ℕ} {offset w n : ℕ} where
+  pub stored-none : Stored s offset w n zeros 0
+  unfolding fillOf
+  stored-none = record { within = omega arith; fields = refl }
+
+  module _ {l : List ℕ} {i : ℕ} (h : Stored s offset w n l i) where
+    pub stored-more : {x : ℕ} → i < n → x ≡ fieldOf s offset w i → Stored s offset w n (set l i x) (i + 1)
+    stored-more k e = record { within = omega arith; fields = cc (fill-more (fieldOf s offset w) i zeros, e, h .fields) }
+
+    pub stored-end : n ≤ i → l ≡ columnOf s offset w n
+    stored-end k =
+        let e : i ≡ n = omega (arith, h .within) in
+        h .fields ∙ ap (columnOf s offset w) e
+
 -- a row: its length, each of its numbers, and where its bytes end
 pub length-row : (s : List ℕ) (n t : ℕ) → length (recordRow s n t) ≡ 1 + 2 * n
 length-row s n t = length-list (entryOf s n t) (1 + 2 * n)
@@ -57,6 +66,10 @@ row-at s n t k l = list-at (entryOf s n t) (1 + 2 * n) k l
 
 pub row-within : (n t T : ℕ) → t < T → rowStart n t + rowSize n ≤ rowStart n T
 row-within n t T h = omega (arith, suc-mul t (rowSize n), mul-le-mul-right (rowSize n) h)
+
+-- bytes that hold T rows hold each
+pub holds-row : (s : List ℕ) (n t T : ℕ) → n ≤ mostCells → rowStart n T ≤ length s → t < T → HoldsRow s n t
+holds-row s n t T h k l = record { cells = h; row = omega (arith, row-within n t T l) }
 
 -- the numbers of a row, taken from the array that they were stored in
 pub row-taken : (s : List ℕ) (n t : ℕ) (r : List ℕ) → n ≤ 64

@@ -2,7 +2,7 @@
 ghost use mathlib.Core.Path.{_≡_};
 ghost use Prim.Native.Nat.{_+_, _*_, _^_, _≤_, _<_};
 ghost use lib.ListN.{length, take};
-ghost use Rattle.fields.specs.Fields.{shortSize, numberSize, cellSize, rowSize, rowStart, numberOf, columnOf, recordRow};
+ghost use Rattle.fields.specs.Fields.{shortSize, numberSize, cellSize, rowStart, numberOf, columnOf, recordRow, HoldsRow};
 
 // The version of the layout below.
 pub const VERSION: u32 = 1;
@@ -116,7 +116,7 @@ pub fn row_start(n: usize, t: usize) -> usize
 
 // The row of step `t` in the first 1 + 2n numbers: gate arrivals, then each cell's arrivals and release.
 pub fn row(bytes: &[u8], n: usize, t: usize) -> [u32; 129]
-    requires { ⌜ (n ≤ 64) × (rowStart n t + rowSize n ≤ length (now bytes)) ⌝ }
+    requires { ⌜ HoldsRow (now bytes) n t ⌝ }
     ensures { λ r. ⌜ take (1 + 2 * n) r ≡ recordRow (now (bytes .entry)) n t ⌝ }
 {
     let start = row_start(n, t);

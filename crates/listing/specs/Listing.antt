@@ -4,7 +4,7 @@ use mathlib.Core.List.{List, [], _∷_, _++_}
 use Prim.Native.Nat.{ℕ, zero, suc, _+_, _/_, _%_}
 use lib.Dec.{ltb}
 use Rattle.road.specs.declared.State.{State}
-use Rattle.road.specs.Road.{at}
+use Rattle.numbers.specs.Lists.{at}
 
 abbrev pub blank : ℕ
 blank = 32

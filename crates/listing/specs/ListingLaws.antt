@@ -11,9 +11,10 @@ use lib.ListN.{length, length-append}
 use borrow.Author.Tests.{lt-ltb, le-ltb, leb-true, leb-false}
 use Rattle.io.specs.Digits.{digits, Fewest}
 use Rattle.road.specs.declared.State.{State}
-use Rattle.road.specs.Road.{at}
-use Rattle.listing.specs.Placed.{Puts, placed-none, puts-more, Room, room}
-use Rattle.listing.specs.Listing.{blank, newline, mostWord, mostLine, digitsOf, decimalOf, wordOf, headerLine, lineOf, cellLines, linesOf, totalWord, exitsWord, refusedWord, totalLine, refusedLine}
+use Rattle.numbers.specs.Lists.{at}
+use Rattle.listing.specs.Placed.{Puts, placed-none, puts-more, Room, room, room-more, Text, text-room}
+use Rattle.listing.specs.Listing.{blank, newline, mostWord, mostLine, digitsOf, decimalOf, wordOf, totalWord, exitsWord, refusedWord}
+use Rattle.listing.specs.Listing.{headerLine, lineOf, cellLines, linesOf, totalLine, refusedLine}
 
 one-or-more : (b : Bool) (x y : ℕ) (front : List ℕ) (most : ℕ) → length front ≤ most → length (cond b (x ∷ []) (front ++ (y ∷ []))) ≤ suc most
 one-or-more true x y front most h = omega arith
@@ -57,15 +58,33 @@ decimal-most n k h f = go (leb k 20) refl
         let p : 10 ^ 20 ≤ 10 ^ (k - 1) = pow-le-pow-right {n = 10} (omega arith) {i = 20} {j = k - 1} (omega arith) in
         absurd (omega (arith, f .2 (omega arith)))
 
--- a number's digits and the byte after it, each put
-pub word-put : (a : List ℕ) (start n after k : ℕ) (text b : List ℕ) (m : ℕ) (c : List ℕ) (e : ℕ) → Fewest 10 1 n k → k ≤ 20 → text ≡ digits 10 k n
-    → Puts a start text b m → Puts b m (after ∷ []) c e → Puts a start (wordOf n after) c e
-word-put a start n after k text b m c e f l et p q =
-    rw (et ∙ decimal-digits 20 k n f l) at (puts-more a start text b m (after ∷ []) c e p q)
+-- the digits that io makes of a number
+pub record Made (n k : ℕ) (text : List ℕ) : Type 0 where
+  pub fewest : Fewest 10 1 n k
+  pub few : k ≤ 20
+  pub made : text ≡ digits 10 k n
+  pub count : length text ≡ k
 
--- what a word, and a line, leave of the room
-pub word-room : (a : List ℕ) (start n after : ℕ) (b : List ℕ) (m : ℕ) → Puts a start (wordOf n after) b m → Room a start b m mostWord
-word-room a start n after b m p = room a start (wordOf n after) b m mostWord p (word-length n after)
+-- they and the byte after them, each put, are a word
+pub word-put : {a : List ℕ} {start n after k : ℕ} {text b : List ℕ} {m : ℕ} {c : List ℕ} {e : ℕ}
+    → Made n k text → Text a start text b m → Text b m (after ∷ []) c e → Puts a start (wordOf n after) c e
+word-put {a} {start} {n} {after} {k} {text} {b} {m} {c} {e} d (Text.put p) (Text.put q) =
+    rw (d .made ∙ decimal-digits 20 k n (d .fewest) (d .few)) at (puts-more a start text b m (after ∷ []) c e p q)
+
+-- a word that was put, and what it leaves of the room
+pub data Word (a : List ℕ) (start n after : ℕ) (b : List ℕ) (m : ℕ) : Type 0 where
+  put : Puts a start (wordOf n after) b m → Word a start n after b m
+
+pub word-room : {a : List ℕ} {start n after : ℕ} {b : List ℕ} {m : ℕ} → Word a start n after b m → Room a start b m mostWord
+word-room {a} {start} {n} {after} {b} {m} (Word.put p) = room a start (wordOf n after) b m mostWord p (word-length n after)
+
+-- what is left after a text or a word, and a word
+module _ {a : List ℕ} {start n after : ℕ} {b : List ℕ} {m : ℕ} {c : List ℕ} {e : ℕ} where
+  pub named-room : {x : List ℕ} → Text a start x b m → Word b m n after c e → Room a start c e (length x + mostWord)
+  named-room t w = room-more (text-room t) (word-room w)
+
+  pub words-room : {k next : ℕ} → Word a start k next b m → Word b m n after c e → Room a start c e (mostWord + mostWord)
+  words-room v w = room-more (word-room v) (word-room w)
 
 line-length : (step place outflow held queue : ℕ) → length (lineOf step place outflow held queue) ≤ mostLine
 unfolding lineOf
@@ -87,7 +106,7 @@ line-length step place outflow held queue =
       word-length queue newline,
     )
 
-pub line-room : (a : List ℕ) (start step place outflow held queue : ℕ) (b : List ℕ) (m : ℕ) → Puts a start (lineOf step place outflow held queue) b m
+line-room : (a : List ℕ) (start step place outflow held queue : ℕ) (b : List ℕ) (m : ℕ) → Puts a start (lineOf step place outflow held queue) b m
     → Room a start b m mostLine
 line-room a start step place outflow held queue b m p =
     room a start (lineOf step place outflow held queue) b m mostLine p (line-length step place outflow held queue)
@@ -153,26 +172,25 @@ refused-room a start number step place b m p =
     ))
 
 -- the words of a line, put one after the other
-module _ (a : List ℕ) (start : ℕ) (b : List ℕ) (p : ℕ) (c : List ℕ) (q : ℕ) (d : List ℕ) (u : ℕ) where
-  pub line-put : (step place outflow held queue : ℕ) (e : List ℕ) (v : ℕ) (f : List ℕ) (w : ℕ)
-      → Puts a start (wordOf step blank) b p → Puts b p (wordOf place blank) c q → Puts c q (wordOf outflow blank) d u
-      → Puts d u (wordOf held blank) e v → Puts e v (wordOf queue newline) f w
+module _ {a : List ℕ} {start : ℕ} {b : List ℕ} {p : ℕ} {c : List ℕ} {q : ℕ} {d : List ℕ} {u : ℕ} {e : List ℕ} {v : ℕ} where
+  pub line-put : {step place outflow held queue : ℕ} {f : List ℕ} {w : ℕ}
+      → Word a start step blank b p → Word b p place blank c q → Word c q outflow blank d u → Word d u held blank e v → Word e v queue newline f w
       → Puts a start (lineOf step place outflow held queue) f w
   unfolding lineOf
-  line-put step place outflow held queue e v f w h i j k l =
+  line-put {f = f} {w = w} (Word.put h) (Word.put i) (Word.put j) (Word.put k) (Word.put l) =
       puts-more a start _ b p _ f w h (puts-more b p _ c q _ f w i (puts-more c q _ d u _ f w j (puts-more d u _ e v _ f w k l)))
 
-  pub total-put : (total exits : ℕ) (e : List ℕ) (v : ℕ)
-      → Puts a start totalWord b p → Puts b p (wordOf total blank) c q → Puts c q exitsWord d u → Puts d u (wordOf exits newline) e v
+  pub total-put : {total exits : ℕ} → Text a start totalWord b p → Word b p total blank c q → Text c q exitsWord d u → Word d u exits newline e v
       → Puts a start (totalLine total exits) e v
   unfolding totalLine
-  total-put total exits e v h i j k = puts-more a start _ b p _ e v h (puts-more b p _ c q _ e v i (puts-more c q _ d u _ e v j k))
+  total-put (Text.put h) (Word.put i) (Text.put j) (Word.put k) =
+      puts-more a start _ b p _ e v h (puts-more b p _ c q _ e v i (puts-more c q _ d u _ e v j k))
 
-  pub refused-put : (number step place : ℕ) (e : List ℕ) (v : ℕ)
-      → Puts a start refusedWord b p → Puts b p (wordOf number blank) c q → Puts c q (wordOf step blank) d u → Puts d u (wordOf place newline) e v
+  pub refused-put : {number step place : ℕ} → Text a start refusedWord b p → Word b p number blank c q → Word c q step blank d u → Word d u place newline e v
       → Puts a start (refusedLine number step place) e v
   unfolding refusedLine
-  refused-put number step place e v h i j k = puts-more a start _ b p _ e v h (puts-more b p _ c q _ e v i (puts-more c q _ d u _ e v j k))
+  refused-put (Text.put h) (Word.put i) (Word.put j) (Word.put k) =
+      puts-more a start _ b p _ e v h (puts-more b p _ c q _ e v i (puts-more c q _ d u _ e v j k))
 
 -- when the lines of i cells are put after those before
 pub record Listed (a : List ℕ) (start step n : ℕ) (y : List ℕ) (s : State) (b : List ℕ) (end i : ℕ) : Type 0 where
@@ -180,7 +198,7 @@ pub record Listed (a : List ℕ) (start step n : ℕ) (y : List ℕ) (s : State)
   pub puts : Puts a start (cellLines step y s i) b end
   pub room : Room a start b end (mostLine * i)
 
-module _ (a : List ℕ) (start step n : ℕ) (y : List ℕ) (s : State) where
+module _ {a : List ℕ} {start step n : ℕ} {y : List ℕ} {s : State} where
   pub listed-none : Listed a start step n y s a start 0
   unfolding cellLines
   listed-none = record {
@@ -189,13 +207,24 @@ module _ (a : List ℕ) (start step n : ℕ) (y : List ℕ) (s : State) where
     room = record { end = omega arith; same = refl };
   }
 
-  pub listed-more : (b : List ℕ) (end i : ℕ) (c : List ℕ) (m : ℕ) → Listed a start step n y s b end i → i < n
-      → Puts b end (lineOf step (i + 1) (at y (i + 1)) (at (s .held) i) (at (s .queue) i)) c m → Listed a start step n y s c m (i + 1)
-  unfolding cellLines
-  listed-more b end i c m h l p =
-      let z = line-room b end _ _ _ _ _ c m p in
-      record {
-        within = omega arith;
-        puts = rw (add-one i) (puts-more a start (cellLines step y s i) b end _ c m (h .puts) (rw (add-one i) at p));
-        room = record { end = omega (arith, z .end, h .room .end); same = z .same ∙ h .room .same };
-      }
+  module _ {b : List ℕ} {end i : ℕ} (h : Listed a start step n y s b end i) where
+    pub listed-more : {c : List ℕ} {m : ℕ} → i < n
+        → Puts b end (lineOf step (i + 1) (at y (i + 1)) (at (s .held) i) (at (s .queue) i)) c m → Listed a start step n y s c m (i + 1)
+    unfolding cellLines
+    listed-more {c} {m} l p =
+        let z = line-room b end _ _ _ _ _ c m p in
+        record {
+          within = omega arith;
+          puts = rw (add-one i) (puts-more a start (cellLines step y s i) b end _ c m (h .puts) (rw (add-one i) at p));
+          room = record { end = omega (arith, z .end, h .room .end); same = z .same ∙ h .room .same };
+        }
+
+    -- after the gate's line: what is left of the room, and the lines of the step
+    module _ (g : List ℕ) (from : ℕ) (p : Puts g from (lineOf step 0 (at y 0) (s .«gate_queue») 0) a start) where
+      pub listed-room : Room g from b end (mostLine + mostLine * i)
+      listed-room = room-more (line-room g from _ _ _ _ _ a start p) (h .room)
+
+      pub listed-end : n ≤ i → Puts g from (linesOf step y s n) b end
+      listed-end l =
+          let e : i ≡ n = omega (arith, h .within) in
+          puts-more g from _ a start _ b end p (rw e at (h .puts))

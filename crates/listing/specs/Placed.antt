@@ -6,7 +6,7 @@ use native.Mathlib.Nat.{add-suc, suc-add, add-zero}
 use native.Mathlib.Numerals.{add-one}
 use native.Mathlib.Omega.{arith}
 use lib.ListN.{length, getD, take, drop, set, length-append}
-use lib.Seq.{sets, length-sets, sets-eq, take-suc, take-at, length-take-le}
+use lib.Seq.{sets, length-sets, sets-eq, take-suc, take-at, take-all, length-take-le}
 
 -- the list with the text's bytes from index `at` on
 unfoldable pub placed : List ℕ → ℕ → List ℕ → List ℕ
@@ -54,6 +54,28 @@ placed-turn list at text i l =
     ∙ placed-more list at (take i text) (getD text i 0 ∷ [])
     ∙ ap (placed list at) (sym (take-suc text i 0 l) ∙ ap (λ (k : ℕ). take k text) (sym (add-one i)))
 
+-- the loop that copies a text: its first i bytes are placed
+pub record Copied (a : List ℕ) (at : ℕ) (text b : List ℕ) (i : ℕ) : Type 0 where
+  pub within : i ≤ length text
+  pub bytes : b ≡ placed a at (take i text)
+
+module _ {a : List ℕ} {at : ℕ} {text : List ℕ} where
+  pub copied-none : Copied a at text a 0
+  copied-none = record { within = omega arith; bytes = sym (placed-none a at) }
+
+  module _ {b : List ℕ} {i : ℕ} (h : Copied a at text b i) where
+    pub copied-length : length b ≡ length a
+    copied-length = ap length (h .bytes) ∙ length-placed a at (take i text)
+
+    pub copied-more : i < length text → Copied a at text (set b (at + i) (getD text i 0)) (i + 1)
+    copied-more l = record {
+      within = omega arith;
+      bytes = ap (λ (q : List ℕ). set q (at + i) (getD text i 0)) (h .bytes) ∙ placed-turn a at text i l;
+    }
+
+    pub copied-end : length text ≤ i → Puts a at text b (at + i)
+    copied-end l = (omega (arith, h .within), h .bytes ∙ ap (placed a at) (take-all i text l))
+
 pub puts-more : (a : List ℕ) (at : ℕ) (x b : List ℕ) (m : ℕ) (y c : List ℕ) (e : ℕ) → Puts a at x b m → Puts b m y c e → Puts a at (x ++ y) c e
 puts-more a at x b m y c e p q = (
   omega (arith, p .0, q .0, length-append x y),
@@ -67,3 +89,22 @@ pub record Room (a : List ℕ) (at : ℕ) (b : List ℕ) (m k : ℕ) : Type 0 wh
 
 pub room : (a : List ℕ) (at : ℕ) (x b : List ℕ) (m k : ℕ) → Puts a at x b m → length x ≤ k → Room a at b m k
 room a at x b m k p h = record { end = omega (arith, p .0); same = ap length (p .1) ∙ length-placed a at x }
+
+-- what a buffer holds after a text was put at its start: the text, counted by `end`, in a buffer as long as before
+pub record Holds (before text after : List ℕ) (end : ℕ) : Type 0 where
+  pub first : take end after ≡ text
+  pub within : end ≤ length after
+  -- this follows, and is what taking that part asks
+  pub counted : end ≡ length (take end after)
+  pub same : length after ≡ length before
+
+-- a text that was put, as a type from which laws infer the text and where it stands
+pub data Text (a : List ℕ) (at : ℕ) (x b : List ℕ) (m : ℕ) : Type 0 where
+  put : Puts a at x b m → Text a at x b m
+
+-- it leaves the room but its length, and what is put after it leaves less
+pub text-room : {a : List ℕ} {at : ℕ} {x b : List ℕ} {m : ℕ} → Text a at x b m → Room a at b m (length x)
+text-room {a} {at} {x} {b} {m} (Text.put p) = room a at x b m (length x) p (omega arith)
+
+pub room-more : {a : List ℕ} {at : ℕ} {b : List ℕ} {m j : ℕ} {c : List ℕ} {e k : ℕ} → Room a at b m j → Room b m c e k → Room a at c e (j + k)
+room-more g h = record { end = omega (arith, g .end, h .end); same = h .same ∙ g .same }

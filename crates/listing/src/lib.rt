@@ -1,6 +1,5 @@
 // The lines of the model's listing, put into a buffer: each contract gives the bytes.
 use road::State;
-ghost use mathlib.Core.Path.{_≡_};
 ghost use Prim.Native.Nat.{_+_, _*_, _≤_, _<_};
 ghost use lib.ListN.{length};
 ghost use Rattle.listing.specs.Listing.{mostWord, mostLine, wordOf, headerLine, lineOf, linesOf, totalLine, refusedLine};

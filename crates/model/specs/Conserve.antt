@@ -1,23 +1,25 @@
 -- Conservation: start plus arrivals equals present plus exits, after a step by any row that obeys the rules. Assumes nothing.
-use mathlib.Core.Path.{_≡_, refl, _∙_}
+use mathlib.Core.Path.{_≡_, ap, _∙_}
 use mathlib.Core.List.{List}
 use Prim.Native.Nat.{ℕ, zero, suc, _+_, _-_, _≤_, _<_}
 use native.Mathlib.Nat.{le-refl}
 use native.Mathlib.Omega.{arith}
 use lib.ListN.{take}
+use Rattle.flow.specs.Flow.{onwardOf}
 use Rattle.flow.specs.FlowLaws.{onward-le, onward-whole}
 use Rattle.rows.specs.Sum.{sumOf}
 use Rattle.rows.specs.SumLaws.{sum-start, sum-more}
 use Rattle.rows.specs.Rows.{listOf}
-use Rattle.rows.specs.RowsLaws.{sum-list-none, sum-list-more}
+use Rattle.rows.specs.RowsLaws.{sum-list-none, sum-list-more, sum-list-same}
 use Rattle.road.specs.declared.Road.{Road}
 use Rattle.road.specs.declared.State.{State}
-use Rattle.road.specs.Road.{at}
+use Rattle.numbers.specs.Lists.{at}
 use Rattle.limits.specs.LimitsLaws.{RoadOk}
-use Rattle.model.specs.Places.{gateArrivals, arrivalsAt, releaseAt, mostReleaseAt, shareAt, cumulativeAt, onwardAt}
+use Rattle.model.specs.Places.{gateArrivals, arrivalsAt, shareAt, cumulativeAt, onwardAt}
 use Rattle.model.specs.Move.{nextOf, presentOf, exitAt, exitsOf, arrivalsOf}
 use Rattle.model.specs.Rules.{Released, Obeys, outflowsOf, Sized}
 use Rattle.model.specs.MoveLaws.{next-gate-queue, next-held, next-queue, next-cumulative, next-onward, next-sized}
+use Rattle.model.specs.Roads.{Alike}
 use Rattle.model.specs.RulesLaws.{release-there, share-gate, onward-last, demand-at-gate, demand-at-cell, outflows-obey}
 
 module _ (r : Road) (s : State) (row y : List ℕ) (road : RoadOk r) (z : Sized r s) (ok : Obeys r s row y) where
@@ -86,3 +88,16 @@ pub engine-conserved : (r : Road) (s : State) (row : List ℕ) → RoadOk r → 
     → presentOf r s + exitsOf r s + arrivalsOf r row
     ≡ presentOf r (nextOf r s row (outflowsOf r s row)) + exitsOf r (nextOf r s row (outflowsOf r s row))
 engine-conserved r s row road z ok = conserved r s row (outflowsOf r s row) road z (outflows-obey r s row ok)
+
+-- exits and arrivals of roads with the same cells and shares
+module _ (a b : Road) (h : Alike a b) where
+  pub exits-alike : (s : State) → exitsOf b s ≡ exitsOf a s
+  unfolding exitsOf
+  exits-alike s =
+      ap (λ (n : ℕ). sumOf (listOf (exitAt b s) n)) (h .n)
+      ∙ sum-list-same (exitAt b s) (exitAt a s) (a .n)
+      (λ i l. ap (λ (x : ℕ). at (s .cumulative) i - onwardOf x (at (s .cumulative) i)) (h .share i l))
+
+  pub arrivals-alike : (row : List ℕ) → arrivalsOf b row ≡ arrivalsOf a row
+  unfolding arrivalsOf
+  arrivals-alike row = ap (λ (n : ℕ). gateArrivals row + sumOf (listOf (arrivalsAt row) n)) (h .n)

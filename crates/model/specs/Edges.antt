@@ -3,7 +3,6 @@ use mathlib.Core.Path.{_≡_, refl}
 use mathlib.Core.Bool.{Bool, true, _&&_}
 use mathlib.Core.List.{List, [], _∷_, _++_}
 use Prim.Native.Nat.{ℕ, zero, suc, _+_, _≤_}
-use native.Mathlib.Omega.{arith}
 use lib.Dec.{eqb}
 use lib.ListN.{replicate}
 use Rattle.flow.specs.Flow.{thousandthsOf, demandOf, gateDemandOf, supplyOf, roomOf, onwardOf, enteringOf, greatestOf, outflowOf}
@@ -12,8 +11,8 @@ use Rattle.rows.specs.Sum.{sumOf}
 use Rattle.rows.specs.Rows.{fillOf, listOf}
 use Rattle.road.specs.declared.Road.{Road}
 use Rattle.road.specs.declared.State.{State}
-use Rattle.road.specs.Road.{at}
-use Rattle.limits.specs.First.{firstFrom, firstOf}
+use Rattle.numbers.specs.Lists.{at}
+use Rattle.numbers.specs.First.{firstFrom, firstOf, firstFault}
 use Rattle.limits.specs.Limits.{placeOk, rowOk, frameOk, inputOk}
 use Rattle.model.specs.Places.{capacityAt, demandAt, mostReleaseAt, shareAt, cumulativeAt}
 use Rattle.model.specs.Move.{movedTo, countedOf, exitsOf}
@@ -138,5 +137,8 @@ pub record StarredEdges : Type 0 where
   pub exit : (cumulative room demand : ℕ) → outflowOf 0 cumulative room demand ≡ demand
 
 pub starred-edges : StarredEdges
-unfolding holds edge rules run gate-line cell-line released road start row after thousandthsOf demandOf gateDemandOf supplyOf roomOf onwardOf enteringOf greatestOf outflowOf sumOf fillOf listOf firstFrom firstOf placeOk rowOk frameOk inputOk capacityAt demandAt mostReleaseAt shareAt cumulativeAt movedTo countedOf exitsOf outflowsOf lowestOf steppingOf
+unfolding holds edge rules run gate-line cell-line released road start row after
+    thousandthsOf demandOf gateDemandOf supplyOf roomOf onwardOf enteringOf greatestOf outflowOf
+    sumOf fillOf listOf firstFrom firstOf firstFault placeOk rowOk frameOk inputOk
+    capacityAt demandAt mostReleaseAt shareAt cumulativeAt movedTo countedOf exitsOf outflowsOf lowestOf steppingOf
 starred-edges = record { computed = refl; one = outflow-one; exit = outflow-exit }

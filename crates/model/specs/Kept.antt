@@ -1,23 +1,23 @@
 -- The limits of 7 are kept by every step that obeys the rules, so a run never meets 7, nor 8 before step 1,440. Assumes nothing.
-use mathlib.Core.Path.{_≡_, refl, sym, ap, _∙_}
+use mathlib.Core.Path.{_≡_}
 use mathlib.Core.Bool.{true}
 use mathlib.Core.List.{List}
-use Prim.Native.Nat.{ℕ, zero, suc, _+_, _-_, _*_, _≤_, _<_}
-use native.Mathlib.Nat.{mul-le-mul-right}
+use Prim.Native.Nat.{ℕ, suc, _+_, _≤_, _<_}
 use native.Mathlib.Omega.{arith}
-use Rattle.flow.specs.FlowLaws.{supply-space, room-release, entering-le}
+use Rattle.flow.specs.FlowLaws.{supply-space, room-release}
 use Rattle.rows.specs.SumLaws.{sum-bound}
 use Rattle.road.specs.declared.Road.{Road}
 use Rattle.road.specs.declared.State.{State}
-use Rattle.road.specs.Road.{at, mostSteps, mostRate, mostPresent}
+use Rattle.numbers.specs.Lists.{at}
+use Rattle.road.specs.Road.{mostSteps, mostRate, mostPresent}
 use Rattle.limits.specs.Limits.{mostQueue, mostCumulative, inputOk}
-use Rattle.limits.specs.LimitsLaws.{RoadOk, StateOk, RowOk, InputOk, input-facts, input-ok}
-use Rattle.model.specs.Places.{gateArrivals, arrivalsAt, releaseAt, supplyAt, capacityAt, demandAt, cumulativeAt, shareAt, enteringAt}
-use Rattle.model.specs.Move.{nextOf, presentOf, heldSum, queueSum}
+use Rattle.limits.specs.LimitsLaws.{StateOk, RowOk, InputOk, input-facts, input-ok}
+use Rattle.model.specs.Places.{releaseAt, supplyAt, capacityAt, cumulativeAt}
+use Rattle.model.specs.Move.{nextOf, presentOf}
 use Rattle.model.specs.Rules.{Released, Obeys, outflowsOf, Sized}
 use Rattle.model.specs.Step.{fault, answer, steppingOf}
 use Rattle.model.specs.MoveLaws.{next-done, next-total, next-gate-queue, next-held, next-queue, next-cumulative, next-sized}
-use Rattle.model.specs.RulesLaws.{release-there, demand-rate, outflows-obey}
+use Rattle.model.specs.RulesLaws.{demand-rate, outflows-obey}
 use Rattle.model.specs.StepLaws.{stepping-next}
 
 module _ (r : Road) (s : State) (row y : List ℕ) (ok : InputOk r s row) (z : Sized r s) (obeys : Obeys r s row y) where

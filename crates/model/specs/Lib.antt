@@ -7,9 +7,11 @@ pub mod RulesLaws
 pub mod StepLaws
 pub mod Verdict
 pub mod VerdictLaws
+pub mod Roads
 pub mod Conserve
 pub mod Kept
 pub mod Runs
+pub mod Level
 pub mod Behind
 pub mod RunsLaws
 pub mod Edges

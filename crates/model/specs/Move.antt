@@ -8,7 +8,7 @@ use Rattle.rows.specs.Sum.{sumOf}
 use Rattle.rows.specs.Rows.{fillOf, listOf}
 use Rattle.road.specs.declared.Road.{Road}
 use Rattle.road.specs.declared.State.{State}
-use Rattle.road.specs.Road.{at}
+use Rattle.numbers.specs.Lists.{at}
 use Rattle.model.specs.Places.{gateArrivals, arrivalsAt, releaseAt, enteringAt}
 
 -- a cell's next count is held + entering + release − outflow

@@ -1,18 +1,17 @@
 -- The model's sentences about a step, place by place, for a step by any row of outflows. Assumes nothing.
-use mathlib.Core.Path.{_≡_, refl, sym, ap, _∙_}
+use mathlib.Core.Path.{_≡_, refl, _∙_}
 use mathlib.Core.List.{List}
 use Prim.Native.Nat.{ℕ, zero, suc, _+_, _-_, _≤_, _<_}
 use native.Mathlib.Numerals.{add-one}
 use native.Mathlib.Omega.{arith}
-use lib.ListN.{length, set}
-use Rattle.flow.specs.Flow.{enteringOf}
+use lib.ListN.{set}
 use Rattle.flow.specs.FlowLaws.{onward-entering}
 use Rattle.rows.specs.RowsLaws.{fill-more, fill-at, fill-past, length-fill}
 use Rattle.road.specs.declared.Road.{Road}
 use Rattle.road.specs.declared.State.{State}
-use Rattle.road.specs.Road.{at}
+use Rattle.numbers.specs.Lists.{at}
 use Rattle.model.specs.Places.{gateArrivals, arrivalsAt, releaseAt, shareAt, cumulativeAt, onwardAt, enteringAt}
-use Rattle.model.specs.Move.{heldOf, queueOf, cumulativeOf, movedTo, movedOf, presentOf, totalOf, countedOf, nextOf}
+use Rattle.model.specs.Move.{heldOf, queueOf, cumulativeOf, movedTo, presentOf, totalOf, countedOf, nextOf}
 use Rattle.model.specs.Rules.{Sized}
 
 module _ (r : Road) (s : State) (row y : List ℕ) where

@@ -5,7 +5,7 @@ use Prim.Native.Nat.{ℕ, zero, suc, _+_, _*_}
 use Rattle.flow.specs.Flow.{whole, demandOf, gateDemandOf, supplyOf, roomOf, onwardOf, enteringOf, outflowOf}
 use Rattle.road.specs.declared.Road.{Road}
 use Rattle.road.specs.declared.State.{State}
-use Rattle.road.specs.Road.{at}
+use Rattle.numbers.specs.Lists.{at}
 
 -- a row's numbers in the record's order: gate arrivals; then for each cell its ramp arrivals and its release
 abbrev pub gateArrivals : List ℕ → ℕ

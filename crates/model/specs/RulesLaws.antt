@@ -1,6 +1,6 @@
 -- Laws of the rules: the engine's row is the greatest that obeys them. Assumes nothing.
-use mathlib.Core.Path.{_≡_, refl, sym, ap, _∙_}
-use mathlib.Core.Logic.{_⊎_, ⊎-elim}
+use mathlib.Core.Path.{_≡_, refl, sym, _∙_}
+use mathlib.Core.Logic.{⊎-elim}
 use mathlib.Core.List.{List, [], _∷_}
 use Prim.Native.Nat.{ℕ, zero, suc, _+_, _≤_, _<_}
 use native.Mathlib.Nat.{le-of-eq, eq-or-lt-of-le}
@@ -9,15 +9,16 @@ use native.Mathlib.Omega.{arith}
 use lib.ListN.{length, length-append, List·getD-append}
 use lib.Seq.{getD-at}
 use Rattle.flow.specs.Flow.{whole, demandOf, enteringOf}
-use Rattle.flow.specs.FlowLaws.{demand-held, gate-demand-queue, demand-capacity, gate-demand-capacity, outflow-le, outflow-fits, onward-none}
+use Rattle.flow.specs.FlowLaws.{demand-held, gate-demand-queue, demand-capacity, gate-demand-capacity, outflow-le, outflow-fits, outflow-greatest, onward-none}
 use Rattle.rows.specs.Rows.{listOf}
 use Rattle.rows.specs.RowsLaws.{length-list, list-at}
 use Rattle.road.specs.declared.Road.{Road}
 use Rattle.road.specs.declared.State.{State}
-use Rattle.road.specs.Road.{at, mostRate}
+use Rattle.numbers.specs.Lists.{at}
+use Rattle.road.specs.Road.{mostRate}
 use Rattle.limits.specs.LimitsLaws.{RoadOk}
 use Rattle.model.specs.Places.{arrivalsAt, mostReleaseAt, capacityAt, demandAt, shareAt, cumulativeAt, roomAt, onwardAt, enteringAt, outflowAt}
-use Rattle.model.specs.Rules.{Released, Obeys, outflowsOf}
+use Rattle.model.specs.Rules.{Released, Obeys, Greatest, outflowsOf}
 
 -- what a release may be at most is there, at the latest with this step's arrivals
 pub release-there : (s : State) (row : List ℕ) (i : ℕ) → mostReleaseAt s row i ≤ at (s .queue) i + arrivalsAt row i
@@ -108,3 +109,14 @@ outflows-obey r s row ok = record {
       (eq-or-lt-of-le l);
   enters = λ p l. rw (outflows-at r s row p l) (outflow-fits (shareAt r p) (cumulativeAt s p) (roomAt r s row p) (demandAt r s p));
 }
+
+-- the engine's row is the greatest
+pub outflows-greatest : (r : Road) (s : State) (row : List ℕ) → Released r s row → Greatest r s row (outflowsOf r s row)
+outflows-greatest r s row fits =
+    let o = outflows-obey r s row fits in
+    record {
+      demand = o .demand;
+      fits = o .enters;
+      most = λ p l z d f. rw (outflows-at r s row p l) (outflow-greatest (shareAt r p) (cumulativeAt s p) (roomAt r s row p) (demandAt r s p) z d f);
+      last = outflows-last r s row;
+    }

@@ -1,22 +1,34 @@
 -- docs/MODEL.md, 'One step': the states of a schedule and of the engine's own run, step by step. Assumes nothing.
 use mathlib.Core.List.{List}
-use Prim.Native.Nat.{ℕ, zero, suc, _+_}
-use Rattle.road.specs.declared.Road.{Road}
+use Prim.Native.Nat.{ℕ, zero, suc, _+_, _<_}
 use Rattle.road.specs.declared.State.{State}
-use Rattle.model.specs.Move.{nextOf, arrivalsOf, presentOf}
-use Rattle.model.specs.Rules.{outflowsOf}
+use Rattle.road.specs.Study.{Study, roadAt}
+use Rattle.model.specs.Move.{nextOf, arrivalsOf}
+use Rattle.model.specs.Rules.{Released, Obeys, outflowsOf}
 
--- a schedule's state after k steps: rows k are the numbers of step k, ys k its outflows, gate first
-unfoldable pub scheduleAfter : Road → State → (ℕ → List ℕ) → (ℕ → List ℕ) → ℕ → State
-scheduleAfter r s rows ys zero = s
-scheduleAfter r s rows ys (suc k) = nextOf r (scheduleAfter r s rows ys k) (rows k) (ys k)
+-- a schedule's state after k steps: ys k are its outflows in step k, gate first
+unfoldable pub scheduleAfter : Study → (ℕ → List ℕ) → ℕ → State
+scheduleAfter a ys zero = a .start
+scheduleAfter a ys (suc k) = nextOf (roadAt a k) (scheduleAfter a ys k) (a .rows k) (ys k)
 
 -- the engine's state after k steps: in each, the greatest outflows in the run's own state
-unfoldable pub engineAfter : Road → State → (ℕ → List ℕ) → ℕ → State
-engineAfter r s rows zero = s
-engineAfter r s rows (suc k) = nextOf r (engineAfter r s rows k) (rows k) (outflowsOf r (engineAfter r s rows k) (rows k))
+unfoldable pub engineAfter : Study → ℕ → State
+engineAfter a zero = a .start
+engineAfter a (suc k) = nextOf (roadAt a k) (engineAfter a k) (a .rows k) (outflowsOf (roadAt a k) (engineAfter a k) (a .rows k))
+
+-- the engine's outflows in step k
+abbrev pub outflowsAt : Study → ℕ → List ℕ
+outflowsAt a k = outflowsOf (roadAt a k) (engineAfter a k) (a .rows k)
+
+-- each release fits in the first k steps of the engine's run
+abbrev pub Fitting : Study → ℕ → Type 0
+Fitting a k = (j : ℕ) → j < k → Released (roadAt a j) (engineAfter a j) (a .rows j)
+
+-- a schedule obeys the rules in its own states in the first k steps
+abbrev pub Obeying : Study → (ℕ → List ℕ) → ℕ → Type 0
+Obeying a ys k = (j : ℕ) → j < k → Obeys (roadAt a j) (scheduleAfter a ys j) (a .rows j) (ys j)
 
 -- all arrivals of the first k steps
-unfoldable pub arrivalsTo : Road → (ℕ → List ℕ) → ℕ → ℕ
-arrivalsTo r rows zero = 0
-arrivalsTo r rows (suc k) = arrivalsTo r rows k + arrivalsOf r (rows k)
+unfoldable pub arrivalsTo : Study → ℕ → ℕ
+arrivalsTo a zero = 0
+arrivalsTo a (suc k) = arrivalsTo a k + arrivalsOf (a .road) (a .rows k)

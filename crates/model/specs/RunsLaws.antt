@@ -1,52 +1,181 @@
--- Whole runs: no schedule is ahead of the engine after any step that both reach, and nothing is lost. Assumes nothing.
-use mathlib.Core.Path.{_≡_, refl, sym, ap, _∙_}
+-- Whole runs: the limits hold, nothing is lost, and no schedule is ahead of the engine after any step that both reach. Assumes nothing.
+use mathlib.Core.Path.{_≡_, refl, _∙_, subst, subst⁻¹}
 use mathlib.Core.List.{List}
 use Prim.Native.Nat.{ℕ, zero, suc, _+_, _≤_, _<_}
 use native.Mathlib.Nat.{le-refl}
 use native.Mathlib.Omega.{arith}
 use Rattle.road.specs.declared.Road.{Road}
 use Rattle.road.specs.declared.State.{State}
-use Rattle.limits.specs.LimitsLaws.{RoadOk}
-use Rattle.model.specs.Move.{presentOf, exitsOf}
-use Rattle.model.specs.Rules.{Released, Obeys, outflowsOf, Sized}
-use Rattle.model.specs.Runs.{scheduleAfter, engineAfter, arrivalsTo}
-use Rattle.model.specs.MoveLaws.{next-sized}
-use Rattle.model.specs.Conserve.{conserved}
+use Rattle.road.specs.Road.{mostSteps}
+use Rattle.road.specs.Study.{Study, roadAt}
+use Rattle.limits.specs.LimitsLaws.{RoadOk, StateOk, RowOk, InputOk}
+use Rattle.model.specs.Move.{nextOf, presentOf, exitsOf}
+use Rattle.model.specs.Rules.{Released, Obeys, Greatest, Sized, outflowsOf}
+use Rattle.model.specs.Runs.{scheduleAfter, engineAfter, outflowsAt, Fitting, Obeying, arrivalsTo}
+use Rattle.model.specs.MoveLaws.{next-done, next-sized}
+use Rattle.model.specs.RulesLaws.{outflows-obey, outflows-greatest}
+use Rattle.model.specs.Conserve.{conserved, exits-alike, arrivals-alike}
+use Rattle.model.specs.Kept.{kept}
+use Rattle.model.specs.Roads.{Alike, Compared, StepRoad, step-road-self, step-alike, step-state, state-back, step-row, alike-back, wider-self, present-alike, sized-alike}
 use Rattle.model.specs.Behind.{Behind, behind-self, step-behind}
 
-module _ (r : Road) (s : State) (rows ys : ℕ → List ℕ) where
-  -- the arrays keep their length
-  pub schedule-sized : Sized r s → (k : ℕ) → Sized r (scheduleAfter r s rows ys k)
+-- the limits of a study: of its road in every step, of the state before step 0 and of its T rows
+pub record StudyOk (a : Study) : Type 0 where
+  pub road : RoadOk (a .road)
+  pub roads : (k : ℕ) → StepRoad (a .road) (roadAt a k)
+  pub start : StateOk (a .road) (a .start)
+  pub sized : Sized (a .road) (a .start)
+  pub zero : a .start .done ≡ 0
+  pub steps : a .steps ≤ mostSteps
+  pub row : (k : ℕ) → k < a .steps → RowOk (a .road) (a .rows k)
+
+-- one road for all steps
+pub same-road : (a : Study) (k : ℕ) → a .road ≡ roadAt a k
+unfolding roadAt
+same-road a k = refl
+
+pub one-road : (a : Study) → RoadOk (a .road) → (k : ℕ) → StepRoad (a .road) (roadAt a k)
+unfolding roadAt
+one-road a ok k = step-road-self (a .road) ok
+
+-- a state after k steps that obeyed the rules is within the limits
+pub record Reached (a : Study) (u : State) (k : ℕ) : Type 0 where
+  pub state : StateOk (a .road) u
+  pub sized : Sized (a .road) u
+  pub done : u .done ≡ k
+
+-- one step of a study: q is its road, u the state before it and row its numbers
+pub record StepOf (a : Study) (q : Road) (u : State) (row : List ℕ) (k : ℕ) : Type 0 where
+  pub ok : StudyOk a
+  pub left : k < a .steps
+  pub road : q ≡ roadAt a k
+  pub numbers : row ≡ a .rows k
+  pub reached : Reached a u k
+
+module _ {a : Study} {q : Road} {u : State} {row : List ℕ} {k : ℕ} (t : StepOf a q u row k) where
+  -- it is the study's road with other capacities, and all is within the limits
+  pub step-road : StepRoad (a .road) q
+  step-road = rw (t .road) (t .ok .roads k)
+
+  pub step-input : InputOk q u row
+  step-input = record {
+    road = step-road .ok;
+    state = step-state step-road u (t .reached .state);
+    row = rw (t .numbers) (step-row step-road (a .rows k) (t .ok .row k (t .left)));
+  }
+
+  pub step-sized : Sized q u
+  step-sized = sized-alike (a .road) q (step-alike step-road) u (t .reached .sized)
+
+  pub step-left : u .done < mostSteps
+  step-left = omega (arith, t .reached .done, t .left, t .ok .steps)
+
+-- the arrays keep their length
+pub schedule-sized : (a : Study) (ys : ℕ → List ℕ) → StudyOk a → (k : ℕ) → Sized (a .road) (scheduleAfter a ys k)
+unfolding scheduleAfter
+schedule-sized a ys ok zero = ok .sized
+schedule-sized a ys ok (suc k) =
+    let e = step-alike (ok .roads k) in
+    sized-alike (roadAt a k) (a .road) (alike-back (a .road) (roadAt a k) e) (nextOf (roadAt a k) (scheduleAfter a ys k) (a .rows k) (ys k))
+    (next-sized (roadAt a k) (scheduleAfter a ys k) (a .rows k) (ys k)
+    (sized-alike (a .road) (roadAt a k) e (scheduleAfter a ys k) (schedule-sized a ys ok k)))
+
+-- over the rows of any study within the limits
+module _ (a : Study) (ys : ℕ → List ℕ) (ok : StudyOk a) where
+  sized-at : (k : ℕ) → Sized (roadAt a k) (scheduleAfter a ys k)
+  sized-at k = sized-alike (a .road) (roadAt a k) (step-alike (ok .roads k)) (scheduleAfter a ys k) (schedule-sized a ys ok k)
+
+  pub reached : (k : ℕ) → k ≤ a .steps → Obeying a ys k → Reached a (scheduleAfter a ys k) k
   unfolding scheduleAfter
-  schedule-sized z zero = z
-  schedule-sized z (suc k) = next-sized r (scheduleAfter r s rows ys k) (rows k) (ys k) (schedule-sized z k)
+  reached zero l h = record { state = ok .start; sized = ok .sized; done = ok .zero }
+  reached (suc k) l h =
+      let p = reached k (omega arith) (λ j m. h j (omega arith)) in
+      let u = scheduleAfter a ys k in
+      let q = ok .roads k in
+      record {
+        state = state-back q (nextOf (roadAt a k) u (a .rows k) (ys k))
+            (kept (roadAt a k) u (a .rows k) (ys k)
+            (record { road = q .ok; state = step-state q u (p .state); row = step-row q (a .rows k) (ok .row k l) })
+            (sized-at k) (h k (le-refl (suc k))) (omega (arith, p .done, ok .steps)));
+        sized = schedule-sized a ys ok (suc k);
+        done = next-done (roadAt a k) u (a .rows k) (ys k) ∙ omega (arith, p .done);
+      }
 
   -- start plus arrivals equals present plus exits, after each step of a schedule that obeys the rules up to it
-  pub run-conserved : RoadOk r → Sized r s → (k : ℕ) → ((j : ℕ) → j < k → Obeys r (scheduleAfter r s rows ys j) (rows j) (ys j))
-      → presentOf r s + exitsOf r s + arrivalsTo r rows k ≡ presentOf r (scheduleAfter r s rows ys k) + exitsOf r (scheduleAfter r s rows ys k)
+  pub run-conserved : (k : ℕ) → Obeying a ys k
+      → presentOf (a .road) (a .start) + exitsOf (a .road) (a .start) + arrivalsTo a k
+      ≡ presentOf (a .road) (scheduleAfter a ys k) + exitsOf (a .road) (scheduleAfter a ys k)
   unfolding scheduleAfter arrivalsTo
-  run-conserved road z zero ok = omega arith
-  run-conserved road z (suc k) ok =
+  run-conserved zero h = omega arith
+  run-conserved (suc k) h =
+      let u = scheduleAfter a ys k in
+      let v = nextOf (roadAt a k) (scheduleAfter a ys k) (a .rows k) (ys k) in
+      let e : Alike (a .road) (roadAt a k) = step-alike (ok .roads k) in
       omega (
         arith,
-        run-conserved road z k (λ j l. ok j (omega arith)),
-        conserved r (scheduleAfter r s rows ys k) (rows k) (ys k) road (schedule-sized z k) (ok k (le-refl (suc k))),
+        run-conserved k (λ j l. h j (omega arith)),
+        conserved (roadAt a k) u (a .rows k) (ys k) (ok .roads k .ok) (sized-at k) (h k (le-refl (suc k))),
+        present-alike (a .road) (roadAt a k) e u,
+        present-alike (a .road) (roadAt a k) e v,
+        exits-alike (a .road) (roadAt a k) e u,
+        exits-alike (a .road) (roadAt a k) e v,
+        arrivals-alike (a .road) (roadAt a k) e (a .rows k),
       )
 
-  -- no schedule is ahead of the engine after k steps that both reach
-  pub run-behind : RoadOk r → Sized r s → (k : ℕ)
-      → ((j : ℕ) → j < k → Released r (engineAfter r s rows j) (rows j))
-      → ((j : ℕ) → j < k → Obeys r (scheduleAfter r s rows ys j) (rows j) (ys j))
-      → Behind r (engineAfter r s rows k) (scheduleAfter r s rows ys k)
+-- the engine's run is the schedule of its own rows, which obey the rules and are the greatest
+module _ (a : Study) where
+  pub engine-schedule : (k : ℕ) → engineAfter a k ≡ scheduleAfter a (outflowsAt a) k
   unfolding engineAfter scheduleAfter
-  run-behind road z zero fits ok = behind-self r s z
-  run-behind road z (suc k) fits ok =
-      step-behind r (engineAfter r s rows k) (scheduleAfter r s rows ys k) (rows k) (ys k) road (fits k (le-refl (suc k))) (ok k (le-refl (suc k)))
-      (run-behind road z k (λ j l. fits j (omega arith)) (λ j l. ok j (omega arith)))
+  engine-schedule zero = refl
+  engine-schedule (suc k) = rw (engine-schedule k)
 
--- the engine's run is the schedule of its own rows
-pub engine-schedule : (r : Road) (s : State) (rows : ℕ → List ℕ) (k : ℕ)
-    → engineAfter r s rows k ≡ scheduleAfter r s rows (λ j. outflowsOf r (engineAfter r s rows j) (rows j)) k
+  pub engine-obeys : (k : ℕ) → Fitting a k → Obeying a (outflowsAt a) k
+  engine-obeys k fits j l =
+      subst (λ (u : State). Obeys (roadAt a j) u (a .rows j) (outflowsAt a j)) (engine-schedule j)
+      (outflows-obey (roadAt a j) (engineAfter a j) (a .rows j) (fits j l))
+
+  pub engine-greatest : (j : ℕ) → Released (roadAt a j) (engineAfter a j) (a .rows j)
+      → Greatest (roadAt a j) (engineAfter a j) (a .rows j) (outflowsAt a j)
+  engine-greatest j fits = outflows-greatest (roadAt a j) (engineAfter a j) (a .rows j) fits
+
+  pub engine-reached : StudyOk a → (k : ℕ) → k ≤ a .steps → Fitting a k → Reached a (engineAfter a k) k
+  engine-reached ok k l fits =
+      subst⁻¹ (λ (u : State). Reached a u k) (engine-schedule k) (reached a (outflowsAt a) ok k l (engine-obeys k fits))
+
+-- two studies with the same start and rows, one for the rival and one, nowhere worse, for the engine
+pub record Rivals (rival engine : Study) (k : ℕ) : Type 0 where
+  pub sized : Sized (rival .road) (rival .start)
+  pub start : engine .start ≡ rival .start
+  pub rows : (j : ℕ) → j < k → engine .rows j ≡ rival .rows j
+  pub roads : (j : ℕ) → j < k → Compared (rival .road) (roadAt rival j) (roadAt engine j)
+
+-- one study for both
+pub rivals-self : (a : Study) → StudyOk a → (k : ℕ) → Rivals a a k
+rivals-self a ok k = record {
+  sized = ok .sized;
+  start = refl;
+  rows = λ j l. refl;
+  roads = λ j l. record {
+    alike = step-alike (ok .roads j);
+    wider = wider-self (roadAt a j);
+    rival = ok .roads j .ok;
+    engine = ok .roads j .ok;
+  };
+}
+
+-- no schedule is ahead of the engine after k steps that both reach
+pub run-behind : (a b : Study) (ys : ℕ → List ℕ) (k : ℕ) → Rivals a b k → Fitting b k → Obeying a ys k
+    → Behind (a .road) (engineAfter b k) (scheduleAfter a ys k)
 unfolding engineAfter scheduleAfter
-engine-schedule r s rows zero = refl
-engine-schedule r s rows (suc k) = rw (engine-schedule r s rows k)
+run-behind a b ys zero h fits ok = rw (h .start) (behind-self (a .road) (a .start) (h .sized))
+run-behind a b ys (suc k) h fits ok =
+    let l : k < suc k = le-refl (suc k) in
+    let s = engineAfter b k in
+    let before = run-behind a b ys k
+    (record { sized = h .sized; start = h .start; rows = λ j m. h .rows j (omega arith); roads = λ j m. h .roads j (omega arith) })
+    (λ j m. fits j (omega arith)) (λ j m. ok j (omega arith)) in
+    let y = outflowsOf (roadAt b k) (engineAfter b k) (a .rows k) in
+    let f : Released (roadAt b k) (engineAfter b k) (a .rows k) = rw (h .rows k l) at (fits k l) in
+    rw (h .rows k l)
+    (step-behind (a .road) (roadAt a k) (roadAt b k) s (scheduleAfter a ys k) (a .rows k) y (ys k)
+    (h .roads k l) (outflows-obey (roadAt b k) s (a .rows k) f) (outflows-greatest (roadAt b k) s (a .rows k) f) (ok k l) before)

@@ -6,8 +6,7 @@ use lib.Dec.{leb, eqb}
 use Rattle.road.specs.declared.Road.{Road}
 use Rattle.road.specs.declared.State.{State}
 use Rattle.road.specs.Road.{mostSteps}
-use Rattle.road.specs.Refusals.{unless}
-use Rattle.limits.specs.First.{firstOf}
+use Rattle.numbers.specs.First.{unless, firstFault}
 use Rattle.limits.specs.Limits.{inputOk}
 use Rattle.model.specs.Places.{releaseAt, mostReleaseAt, supplyAt}
 use Rattle.model.specs.Move.{nextOf}
@@ -21,13 +20,9 @@ pub record Fault : Type 0 where
 abbrev pub fault : ℕ → ℕ → Fault
 fault number place = record { number = number; place = place }
 
--- the lowest of n cells or places that has a fault, n where none has
-abbrev pub lowestAt : (ℕ → ℕ) → ℕ → ℕ
-lowestAt f n = firstOf (λ i. eqb (f i) 0) n
-
--- its fault; `base` is the place of the first
+-- the fault of the lowest of n cells or places that has one; `base` is the place of the first
 unfoldable pub lowestOf : (ℕ → ℕ) → ℕ → ℕ → Fault
-lowestOf f n base = cond (eqb (lowestAt f n) n) (fault 0 0) (fault (f (lowestAt f n)) (lowestAt f n + base))
+lowestOf f n base = cond (eqb (firstFault f n) n) (fault 0 0) (fault (f (firstFault f n)) (firstFault f n + base))
 
 -- at one cell: 9, release above queue, before 10, release above supply
 abbrev pub releaseFault : ℕ → ℕ → ℕ → ℕ

@@ -5,84 +5,52 @@ use mathlib.Core.List.{List}
 use Prim.Native.Nat.{ℕ, _+_, _≤_, _<_}
 use native.Mathlib.Omega.{arith}
 use lib.Dec.{leb, eqb}
-use borrow.Author.Tests.{leb-true, le-leb, eqb-true, eqb-false, eq-eqb, ne-eqb}
+use borrow.Author.Tests.{eqb-true, eqb-false, eq-eqb, ne-eqb}
 use Rattle.road.specs.declared.Road.{Road}
 use Rattle.road.specs.declared.State.{State}
 use Rattle.road.specs.Road.{mostSteps}
-use Rattle.road.specs.Refusals.{unless}
-use Rattle.limits.specs.First.{first, first-is, first-none}
+use Rattle.road.specs.Refusals.{began}
+use Rattle.numbers.specs.First.{unless, oneOf, firstFault}
+use Rattle.numbers.specs.FirstLaws.{fault-within, fault-before, fault-there, fault-at, fault-none}
+use Rattle.numbers.specs.Tests.{two-zero, two-pass}
 use Rattle.limits.specs.Limits.{inputOk}
 use Rattle.model.specs.Places.{releaseAt, mostReleaseAt, supplyAt}
 use Rattle.model.specs.Move.{nextOf}
 use Rattle.model.specs.Rules.{Released, outflowsOf}
-use Rattle.model.specs.Step.{Fault, fault, lowestAt, lowestOf, releaseFault, releaseFaultAt, releasesOf, Answer, answer, steppingOf}
+use Rattle.model.specs.Step.{Fault, fault, lowestOf, releaseFaultAt, releasesOf, answer, steppingOf}
+
+-- equal faults have equal numbers
+pub number-of : {p q : Fault} → p ≡ q → p .number ≡ q .number
+number-of e = ap (λ (q : Fault). q .number) e
 
 -- the lowest fault
 module _ (f : ℕ → ℕ) (n base : ℕ) where
   pub lowest-none : ((i : ℕ) → i < n → f i ≡ 0) → lowestOf f n base ≡ fault 0 0
   unfolding lowestOf
-  lowest-none h =
-      let e : lowestAt f n ≡ n = first-none (λ i. eqb (f i) 0) n (λ i l. eq-eqb (f i) 0 (h i l)) in
-      rw (eq-eqb (lowestAt f n) n e)
+  lowest-none h = rw (eq-eqb (firstFault f n) n (fault-none f n h))
 
   -- the lowest with a fault has one, and none below it has
   pub lowest-at : (i m : ℕ) → i < n → ((j : ℕ) → j < i → f j ≡ 0) → f i ≡ m → (m ≡ 0 → ⊥) → lowestOf f n base ≡ fault m (i + base)
   unfolding lowestOf
-  lowest-at i m l h e ne =
-      let q : lowestAt f n ≡ i =
-      first-is (λ i. eqb (f i) 0) n i (record {
-        within = omega arith;
-        before = λ j k. eq-eqb (f j) 0 (h j k);
-        stops = λ _. ne-eqb (f i) 0 (λ z. ne (sym e ∙ z));
-      }) in
-      rw (q, ne-eqb i n (λ z. omega arith), e)
+  lowest-at i m l h e ne = rw (fault-at f n i l h (λ z. ne (sym e ∙ z)), ne-eqb i n (λ z. omega arith), e)
 
   pub lowest-zero : lowestOf f n base .number ≡ 0 → (i : ℕ) → i < n → f i ≡ 0
   unfolding lowestOf
-  lowest-zero h = go (eqb (lowestAt f n) n) refl h
+  lowest-zero h = go (eqb (firstFault f n) n) refl h
     where
-      go : (b : Bool) → eqb (lowestAt f n) n ≡ b
-          → cond b (fault 0 0) (fault (f (lowestAt f n)) (lowestAt f n + base)) .number ≡ 0
+      go : (b : Bool) → eqb (firstFault f n) n ≡ b → cond b (fault 0 0) (fault (f (firstFault f n)) (firstFault f n + base)) .number ≡ 0
           → (i : ℕ) → i < n → f i ≡ 0
-      go true e z i l =
-          eqb-true (f i) 0 (first (λ i. eqb (f i) 0) n .before i (omega (arith, eqb-true (lowestAt f n) n e)))
-      go false e z i l =
-          let a = first (λ i. eqb (f i) 0) n in
-          absurd (eqb-false (f (lowestAt f n)) 0
-          (a .stops (omega (arith, a .within, eqb-false (lowestAt f n) n e))) z)
+      go true e z i l = fault-before f n i (omega (arith, eqb-true (firstFault f n) n e))
+      go false e z i l = absurd (fault-there f n (omega (arith, fault-within f n, eqb-false (firstFault f n) n e)) z)
 
-  -- and its number is one of theirs
-  pub lowest-most : (b : ℕ) → ((i : ℕ) → f i ≤ b) → lowestOf f n base .number ≤ b
+  -- and its number is one of theirs, or 0
+  pub lowest-one : (P : ℕ → Type 0) → P 0 → ((i : ℕ) → P (f i)) → P (lowestOf f n base .number)
   unfolding lowestOf
-  lowest-most b h = go (eqb (lowestAt f n) n)
+  lowest-one P z h = go (eqb (firstFault f n) n)
     where
-      go : (t : Bool)
-          → cond t (fault 0 0) (fault (f (lowestAt f n)) (lowestAt f n + base)) .number ≤ b
-      go true = omega arith
-      go false = h (lowestAt f n)
-
--- one test
-pub one-zero : (a b m : ℕ) → (m ≡ 0 → ⊥) → unless (leb a b) m 0 ≡ 0 → a ≤ b
-one-zero a b m hm h = go (leb a b) refl h
-  where
-    go : (t : Bool) → leb a b ≡ t → unless t m 0 ≡ 0 → a ≤ b
-    go true e z = leb-true a b e
-    go false e z = absurd (hm z)
-
-pub one-pass : (a b m : ℕ) → a ≤ b → unless (leb a b) m 0 ≡ 0
-one-pass a b m h = rw (le-leb a b h)
-
--- two tests, one before the other
-pub two-zero : (a b c d m k : ℕ) → (m ≡ 0 → ⊥) → (k ≡ 0 → ⊥) → unless (leb a b) m (unless (leb c d) k 0) ≡ 0 → (a ≤ b) × (c ≤ d)
-two-zero a b c d m k hm hk h = go (leb a b) (leb c d) refl refl h
-  where
-    go : (t u : Bool) → leb a b ≡ t → leb c d ≡ u → unless t m (unless u k 0) ≡ 0 → (a ≤ b) × (c ≤ d)
-    go true true e f z = (leb-true a b e, leb-true c d f)
-    go true false e f z = absurd (hk z)
-    go false u e f z = absurd (hm z)
-
-pub two-pass : (a b c d m k : ℕ) → a ≤ b → c ≤ d → unless (leb a b) m (unless (leb c d) k 0) ≡ 0
-two-pass a b c d m k h l = rw (le-leb a b h, le-leb c d l)
+      go : (t : Bool) → P (cond t (fault 0 0) (fault (f (firstFault f n)) (firstFault f n + base)) .number)
+      go true = z
+      go false = h (firstFault f n)
 
 module _ (r : Road) (s : State) (row : List ℕ) where
   -- no fault of a release: each release fits
@@ -94,15 +62,16 @@ module _ (r : Road) (s : State) (row : List ℕ) where
           two-zero (releaseAt row i) (mostReleaseAt s row i) (releaseAt row i) (supplyAt r s i) 9 10 (λ z. omega arith) (λ z. omega arith)
           (lowest-zero (releaseFaultAt r s row) (r .n) 1 h i l)
 
-  -- 9 and 10 are the only faults of a release
-  pub releases-number : releasesOf r s row .number ≤ 10
-  releases-number = lowest-most (releaseFaultAt r s row) (r .n) 1 10
-      (λ i. two-most (leb (releaseAt row i) (mostReleaseAt s row i)) (leb (releaseAt row i) (supplyAt r s i)))
+  -- the faults of a release come with a state
+  pub releases-class : began (releasesOf r s row .number) ≡ true
+  unfolding began oneOf
+  releases-class = lowest-one (releaseFaultAt r s row) (r .n) 1 (λ (m : ℕ). began m ≡ true) refl
+      (λ i. two (leb (releaseAt row i) (mostReleaseAt s row i)) (leb (releaseAt row i) (supplyAt r s i)))
     where
-      two-most : (t u : Bool) → unless t 9 (unless u 10 0) ≤ 10
-      two-most true true = omega arith
-      two-most true false = omega arith
-      two-most false u = omega arith
+      two : (t u : Bool) → began (unless t 9 (unless u 10 0)) ≡ true
+      two true true = refl
+      two true false = refl
+      two false u = refl
 
   -- each release fits: no fault
   pub fit-releases : Released r s row → releasesOf r s row ≡ fault 0 0

@@ -5,8 +5,8 @@ use Prim.Native.Nat.{ℕ, _+_}
 use lib.Dec.{leb, ltb, eqb}
 use Rattle.road.specs.declared.Road.{Road}
 use Rattle.road.specs.declared.State.{State}
-use Rattle.road.specs.Road.{at}
-use Rattle.road.specs.Refusals.{unless}
+use Rattle.numbers.specs.Lists.{at}
+use Rattle.numbers.specs.First.{unless}
 use Rattle.model.specs.Places.{demandAt, roomAt, enteringAt}
 use Rattle.model.specs.Step.{Fault, lowestOf, releasesOf}
 

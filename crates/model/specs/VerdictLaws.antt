@@ -1,22 +1,24 @@
 -- Laws of judging one row: no fault exactly where the row obeys the rules. Assumes nothing.
 use mathlib.Core.Path.{_≡_, refl, sym, ap, _∙_}
-use mathlib.Core.Bool.{Bool, true, false}
+use mathlib.Core.Bool.{Bool, true, false, cond}
 use mathlib.Core.Logic.{_⊎_, ⊎-elim}
 use mathlib.Core.List.{List}
 use Prim.Native.Nat.{ℕ, _+_, _≤_, _<_}
 use native.Mathlib.Nat.{eq-or-lt-of-le}
 use native.Mathlib.Omega.{arith}
-use lib.Dec.{leb, eqb}
+use lib.Dec.{leb, ltb, eqb}
 use borrow.Author.Tests.{eqb-true, eqb-false, eq-eqb, ne-eqb, lt-ltb, le-ltb, lt-leb}
 use Rattle.road.specs.declared.Road.{Road}
 use Rattle.road.specs.declared.State.{State}
-use Rattle.road.specs.Road.{at}
-use Rattle.road.specs.Refusals.{unless}
+use Rattle.numbers.specs.Lists.{at}
+use Rattle.numbers.specs.First.{unless, oneOf}
+use Rattle.numbers.specs.Tests.{one-zero, one-pass, two-zero, two-pass}
+use Rattle.road.specs.Refusals.{began}
 use Rattle.model.specs.Places.{demandAt, roomAt, enteringAt}
-use Rattle.model.specs.Rules.{Released, Obeys}
-use Rattle.model.specs.Step.{Fault, fault, lowestOf, releasesOf}
+use Rattle.model.specs.Rules.{Obeys}
+use Rattle.model.specs.Step.{fault, releasesOf}
 use Rattle.model.specs.Verdict.{outflowFault, lastFault, outflowFaultAt, outflowsFaultOf, verdictOf}
-use Rattle.model.specs.StepLaws.{lowest-none, lowest-zero, one-zero, one-pass, two-zero, two-pass, releases-fit, fit-releases}
+use Rattle.model.specs.StepLaws.{number-of, lowest-none, lowest-zero, lowest-one, releases-fit, releases-class, fit-releases}
 
 module _ (r : Road) (s : State) (row y : List ℕ) where
   -- the verdict is the releases' fault, or else the outflows'
@@ -34,10 +36,10 @@ module _ (r : Road) (s : State) (row y : List ℕ) where
       go : (b : Bool) → eqb (releasesOf r s row .number) 0 ≡ b → (releasesOf r s row .number ≡ 0) × (outflowsFaultOf r s row y .number ≡ 0)
       go true e =
           let z : releasesOf r s row .number ≡ 0 = eqb-true (releasesOf r s row .number) 0 e in
-          (z, sym (ap (λ (q : Fault). q .number) (verdict-outflows z)) ∙ h)
+          (z, sym (number-of (verdict-outflows z)) ∙ h)
       go false e =
           let n : releasesOf r s row .number ≡ 0 → ⊥ = eqb-false (releasesOf r s row .number) 0 e in
-          absurd (n (sym (ap (λ (q : Fault). q .number) (verdict-releases n)) ∙ h))
+          absurd (n (sym (number-of (verdict-releases n)) ∙ h))
 
   -- the fault of a place before the last, and of the last
   pub fault-before-last : (p : ℕ) → p < r .n
@@ -78,7 +80,7 @@ module _ (r : Road) (s : State) (row y : List ℕ) where
   -- a row that obeys the rules has no fault
   pub obeys-verdict : Obeys r s row y → verdictOf r s row y ≡ fault 0 0
   obeys-verdict ok =
-      verdict-outflows (ap (λ (q : Fault). q .number) (fit-releases r s row (ok .released)))
+      verdict-outflows (number-of (fit-releases r s row (ok .released)))
       ∙ lowest-none (outflowFaultAt r s row y) (r .n + 1) 0 (λ p l. ⊎-elim
       (λ (e : p ≡ r .n). rw e (last-passes (ok .demand (r .n) (omega arith))))
       (λ (m : p < r .n).
@@ -88,3 +90,27 @@ module _ (r : Road) (s : State) (row y : List ℕ) where
     where
       below : (p : ℕ) → p < r .n + 1 → p ≤ r .n
       below p l = omega arith
+
+-- the faults of a row come with a state
+pub verdict-class : (r : Road) (s : State) (row y : List ℕ) → began (verdictOf r s row y .number) ≡ true
+unfolding verdictOf outflowFaultAt began oneOf
+verdict-class r s row y = go (eqb (releasesOf r s row .number) 0)
+  where
+    two : (t u : Bool) → began (unless t 13 (unless u 14 0)) ≡ true
+    two true true = refl
+    two true false = refl
+    two false u = refl
+
+    one : (t : Bool) → began (unless t 13 0) ≡ true
+    one true = refl
+    one false = refl
+
+    place : (b : Bool) (p : ℕ)
+        → began (cond b (outflowFault (at y p) (demandAt r s p) (enteringAt r s y p) (roomAt r s row p)) (lastFault (at y p) (demandAt r s p))) ≡ true
+    place true p = two (leb (at y p) (demandAt r s p)) (leb (enteringAt r s y p) (roomAt r s row p))
+    place false p = one (leb (at y p) (demandAt r s p))
+
+    go : (b : Bool) → began (unless b (releasesOf r s row) (outflowsFaultOf r s row y) .number) ≡ true
+    go true = lowest-one (outflowFaultAt r s row y) (r .n + 1) 0 (λ (m : ℕ). began m ≡ true) refl
+        (λ p. place (ltb p (r .n)) p)
+    go false = releases-class r s row

@@ -1,19 +1,24 @@
 -- What the inner functions of a step ask. Assumes nothing.
-use mathlib.Core.Path.{_≡_}
+use mathlib.Core.Path.{_≡_, refl, sym, ap, _∙_}
 use mathlib.Core.List.{List}
-use Prim.Native.Nat.{ℕ, suc, _+_, _*_, _^_, _≤_, _<_}
+use Prim.Native.Nat.{ℕ, suc, _+_, _-_, _*_, _^_, _≤_, _<_}
 use native.Mathlib.Numerals.{add-one}
 use native.Mathlib.Omega.{arith}
-use lib.ListN.{length}
-use Rattle.flow.specs.FlowLaws.{entering-le, supply-capacity, room-supply}
+use lib.ListN.{length, set}
+use Rattle.flow.specs.Flow.{whole, enteringOf}
+use Rattle.flow.specs.FlowLaws.{supply-capacity, room-supply}
 use Rattle.road.specs.declared.Road.{Road}
 use Rattle.road.specs.declared.State.{State}
-use Rattle.road.specs.Road.{at, mostSteps, mostRate}
+use Rattle.numbers.specs.Lists.{at}
+use Rattle.road.specs.Road.{mostCells, mostSteps, mostRate}
+use Rattle.rows.specs.Rows.{fillOf}
+use Rattle.limits.specs.Limits.{mostQueue, mostCumulative}
 use Rattle.limits.specs.LimitsLaws.{InputOk}
-use Rattle.model.specs.Places.{gateArrivals, arrivalsAt, releaseAt, supplyAt, capacityAt, cumulativeAt, enteringAt, roomAt}
-use Rattle.model.specs.Move.{movedTo, presentOf}
+use Rattle.model.specs.Places.{gateArrivals, arrivalsAt, releaseAt, supplyAt, capacityAt, shareAt, cumulativeAt, enteringAt}
+use Rattle.model.specs.Move.{movedTo, movedOf, presentOf}
+use Rattle.model.specs.MoveLaws.{moved-more}
 use Rattle.model.specs.Rules.{Released, Obeys, Sized}
-use Rattle.model.specs.RulesLaws.{release-there, demand-at-gate, demand-at-cell, demand-rate}
+use Rattle.model.specs.RulesLaws.{entering-cell, release-there, demand-at-gate, demand-at-cell, demand-rate}
 
 -- moving: all within the limits, and a row of outflows that obeys the rules
 pub record Movable (r : Road) (s : State) (row y : List ℕ) : Type 0 where
@@ -35,24 +40,64 @@ pub record Countable (r : Road) (s : State) : Type 0 where
   pub total : s .total < 2 ^ 63
   pub present : presentOf r s < 2 ^ 63
 
+-- what holds when the loop over the cells has moved the first i of them
+pub record Moved (r : Road) (s : State) (row y : List ℕ) (t : State) (entering i : ℕ) : Type 0 where
+  pub within : i ≤ r .n
+  pub enters : entering ≡ enteringAt r s y i
+  pub moved : t ≡ movedTo r s row y i
+
+pub moved-none : {r : Road} {s : State} {row y : List ℕ} {entering : ℕ} → entering ≡ enteringOf whole (s .«gate_cumulative») (at y 0)
+    → Moved r s row y (record {
+      done = s .done;
+      total = s .total;
+      «gate_queue» = s .«gate_queue» + gateArrivals row - at y 0;
+      «gate_cumulative» = s .«gate_cumulative» + at y 0;
+      held = s .held;
+      queue = s .queue;
+      cumulative = s .cumulative;
+    }) entering 0
+unfolding shareAt cumulativeAt movedTo fillOf
+moved-none e = record { within = omega arith; enters = e; moved = refl }
+
+pub moved-cell : {r : Road} {s : State} {row y : List ℕ} {t : State} {entering i next : ℕ} → Moved r s row y t entering i → i < r .n
+    → next ≡ enteringOf (at (r .share) i) (at (s .cumulative) i) (at y (i + 1))
+    → Moved r s row y (record {
+      done = t .done;
+      total = t .total;
+      «gate_queue» = t .«gate_queue»;
+      «gate_cumulative» = t .«gate_cumulative»;
+      held = set (t .held) i (at (s .held) i + entering + releaseAt row i - at y (i + 1));
+      queue = set (t .queue) i (at (s .queue) i + arrivalsAt row i - releaseAt row i);
+      cumulative = set (t .cumulative) i (at (s .cumulative) i + at y (i + 1));
+    }) next (i + 1)
+moved-cell {r} {s} {row} {y} {t} {entering} {i} h l e = record {
+  within = omega arith;
+  enters = e ∙ sym (entering-cell r s y i);
+  moved = moved-more r s row y i t entering (h .moved) (h .enters);
+}
+
+pub moved-end : {r : Road} {s : State} {row y : List ℕ} {t : State} {entering i : ℕ} → Moved r s row y t entering i → r .n ≤ i
+    → t ≡ movedOf r s row y
+moved-end {r} {s} {row} {y} {i = i} h l = let e : i ≡ r .n = omega (arith, h .within) in h .moved ∙ ap (movedTo r s row y) e
+
 -- what a turn of the loop over the cells knows of its numbers
 pub record Turn (r : Road) (s : State) (row y : List ℕ) (i entering : ℕ) : Type 0 where
-  pub cells : r .n ≤ 64
+  pub cells : r .n ≤ mostCells
   pub numbers : length row ≡ 1 + 2 * r .n
   pub places : length y ≡ r .n + 1
-  pub enters : entering ≤ 1000000
-  pub release : releaseAt row i ≤ 1000000
-  pub arrivals : arrivalsAt row i ≤ 1000000
-  pub held : at (s .held) i ≤ 1000000
-  pub queue : at (s .queue) i ≤ 2440000000
-  pub cumulative : at (s .cumulative) i ≤ 1440000000
+  pub enters : entering ≤ mostRate
+  pub release : releaseAt row i ≤ mostRate
+  pub arrivals : arrivalsAt row i ≤ mostRate
+  pub held : at (s .held) i ≤ mostRate
+  pub queue : at (s .queue) i ≤ mostQueue mostSteps
+  pub cumulative : at (s .cumulative) i ≤ mostCumulative mostSteps
   pub waits : releaseAt row i ≤ at (s .queue) i + arrivalsAt row i
   pub leaves : at y (i + 1) ≤ at (s .held) i
 
-pub turn : (r : Road) (s : State) (row y : List ℕ) (i entering : ℕ) → Movable r s row y → i < r .n → entering ≡ enteringAt r s y i
+pub turn : {r : Road} {s : State} {row y : List ℕ} {t : State} {entering i : ℕ} → Movable r s row y → Moved r s row y t entering i → i < r .n
     → Turn r s row y i entering
 unfolding capacityAt
-turn r s row y i entering m l e =
+turn {r} {s} {row} {y} {i = i} m h l =
     let ok = m .input in
     let leaves : at y (i + 1) ≤ at (s .held) i = rw add-one (omega (arith, m .obeys .demand (suc i) l, demand-at-cell r (ok .road) s i l)) in
     record {
@@ -61,6 +106,7 @@ turn r s row y i entering m l e =
       places = m .places;
       enters = omega (
         arith,
+        h .enters,
         m .obeys .enters i l,
         room-supply (supplyAt r s i) (releaseAt row i),
         supply-capacity (at (r .wave) i) (at (r .capacity) i) (at (r .jam) i) (at (s .held) i),
@@ -78,14 +124,14 @@ turn r s row y i entering m l e =
 -- what the gate's move knows
 pub record Gate (s : State) (row y : List ℕ) : Type 0 where
   pub there : at y 0 ≤ s .«gate_queue»
-  pub queue : s .«gate_queue» ≤ 2440000000
-  pub arrivals : gateArrivals row ≤ 1000000
-  pub cumulative : s .«gate_cumulative» ≤ 1440000000
-  pub outflow : at y 0 ≤ 1000000
+  pub queue : s .«gate_queue» ≤ mostQueue mostSteps
+  pub arrivals : gateArrivals row ≤ mostRate
+  pub cumulative : s .«gate_cumulative» ≤ mostCumulative mostSteps
+  pub outflow : at y 0 ≤ mostRate
 
-pub gate : (r : Road) (s : State) (row y : List ℕ) → Movable r s row y → Gate s row y
+pub gate : {r : Road} {s : State} {row y : List ℕ} → Movable r s row y → Gate s row y
 unfolding cumulativeAt
-gate r s row y m =
+gate {r} {s} m =
     let ok = m .input in
     record {
       there = omega (arith, m .obeys .demand 0 (omega arith), demand-at-gate r s);
@@ -94,9 +140,3 @@ gate r s row y m =
       cumulative = omega (arith, ok .state .gateCumulative, ok .state .done);
       outflow = omega (arith, m .obeys .demand 0 (omega arith), demand-rate r (ok .road) s 0 (omega arith));
     }
-
--- what holds when the loop over the cells has moved the first i of them
-pub record Moved (r : Road) (s : State) (row y : List ℕ) (t : State) (entering i : ℕ) : Type 0 where
-  pub within : i ≤ r .n
-  pub enters : entering ≡ enteringAt r s y i
-  pub moved : t ≡ movedTo r s row y i

@@ -5,7 +5,7 @@ use native.Mathlib.Omega.{arith}
 use Rattle.flow.specs.Flow.{whole, gateDemandOf, demandOf, supplyOf}
 use Rattle.road.specs.declared.Road.{Road}
 use Rattle.road.specs.declared.State.{State}
-use Rattle.road.specs.Road.{at}
+use Rattle.numbers.specs.Lists.{at}
 use Rattle.model.specs.Places.{capacityAt, supplyAt, demandAt, shareAt, cumulativeAt}
 use Rattle.model.specs.RulesLaws.{share-cell, cumulative-cell, demand-cell}
 

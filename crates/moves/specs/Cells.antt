@@ -1,53 +1,87 @@
--- Present and exits look at 64 cells at most. Assumes nothing.
-use mathlib.Core.Path.{_≡_, refl, sym, ap, _∙_}
-use mathlib.Core.Logic.{_⊎_, ⊎-elim}
+-- Present and exits look at as many cells as a road may have, and no more. Assumes nothing.
+use mathlib.Core.Path.{_≡_, sym, ap, _∙_}
+use mathlib.Core.Logic.{⊎-elim}
 use mathlib.Core.List.{List}
-use Prim.Native.Nat.{ℕ, zero, suc, _+_, _-_, min, _≤_, _<_}
-use native.Mathlib.Nat.{eq-or-lt-of-le, le-of-suc-le-suc}
+use Prim.Native.Nat.{ℕ, zero, suc, _+_, _-_, _*_, _^_, min, _≤_, _<_}
 use native.Mathlib.Numerals.{add-one}
 use native.Mathlib.Omega.{arith}
-use lib.ListN.{length, take, List·getD-eq-default}
+use lib.ListN.{length, take, length-take, List·getD-eq-default}
 use lib.Seq.{take-all}
-use Rattle.flow.specs.Flow.{onwardOf}
-use Rattle.flow.specs.FlowLaws.{order}
+use Rattle.numbers.specs.Tests.{order}
 use Rattle.rows.specs.Sum.{sumOf}
 use Rattle.rows.specs.Rows.{listOf}
-use Rattle.rows.specs.RowsLaws.{sum-list-more}
+use Rattle.rows.specs.RowsLaws.{sum-list-none, sum-list-more}
 use Rattle.road.specs.declared.Road.{Road}
 use Rattle.road.specs.declared.State.{State}
-use Rattle.road.specs.Road.{at}
+use Rattle.road.specs.Road.{mostCells}
 use Rattle.model.specs.Move.{exitAt, exitsOf}
 
--- the first n entries of an array of 64, where n may be more
-pub take-cells : (n : ℕ) (l : List ℕ) → length l ≡ 64 → take (min n 64) l ≡ take n l
-take-cells n l h = ⊎-elim
-    (λ (a : n ≤ 64). let e : min n 64 ≡ n = omega arith in ap (λ (k : ℕ). take k l) e)
-    (λ (a : 64 < n).
-    let e : min n 64 ≡ 64 = omega arith in
-    ap (λ (k : ℕ). take k l) e ∙ take-all 64 l (omega arith) ∙ sym (take-all n l (omega arith)))
-    (order n 64)
+-- a part as the code takes it: the first n entries of an array, or all of them where n is more
+pub record Part (l : List ℕ) (n k : ℕ) : Type 0 where
+  pub long : length l ≡ mostCells
+  pub cells : k ≡ min n mostCells
+
+pub part-length : {l : List ℕ} {n k : ℕ} → Part l n k → length (take k l) ≡ k
+part-length {l} {k = k} p = omega (arith, p, length-take k l)
+
+part-is : {l : List ℕ} {n k : ℕ} → Part l n k → take k l ≡ take n l
+part-is {l} {n} {k} p = ⊎-elim
+    (λ (a : n ≤ mostCells). let e : k ≡ n = omega (arith, p) in ap (λ (i : ℕ). take i l) e)
+    (λ (a : mostCells < n). take-all k l (omega (arith, p)) ∙ sym (take-all n l (omega (arith, p))))
+    (order n mostCells)
+
+-- the sum of such a part, in the definition's terms, fits
+pub record PartSum (l : List ℕ) (n sum : ℕ) : Type 0 where
+  pub is : sum ≡ sumOf (take n l)
+  pub fits : sum < 2 ^ 38
+
+pub part-sum : {l : List ℕ} {n k sum : ℕ} → Part l n k → (sum ≡ sumOf (take k l)) × (sum ≤ (2 ^ 32 - 1) * length (take k l))
+    → PartSum l n sum
+part-sum p h = record { is = h .0 ∙ ap sumOf (part-is p); fits = omega (arith, h .1, p, part-length p) }
 
 -- a cell past the arrays has no exits
 exit-past : (r : Road) (s : State) (i : ℕ) → length (s .cumulative) ≤ i → exitAt r s i ≡ 0
 exit-past r s i h = rw (List·getD-eq-default (s .cumulative) 0 {n = i} h) (omega arith)
 
-exits-past : (r : Road) (s : State) (k : ℕ) → length (s .cumulative) ≡ 64 → sumOf (listOf (exitAt r s) (64 + k)) ≡ sumOf (listOf (exitAt r s) 64)
-exits-past r s zero h = ap (λ (n : ℕ). sumOf (listOf (exitAt r s) n)) (let e : 64 + 0 ≡ 64 = omega arith in e)
-exits-past r s (suc k) h =
-    ap (λ (n : ℕ). sumOf (listOf (exitAt r s) n)) (let e : 64 + suc k ≡ suc (64 + k) = omega arith in e)
-    ∙ omega (arith, sum-list-more (exitAt r s) (64 + k), exit-past r s (64 + k) (omega arith), exits-past r s k h)
+abbrev exitsTo : Road → State → ℕ → ℕ
+exitsTo r s n = sumOf (listOf (exitAt r s) n)
 
-pub exits-cells : (r : Road) (s : State) → length (s .cumulative) ≡ 64 → sumOf (listOf (exitAt r s) (min (r .n) 64)) ≡ exitsOf r s
+exits-past : (r : Road) (s : State) (k : ℕ) → length (s .cumulative) ≡ mostCells → exitsTo r s (mostCells + k) ≡ exitsTo r s mostCells
+exits-past r s zero h = ap (exitsTo r s) (let e : mostCells + 0 ≡ mostCells = omega arith in e)
+exits-past r s (suc k) h =
+    ap (exitsTo r s) (let e : mostCells + suc k ≡ suc (mostCells + k) = omega arith in e)
+    ∙ omega (arith, sum-list-more (exitAt r s) (mostCells + k), exit-past r s (mostCells + k) (omega arith), exits-past r s k h)
+
+exits-cells : (r : Road) (s : State) → length (s .cumulative) ≡ mostCells → exitsTo r s (min (r .n) mostCells) ≡ exitsOf r s
 unfolding exitsOf
 exits-cells r s h = ⊎-elim
-    (λ (a : r .n ≤ 64). let e : min (r .n) 64 ≡ r .n = omega arith in ap (λ (n : ℕ). sumOf (listOf (exitAt r s) n)) e)
-    (λ (a : 64 < r .n).
-    let e : min (r .n) 64 ≡ 64 = omega arith in
-    let f : 64 + (r .n - 64) ≡ r .n = omega arith in
-    ap (λ (n : ℕ). sumOf (listOf (exitAt r s) n)) e ∙ sym (exits-past r s (r .n - 64) h) ∙ ap (λ (n : ℕ). sumOf (listOf (exitAt r s) n)) f)
-    (order (r .n) 64)
+    (λ (a : r .n ≤ mostCells). let e : min (r .n) mostCells ≡ r .n = omega arith in ap (exitsTo r s) e)
+    (λ (a : mostCells < r .n).
+    let e : min (r .n) mostCells ≡ mostCells = omega arith in
+    let f : mostCells + (r .n - mostCells) ≡ r .n = omega arith in
+    ap (exitsTo r s) e ∙ sym (exits-past r s (r .n - mostCells) h) ∙ ap (exitsTo r s) f)
+    (order (r .n) mostCells)
 
--- one more cell's exits
-pub exits-more : (r : Road) (s : State) (i sum x : ℕ) → sum ≡ sumOf (listOf (exitAt r s) i) → x ≡ exitAt r s i
-    → sum + x ≡ sumOf (listOf (exitAt r s) (i + 1))
-exits-more r s i sum x e h = rw (add-one i) (omega (arith, sum-list-more (exitAt r s) i))
+-- what holds when the loop over the cells has added the exits of the first i of them
+pub record Exited (r : Road) (s : State) (n sum i : ℕ) : Type 0 where
+  pub within : i ≤ n
+  pub cells : n ≡ min (r .n) mostCells
+  pub is : sum ≡ sumOf (listOf (exitAt r s) i)
+  pub fits : sum ≤ 2 ^ 32 * i
+
+pub exited-none : {r : Road} {s : State} {n : ℕ} → n ≡ min (r .n) mostCells → Exited r s n 0 0
+exited-none {r} {s} e = record { within = omega arith; cells = e; is = sym (sum-list-none (exitAt r s)); fits = omega arith }
+
+pub exited-more : {r : Road} {s : State} {n sum i x : ℕ} → Exited r s n sum i → i < n → (x ≡ exitAt r s i) × (x ≤ 2 ^ 32 - 1)
+    → Exited r s n (sum + x) (i + 1)
+exited-more {r} {s} {i = i} h l e = record {
+  within = omega arith;
+  cells = h .cells;
+  is = rw (add-one i) (omega (arith, sum-list-more (exitAt r s) i, h .is, e .0));
+  fits = omega (arith, h .fits, e .1);
+}
+
+pub exited-end : {r : Road} {s : State} {n sum i : ℕ} → Exited r s n sum i → n ≤ i → length (s .cumulative) ≡ mostCells → sum ≡ exitsOf r s
+exited-end {r} {s} {i = i} h l long =
+    let e : i ≡ min (r .n) mostCells = omega (arith, h .within, h .cells) in
+    h .is ∙ ap (exitsTo r s) e ∙ exits-cells r s long

@@ -1,5 +1,5 @@
 -- The row of the engine's outflows, filled place by place. Assumes nothing.
-use mathlib.Core.Path.{_≡_, refl, sym, ap, _∙_}
+use mathlib.Core.Path.{_≡_, refl, ap, _∙_}
 use mathlib.Core.List.{List, [], _∷_, _++_}
 use Prim.Native.Nat.{ℕ, suc, _+_, _≤_, _<_}
 use native.Mathlib.Omega.{arith}
@@ -10,7 +10,7 @@ use Rattle.rows.specs.Rows.{fillOf, listOf}
 use Rattle.rows.specs.RowsLaws.{fill-more, fill-list, length-list}
 use Rattle.road.specs.declared.Road.{Road}
 use Rattle.road.specs.declared.State.{State}
-use Rattle.road.specs.Road.{at}
+use Rattle.numbers.specs.Lists.{at}
 use Rattle.model.specs.Places.{releaseAt, supplyAt, demandAt, shareAt, cumulativeAt, outflowAt}
 use Rattle.model.specs.Rules.{outflowsOf}
 use Rattle.moves.specs.Carried.{Carried, carried-gate, carried-cell, supply-is}
@@ -46,18 +46,18 @@ pub record Filled (r : Road) (s : State) (row l y : List ℕ) (share cumulative 
   pub filled : y ≡ fillOf (outflowAt r s row) i l
   pub places : length y ≡ r .n + 1
 
-pub filled-none : (r : Road) (s : State) (row l : List ℕ) (demand : ℕ) → demand ≡ gateDemandOf (r .«gate_capacity») (s .«gate_queue»)
+pub filled-none : {r : Road} {s : State} {row l : List ℕ} {demand : ℕ} → demand ≡ gateDemandOf (r .«gate_capacity») (s .«gate_queue»)
     → length l ≡ r .n + 1 → Filled r s row l l whole (s .«gate_cumulative») demand 0
 unfolding fillOf
-filled-none r s row l demand e h = record { carried = carried-gate r s demand e; filled = refl; places = h }
+filled-none {r} {s} {demand = demand} e h = record { carried = carried-gate r s demand e; filled = refl; places = h }
 
-pub filled-more : (r : Road) (s : State) (row l y : List ℕ) (share cumulative demand i supply room z next : ℕ)
+pub filled-more : {r : Road} {s : State} {row l y : List ℕ} {share cumulative demand i supply room z next : ℕ}
     → Filled r s row l y share cumulative demand i → i < r .n
     → supply ≡ supplyOf (at (r .wave) i) (at (r .capacity) i) (at (r .jam) i) (at (s .held) i)
     → room ≡ roomOf supply (releaseAt row i) → z ≡ outflowOf share cumulative room demand
     → next ≡ demandOf (at (r .speed) i) (at (r .capacity) i) (at (s .held) i)
     → Filled r s row l (set y i z) (at (r .share) i) (at (s .cumulative) i) next (i + 1)
-filled-more r s row l y share cumulative demand i supply room z next h less es er ez en =
+filled-more {r} {s} {row} {l} {y} {share} {cumulative} {demand} {i} {supply} {room} {z} {next} h less es er ez en =
     let k = h .carried in
     record {
       carried = carried-cell r s i next less en;
@@ -67,7 +67,7 @@ filled-more r s row l y share cumulative demand i supply room z next h less es e
       places = simp length-set (h .places);
     }
 
-pub filled-end : (r : Road) (s : State) (row l y : List ℕ) (share cumulative demand i : ℕ) → Filled r s row l y share cumulative demand i → r .n ≤ i
+pub filled-end : {r : Road} {s : State} {row l y : List ℕ} {share cumulative demand i : ℕ} → Filled r s row l y share cumulative demand i → r .n ≤ i
     → length l ≡ r .n + 1 → set y (r .n) demand ≡ outflowsOf r s row
-filled-end r s row l y share cumulative demand i h end long =
+filled-end {r} {s} {row} {l} {y} {demand = demand} {i} h end long =
     outflows-end r s row l i y demand (omega (arith, h .carried .within)) long (h .filled) (h .carried .demands)

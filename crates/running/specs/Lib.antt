@@ -1,2 +1,3 @@
-pub mod Loop
+pub mod Ran
+pub mod Made
 pub mod Promise

@@ -1,46 +1,40 @@
 -- What running promises, from what its code finds. Assumes nothing.
-use mathlib.Core.Path.{_≡_, sym, ap, _∙_}
+use mathlib.Core.Path.{_≡_, sym, _∙_}
 use mathlib.Core.List.{List}
-use Prim.Native.Nat.{ℕ, _+_, _*_, _≤_, _<_}
-use native.Mathlib.Nat.{mul-le-mul}
-use native.Mathlib.Omega.{arith}
+use Prim.Native.Nat.{ℕ, _≤_, _<_}
 use lib.ListN.{length}
-use Rattle.model.specs.Runs.{engineAfter}
-use Rattle.record.specs.Reading.{ReadAnswer, readingOf}
-use Rattle.course.specs.Course.{runSays, firstFault, EndAnswer, endOf, noState, rowsOf, runningOf, tableOf, writtenOf}
-use Rattle.course.specs.Ends.{runs-refused, writes-refused, runs-short, writes-short, runs-long, writes-long}
-use Rattle.course.specs.Readable.{Readable, readable}
-use Rattle.course.specs.Demand.{Demand}
-use Rattle.course.specs.Whole.{demand}
+use Rattle.road.specs.Study.{tableSize}
+use Rattle.reading.specs.Reading.{ReadAnswer, readingOf, studyBy}
+use Rattle.schedules.specs.Schedules.{EndAnswer, noState, runEnd, runningOf, runTable, listAfter}
+use Rattle.schedules.specs.Ends.{runs-refused, writes-refused, runs-short, writes-short, runs-long, writes-long}
+use Rattle.schedules.specs.Demand.{Promised}
+use Rattle.schedules.specs.Whole.{promised}
 
 -- the answer, the list at exit and what they are worth
 abbrev pub Promise : List ℕ → List ℕ → EndAnswer → List ℕ → Type 0
-Promise s list e out = (e ≡ runningOf s list) × ((out ≡ writtenOf s list) × (readingOf s .number ≡ 0 → Demand s out e))
+Promise bytes list e out = (e ≡ runningOf bytes list) × ((out ≡ listAfter bytes list) × (readingOf bytes .number ≡ 0 → Promised bytes out e))
 
-promised : (s list : List ℕ) (e : EndAnswer) (out : List ℕ) → e ≡ runningOf s list → out ≡ writtenOf s list → Promise s list e out
-promised s list e out ee eo = (ee, (eo, λ h. rw (ee, eo) (demand s h list)))
+promise : (bytes list : List ℕ) (e : EndAnswer) (out : List ℕ) → e ≡ runningOf bytes list → out ≡ listAfter bytes list → Promise bytes list e out
+promise bytes list e out ee eo = (ee, (eo, λ h. rw (ee, eo) (promised bytes h list)))
 
-module _ (s list : List ℕ) (a : ReadAnswer) (ea : a ≡ readingOf s) where
-  pub refused-promise : (a .number ≡ 0 → ⊥) → (e : EndAnswer) → e ≡ noState (a .number) (a .place) → Promise s list e list
-  refused-promise h e ee =
-      promised s list e list (ee ∙ sym (runs-refused s a ea h list)) (sym (writes-refused s a ea h list))
+module _ (bytes list : List ℕ) {x : ReadAnswer} (ex : x ≡ readingOf bytes) where
+  pub promise-refused : {e : EndAnswer} → (x .number ≡ 0 → ⊥) → e ≡ noState (x .number) (x .place) → Promise bytes list e list
+  promise-refused {e} h ee =
+      let n : readingOf bytes .number ≡ 0 → ⊥ = rw ex at h in
+      promise bytes list e list (rw ex at ee ∙ sym (runs-refused bytes n list)) (sym (writes-refused bytes n list))
 
-  module _ (h : a .number ≡ 0) where
-    pub short-promise : length list < a .steps * (a .road .n + 1) → (e : EndAnswer) → e ≡ noState 11 0 → Promise s list e list
-    short-promise l e ee = promised s list e list (ee ∙ sym (runs-short s a ea h list l)) (sym (writes-short s a ea h list l))
+  module _ (h : x .number ≡ 0) where
+    reads : readingOf bytes .number ≡ 0
+    reads = rw ex at h
 
-    pub long-promise : a .steps * (a .road .n + 1) ≤ length list → (e : EndAnswer) (out : List ℕ)
-        → e ≡ endOf (a .road) (runSays (a .road) (a .state) (rowsOf s a)) (engineAfter (a .road) (a .state) (rowsOf s a)) (a .steps)
-        → out ≡ tableOf (a .road) (a .state) (rowsOf s a) list (firstFault (runSays (a .road) (a .state) (rowsOf s a)) (a .steps))
-        → Promise s list e out
-    long-promise l e out ee eo = promised s list e out (ee ∙ sym (runs-long s a ea h list l)) (eo ∙ sym (writes-long s a ea h list l))
+    pub promise-short : {e : EndAnswer} → length list < tableSize (studyBy bytes (x .road) (x .state) (x .steps)) → e ≡ noState 11 0 → Promise bytes list e list
+    promise-short {e} l ee =
+        let m = rw ex at l in
+        promise bytes list e list (ee ∙ sym (runs-short bytes reads list m)) (sym (writes-short bytes reads list m))
 
-    -- the table's size fits a machine number
-    pub record Size : Type 0 where
-      pub cells : a .road .n ≤ 64
-      pub table : a .steps * (a .road .n + 1) ≤ 93600
-
-    pub size : Size
-    size =
-        let c = readable s a ea h .course in
-        record { cells = c .road .cells; table = mul-le-mul {m₂ = 65} (c .steps) (omega (arith, c .road .cells)) }
+    pub promise-long : {e : EndAnswer} {out : List ℕ} → tableSize (studyBy bytes (x .road) (x .state) (x .steps)) ≤ length list
+        → e ≡ runEnd (studyBy bytes (x .road) (x .state) (x .steps)) → out ≡ runTable (studyBy bytes (x .road) (x .state) (x .steps)) list
+        → Promise bytes list e out
+    promise-long {e} {out} l ee eo =
+        let m = rw ex at l in
+        promise bytes list e out (rw ex at ee ∙ sym (runs-long bytes reads list m)) (rw ex at eo ∙ sym (writes-long bytes reads list m))

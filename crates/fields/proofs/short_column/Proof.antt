@@ -1,24 +1,19 @@
 -- `fields::short_column` meets its contract. The invariant: the fields of the i cells passed are stored. Assumes nothing.
-use mathlib.Core.Path.{_≡_, refl, ap, _∙_}
-use Prim.Native.Nat.{ℕ, _≤_, _-_}
-use Rattle.road.specs.Road.{zeros}
-use Rattle.rows.specs.Rows.{fillOf}
-use Rattle.rows.specs.RowsLaws.{fill-more}
-use Rattle.fields.specs.Fields.{shortSize, fieldOf}
+use Prim.Native.Nat.{_-_}
+use Rattle.fields.specs.Fields.{shortSize}
+use Rattle.fields.specs.FieldsLaws.{Stored, stored-none, stored-more, stored-end}
 use borrow.Author.Needs.{needs}
-use native.Mathlib.Omega.{arith}
 use Rattle.fields.proofs.short_column.Statement.{statement}
 use Rattle.fields.proofs.short_column.Tie as tie
 
 abbrev Inv-loop : tie.InvT-loop
-Inv-loop bytes offset n r₀ i₀ r i = (i ≤ n) × (r ≡ fillOf (fieldOf bytes offset shortSize) i zeros)
+Inv-loop bytes offset n r₀ i₀ r i = Stored bytes offset shortSize n r i
 
 abbrev μ-loop : tie.MeasureT-loop
 μ-loop bytes offset n r₀ i₀ r i = n - i
 
 loop-holds : tie.Need-loop-holds Inv-loop μ-loop
-unfolding fillOf
-loop-holds c = (omega arith, refl)
+loop-holds c = stored-none
 
 mul-short : tie.Need-mul-short Inv-loop μ-loop
 mul-short c = search needs
@@ -45,17 +40,10 @@ loop-less : tie.Need-loop-less Inv-loop μ-loop
 loop-less c = search needs
 
 loop-again : tie.Need-loop-again Inv-loop μ-loop
-loop-again c =
-    let l = c .before .before .loop in
-    let a = c .before .before .before .before .args in
-    (omega arith, cc (fill-more (fieldOf (a .bytes .now) (a .offset) shortSize) (l .i) zeros, c .short .ensures, l .inv .1))
+loop-again c = let i = c .before in stored-more (i .before .loop .inv) (i .loop-test .taken) (c .short .ensures)
 
 returns : tie.Need-returns Inv-loop μ-loop
-returns c =
-    let l = c .before .loop in
-    let a = c .before .before .before .args in
-    let e : l .i ≡ a .n = omega arith in
-    l .inv .1 ∙ ap (λ (j : ℕ). fillOf (fieldOf (a .bytes .now) (a .offset) shortSize) j zeros) e
+returns c = stored-end (c .before .loop .inv) (search needs)
 
 pub short-column-spec : {M : Type 1} → statement M
 short-column-spec =

@@ -1,22 +1,34 @@
 -- `judging::judge` meets its contract. Each return, by the tests on the way to it. Assumes nothing.
-use Rattle.course.specs.Answers as ends
 use mathlib.Core.Path.{_≡_, ap}
 use Rattle.road.specs.Refusals.{refusalNumber}
-use Rattle.course.specs.Readable.{Readable, readable}
-use Rattle.judging.specs.Ends.{ends-unread, ends-length, ends-rows}
-use native.Mathlib.Omega.{arith}
+use Rattle.reading.specs.Reading.{studyBy, readAnswer}
+use Rattle.schedules.specs.Schedules.{endAnswer}
+use Rattle.schedules.specs.Readable.{Readable, readable}
+use Rattle.judging.specs.Passed.{answer-refused, answer-length, answer-rows}
 use borrow.Author.Needs.{needs}
+use native.Mathlib.Omega.{arith}
 use Rattle.judging.proofs.judge.Statement.{statement}
 use Rattle.judging.proofs.judge.Tie as tie
+
+-- places of the code: the arguments from the reading, the reading from the tests after it
+abbrev A : tie.After-read → tie.Start
+A c = c .before .before .before
+
+abbrev to-read : tie.After-struct-known → tie.After-read
+to-read c = c .before .before .before .before .before
+
+abbrev to-passed : tie.After-struct-known → tie.Else1
+to-passed c = c .before .before .before
 
 -- a record that was read, and what that says of it
 read-well : (c : tie.Else1) → refusalNumber (c .before .before .read .result .refusal) ≡ 0
 read-well c = search needs
 
 held : (c : tie.Else1) →
-    let a = c .before .before .read .result in
-    Readable (c .before .before .before .before .before .args .bytes .now) (a .road) (a .state) (a .steps)
-held c = readable (c .before .before .before .before .before .args .bytes .now) _ (c .before .before .read .ensures) (read-well c)
+    let x = readAnswer (c .before .before .read .result) in
+    let bytes = A (c .before .before) .args .bytes .now in
+    Readable bytes (studyBy bytes (x .road) (x .state) (x .steps))
+held c = readable (A (c .before .before) .args .bytes .now) _ (c .before .before .read .ensures) (read-well c)
 
 read-requires : tie.Need-read-requires
 read-requires c κs = search needs
@@ -29,30 +41,34 @@ without-state-requires c κs = search needs
 
 returns : tie.Need-returns
 returns c =
-    let a = c .before .before .before .before .before .before .args in
-    ends-unread (a .bytes .now) (a .schedule .now) (c .before .before .before .read .ensures) (search needs) (ap ends.answered (c .without-state .ensures))
+    let r = c .before .before .before in
+    let a = A r .args in
+    answer-refused (a .bytes .now) (a .schedule .now) (r .read .ensures) (search needs) (ap endAnswer (c .without-state .ensures))
 
 add-if2 : tie.Need-add-if2
-add-if2 c = omega (arith, held (c .before .before .before) .course .road .cells)
+add-if2 c = omega (arith, held (to-passed c) .ok .road .cells)
 
 mul-if2 : tie.Need-mul-if2
-mul-if2 c = omega (arith, held (c .before .before .before .before) .outflows)
+mul-if2 c = omega (arith, held (to-passed c) .outflows)
 
 without-state-requires-2 : tie.Need-without-state-requires-2
 without-state-requires-2 c κs = search needs
 
 returns-2 : tie.Need-returns-2
 returns-2 c =
-    let a = c .before .before .before .before .before .before .before .before .before .before .before .args in
-    ends-length (a .bytes .now) (a .schedule .now) (c .before .before .before .before .before .before .before .before .read .ensures) (read-well (c .before .before .before .before .before .before)) (search needs) (ap ends.answered (c .without-state2 .ensures))
+    let k = c .before .before in
+    let a = A (to-read k) .args in
+    answer-length (a .bytes .now) (a .schedule .now) (to-read k .read .ensures) (read-well (to-passed k)) (search needs)
+    (ap endAnswer (c .without-state2 .ensures))
 
 judge-rows-requires : tie.Need-judge-rows-requires
-judge-rows-requires c κs = (held (c .before .before .before .before .before), search needs)
+judge-rows-requires c κs = record { readable = held (to-passed (c .before)); right = omega arith }
 
 returns-3 : tie.Need-returns-3
 returns-3 c =
-    let a = c .before .before .before .before .before .before .before .before .before .before .before .args in
-    ends-rows (a .bytes .now) (a .schedule .now) (c .before .before .before .before .before .before .before .before .read .ensures) (read-well (c .before .before .before .before .before .before)) (search needs) (c .judge-rows .ensures)
+    let k = c .before .before in
+    let a = A (to-read k) .args in
+    answer-rows (a .bytes .now) (a .schedule .now) (to-read k .read .ensures) (read-well (to-passed k)) (search needs) (c .judge-rows .ensures)
 
 pub judge-spec : {M : Type 1} → statement M
 judge-spec =

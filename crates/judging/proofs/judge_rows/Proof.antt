@@ -1,56 +1,73 @@
 -- `judging::judge_rows` meets its contract. The invariant: no fault in the k steps passed, and u is the schedule's own state after them. Assumes nothing.
 use mathlib.Core.Path.{_≡_, sym, ap, _∙_}
 use mathlib.Core.List.{List}
-use Prim.Native.Nat.{ℕ, _+_, _-_, _*_, _≤_}
+use Prim.Native.Nat.{ℕ, _+_, _-_, _≤_}
 use lib.ListN.{length, take, drop}
-use Rattle.fields.specs.Fields.{recordRow}
+use Rattle.rows.specs.TablesLaws.{part-row, part-length}
+use Rattle.road.specs.Study.{Study, places}
+use Rattle.fields.specs.Fields.{rowNumbers}
 use Rattle.fields.specs.FieldsLaws.{length-row}
-use Rattle.course.specs.Tables.{part-row, part-length}
-use Rattle.judging.specs.Loop.{Judged, Turn, begins, row-fits, ends-judged, ends-fault, proposed, steps-left, movable, follows}
+use Rattle.model.specs.RunsLaws.{same-road}
+use Rattle.reading.specs.Reading.{studyBy}
+use Rattle.schedules.specs.Schedules.{endAnswer}
+use Rattle.judging.specs.Passed.{Passed, JudgeTurn, passed-none, passed-more, passed-end, row-ends-by, ends-fault, proposed, steps-left, movable}
 use borrow.Author.Needs.{needs}
 use native.Mathlib.Omega.{arith}
 use Rattle.judging.proofs.judge_rows.Statement.{statement}
 use Rattle.judging.proofs.judge_rows.Tie as tie
 
 abbrev Inv-loop : tie.InvT-loop
-Inv-loop bytes r steps schedule n numbers places u₀ k₀ from₀ u k from = Judged r u₀ (recordRow bytes (r .n)) schedule steps u k from
+Inv-loop bytes r steps schedule n numbers places u₀ k₀ from₀ u k from = Passed (studyBy bytes r u₀ steps) schedule u k from
 
 abbrev μ-loop : tie.MeasureT-loop
 μ-loop bytes r steps schedule n numbers places u₀ k₀ from₀ u k from = steps - k
 
--- the arguments, from the loop's place, and the row and the outflows of a turn
+-- places of the code: the arguments from the loop's place, the row of a turn from the verdict on it, the verdict from the move
 abbrev A : tie.At-loop Inv-loop μ-loop → tie.Start Inv-loop μ-loop
 A c = c .before .before .before
 
+abbrev to-row : tie.After-number Inv-loop μ-loop → tie.After-row Inv-loop μ-loop
+to-row c = c .before .before .before .before
+
+abbrev to-verdict : tie.After-row3 Inv-loop μ-loop → tie.After-number Inv-loop μ-loop
+to-verdict c = c .before .before
+
+-- the study, the row as it is lent and the schedule's row of outflows
+abbrev Of : tie.Start Inv-loop μ-loop → Study
+Of c = studyBy (c .args .bytes .now) (c .args .r) (c .args .s) (c .args .steps)
+
 abbrev Row : tie.After-row Inv-loop μ-loop → List ℕ
-Row c = take (1 + 2 * A (c .before .before) .args .r .n) (c .row .result)
+Row c = take (rowNumbers (A (c .before .before) .args .r .n)) (c .row .result)
 
 abbrev Outflows : tie.After-row Inv-loop μ-loop → List ℕ
 Outflows c =
     let l = c .before .before in
-    take (l .loop .from + (A l .args .r .n + 1) - l .loop .from) (drop (l .loop .from) (A l .args .schedule .now))
+    take (l .loop .from + places (Of (A l)) - l .loop .from) (drop (l .loop .from) (A l .args .schedule .now))
 
 -- the row of outflows lies within the schedule
-fits : (c : tie.In-loop Inv-loop μ-loop) → c .before .loop .from + (A (c .before) .args .r .n + 1) ≤ length (A (c .before) .args .schedule .now)
-fits c = row-fits (c .before .loop .inv) (A (c .before) .pre .1) (c .loop-test .taken)
+fits : (c : tie.In-loop Inv-loop μ-loop) → c .before .loop .from + places (Of (A (c .before))) ≤ length (A (c .before) .args .schedule .now)
+fits c =
+    let a = A (c .before) in
+    row-ends-by (c .before .loop .inv) (length (a .args .schedule .now)) (omega (arith, a .pre .right)) (c .loop-test .taken)
 
-numbers : (c : tie.After-row Inv-loop μ-loop) → length (Row c) ≡ 1 + 2 * A (c .before .before) .args .r .n
+numbers : (c : tie.After-row Inv-loop μ-loop) → length (Row c) ≡ rowNumbers (A (c .before .before) .args .r .n)
 numbers c = let a = A (c .before .before) .args in ap length (c .row .ensures) ∙ length-row (a .bytes .now) (a .r .n) _
 
+-- what a turn knows
 turn : (c : tie.After-row Inv-loop μ-loop) →
     let l = c .before .before in
-    let a = A l .args in
-    Turn (a .r) (a .s) (recordRow (a .bytes .now) (a .r .n)) (a .schedule .now) (a .steps) (l .loop .u) (l .loop .k) (l .loop .from) (Row c) (Outflows c)
+    JudgeTurn (Of (A l)) (A l .args .schedule .now) (l .loop .u) (l .loop .k) (l .loop .from) (A l .args .r) (Row c) (Outflows c)
 turn c =
     let l = c .before .before in
-    let a = A l .args in
+    let zs = A l .args .schedule .now in
     record {
-      course = A l .pre .0 .course;
-      judged = l .loop .inv;
+      ok = A l .pre .readable .ok;
+      passed = l .loop .inv;
       left = c .before .loop-test .taken;
+      road = same-road (Of (A l)) (l .loop .k);
       numbers = c .row .ensures;
-      outflows = part-row (a .schedule .now) (a .r .n + 1) (l .loop .k) (l .loop .from) (l .loop .inv .starts);
-      places = part-length (a .schedule .now) (l .loop .from) (a .r .n + 1) (fits (c .before));
+      outflows = part-row zs (places (Of (A l))) (l .loop .k) (l .loop .from) (l .loop .inv .starts);
+      size = part-length zs (l .loop .from) (places (Of (A l))) (fits (c .before));
     }
 
 mul-numbers : tie.Need-mul-numbers Inv-loop μ-loop
@@ -63,10 +80,10 @@ add-places : tie.Need-add-places Inv-loop μ-loop
 add-places c = search needs
 
 loop-holds : tie.Need-loop-holds Inv-loop μ-loop
-loop-holds c = begins
+loop-holds c = passed-none
 
 row-requires : tie.Need-row-requires Inv-loop μ-loop
-row-requires c κs = let p = A (c .before) .pre .0 in (p .course .road .cells, p .held (c .before .loop .k) (c .loop-test .taken))
+row-requires c κs = A (c .before) .pre .readable .row (c .before .loop .k) (c .loop-test .taken)
 
 add-end : tie.Need-add-end Inv-loop μ-loop
 add-end c = omega (arith, fits (c .before))
@@ -95,19 +112,25 @@ verdict-requires c κs = proposed (turn (c .before .before))
 number-requires : tie.Need-number-requires Inv-loop μ-loop
 number-requires c κs = search needs
 
+at-step-requires : tie.Need-at-step-requires Inv-loop μ-loop
+at-step-requires c κs = search needs
+
 returns : tie.Need-returns Inv-loop μ-loop
-returns c = ends-fault (turn (c .before .before .before .before .before)) (c .before .before .verdict .ensures) (search needs)
+returns c =
+    let v = c .before .before in
+    ends-fault (turn (to-row v)) (v .before .verdict .ensures) (search needs) (ap endAnswer (c .at-step .ensures))
 
 array-share-prefix-row-2 : tie.Need-array-share-prefix-row-2 Inv-loop μ-loop
 array-share-prefix-row-2 c = search needs
 
 slice-aggregate-next-by : tie.Need-slice-aggregate-next-by Inv-loop μ-loop
-slice-aggregate-next-by c = sym (numbers (c .before .before .before .before .before .before))
+slice-aggregate-next-by c = sym (numbers (to-row (to-verdict c)))
 
 next-by-requires : tie.Need-next-by-requires Inv-loop μ-loop
 next-by-requires c κs =
-    let t = turn (c .before .before .before .before .before .before) in
-    (movable t (c .before .before .before .verdict .ensures) (search needs), steps-left t)
+    let v = to-verdict c in
+    let t = turn (to-row v) in
+    (movable t (v .before .verdict .ensures) (search needs), steps-left t)
 
 add-k : tie.Need-add-k Inv-loop μ-loop
 add-k c = search needs
@@ -116,10 +139,15 @@ loop-less : tie.Need-loop-less Inv-loop μ-loop
 loop-less c = search needs
 
 loop-again : tie.Need-loop-again Inv-loop μ-loop
-loop-again c = follows (turn (c .before .before .before .before .before .before .before)) (c .before .before .before .before .verdict .ensures) (search needs) (c .next-by .ensures)
+loop-again c =
+    let v = to-verdict (c .before) in
+    passed-more (turn (to-row v)) (v .before .verdict .ensures) (search needs) (c .next-by .ensures)
+
+complete-requires : tie.Need-complete-requires Inv-loop μ-loop
+complete-requires c κs = search needs
 
 returns-2 : tie.Need-returns-2 Inv-loop μ-loop
-returns-2 c = ends-judged (c .before .loop .inv) (search needs)
+returns-2 c = passed-end (c .before .before .loop .inv) (search needs) (ap endAnswer (c .complete .ensures))
 
 pub judge-rows-spec : {M : Type 1} → statement M
 judge-rows-spec =
@@ -141,6 +169,7 @@ judge-rows-spec =
     slice-aggregate-verdict
     verdict-requires
     number-requires
+    at-step-requires
     returns
     array-share-prefix-row-2
     slice-aggregate-next-by
@@ -148,4 +177,5 @@ judge-rows-spec =
     add-k
     loop-less
     loop-again
+    complete-requires
     returns-2)

@@ -4,6 +4,10 @@ use borrow.Author.Needs.{needs}
 use Rattle.listing.proofs.header.Statement.{statement}
 use Rattle.listing.proofs.header.Tie as tie
 
+-- where the names have been put
+abbrev Names : tie.After-slice-known2 → tie.After-put
+Names c = c .before .before
+
 slice-aggregate-put : tie.Need-slice-aggregate-put
 slice-aggregate-put c = search needs
 
@@ -15,7 +19,7 @@ same-length c = search needs
 
 returns : tie.Need-returns
 unfolding headerLine
-returns c = c .before .before .put .ensures
+returns c = Names c .put .ensures
 
 pub header-spec : {M : Type 1} → statement M
 header-spec = tie.close (tie.spec slice-aggregate-put put-requires same-length returns)

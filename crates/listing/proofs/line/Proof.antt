@@ -1,30 +1,69 @@
 -- `listing::line` meets its contract: its five words, one after the other. Assumes nothing.
-use Rattle.listing.specs.ListingLaws.{word-room, line-put}
+use Rattle.listing.specs.Placed.{room-more}
+use Rattle.listing.specs.ListingLaws.{Word, word-room, words-room, line-put}
 use native.Mathlib.Omega.{arith}
 use borrow.Author.Needs.{needs}
 use Rattle.listing.proofs.line.Statement.{statement}
 use Rattle.listing.proofs.line.Tie as tie
 
+-- where each word has been put, from where the next is asked for
+abbrev Step : tie.After-word-arg2 → tie.After-word
+Step c = c .before .before .before
+
+abbrev Place : tie.After-word-arg3 → tie.After-word2
+Place c = c .before .before .before
+
+abbrev Outflow : tie.After-word-arg4 → tie.After-word3
+Outflow c = c .before .before .before
+
+abbrev Held : tie.After-word-arg5 → tie.After-word4
+Held c = c .before .before .before
+
+abbrev Queue : tie.After-slice-known6 → tie.After-word5
+Queue c = c .before .before
+
 word-requires : tie.Need-word-requires
 word-requires c κs = search needs
 
 word-requires-2 : tie.Need-word-requires-2
-word-requires-2 c κs = let z0 = word-room _ _ _ _ _ _ (c .before .before .before .word .ensures) in omega (arith, z0 .end, z0 .same)
+word-requires-2 c κs = let z = word-room (Word.put (Step c .word .ensures)) in omega (arith, z .end, z .same)
 
 word-requires-3 : tie.Need-word-requires-3
-word-requires-3 c κs = let z0 = word-room _ _ _ _ _ _ (c .before .before .before .before .before .before .before .word .ensures) in let z1 = word-room _ _ _ _ _ _ (c .before .before .before .word2 .ensures) in omega (arith, z0 .end, z0 .same, z1 .end, z1 .same)
+word-requires-3 c κs =
+    let two = words-room (Word.put (Step (Place c .before) .word .ensures)) (Word.put (Place c .word2 .ensures)) in
+    omega (arith, two .end, two .same)
 
 word-requires-4 : tie.Need-word-requires-4
-word-requires-4 c κs = let z0 = word-room _ _ _ _ _ _ (c .before .before .before .before .before .before .before .before .before .before .before .word .ensures) in let z1 = word-room _ _ _ _ _ _ (c .before .before .before .before .before .before .before .word2 .ensures) in let z2 = word-room _ _ _ _ _ _ (c .before .before .before .word3 .ensures) in omega (arith, z0 .end, z0 .same, z1 .end, z1 .same, z2 .end, z2 .same)
+word-requires-4 c κs =
+    let place = Place (Outflow c .before) in
+    let two = words-room (Word.put (Step (place .before) .word .ensures)) (Word.put (place .word2 .ensures)) in
+    let three = room-more two (word-room (Word.put (Outflow c .word3 .ensures))) in
+    omega (arith, three .end, three .same)
 
 word-requires-5 : tie.Need-word-requires-5
-word-requires-5 c κs = let z0 = word-room _ _ _ _ _ _ (c .before .before .before .before .before .before .before .before .before .before .before .before .before .before .before .word .ensures) in let z1 = word-room _ _ _ _ _ _ (c .before .before .before .before .before .before .before .before .before .before .before .word2 .ensures) in let z2 = word-room _ _ _ _ _ _ (c .before .before .before .before .before .before .before .word3 .ensures) in let z3 = word-room _ _ _ _ _ _ (c .before .before .before .word4 .ensures) in omega (arith, z0 .end, z0 .same, z1 .end, z1 .same, z2 .end, z2 .same, z3 .end, z3 .same)
+word-requires-5 c κs =
+    let outflow = Outflow (Held c .before) in
+    let place = Place (outflow .before) in
+    let two = words-room (Word.put (Step (place .before) .word .ensures)) (Word.put (place .word2 .ensures)) in
+    let three = room-more two (word-room (Word.put (outflow .word3 .ensures))) in
+    let four = room-more three (word-room (Word.put (Held c .word4 .ensures))) in
+    omega (arith, four .end, four .same)
 
 same-length : tie.Need-same-length
 same-length c = search needs
 
 returns : tie.Need-returns
-returns c = line-put _ _ _ _ _ _ _ _ _ _ _ _ _ _ _ _ _ (c .before .before .before .before .before .before .before .before .before .before .before .before .before .before .before .before .before .before .word .ensures) (c .before .before .before .before .before .before .before .before .before .before .before .before .before .before .word2 .ensures) (c .before .before .before .before .before .before .before .before .before .before .word3 .ensures) (c .before .before .before .before .before .before .word4 .ensures) (c .before .before .word5 .ensures)
+returns c =
+    let held = Held (Queue c .before) in
+    let outflow = Outflow (held .before) in
+    let place = Place (outflow .before) in
+    let step = Step (place .before) in
+    line-put
+    (Word.put (step .word .ensures))
+    (Word.put (place .word2 .ensures))
+    (Word.put (outflow .word3 .ensures))
+    (Word.put (held .word4 .ensures))
+    (Word.put (Queue c .word5 .ensures))
 
 pub line-spec : {M : Type 1} → statement M
 line-spec =

@@ -1,8 +1,6 @@
 -- `listing::lines` meets its contract. The invariant: the lines of the first i cells are put after the gate's. Assumes nothing.
-use mathlib.Core.Path.{_≡_}
 use native.Mathlib.Omega.{arith}
-use Rattle.listing.specs.ListingLaws.{Listed, line-room, listed-none, listed-more}
-use Rattle.listing.specs.Placed.{puts-more}
+use Rattle.listing.specs.ListingLaws.{Listed, listed-none, listed-more, listed-room, listed-end}
 use Prim.Native.Nat.{_-_}
 use borrow.Author.Needs.{needs}
 use Rattle.listing.proofs.lines.Statement.{statement}
@@ -14,6 +12,16 @@ Inv-loop buffer₀ at step n outflows s end₀ i₀ buffer end i = Listed buffer
 abbrev μ-loop : tie.MeasureT-loop
 μ-loop buffer₀ at step n outflows s end₀ i₀ buffer end i = n - i
 
+-- the gate's line, from the loop's place; a turn, from where its line is asked for; and the cell's line, from the turn's end
+abbrev Gate : tie.At-loop Inv-loop μ-loop → tie.After-line Inv-loop μ-loop
+Gate c = c .before .before .before
+
+abbrev Turn : tie.After-line-arg4 Inv-loop μ-loop → tie.In-loop Inv-loop μ-loop
+Turn c = c .before .before .before .before
+
+abbrev Cell : tie.After-slice-known3 Inv-loop μ-loop → tie.After-line2 Inv-loop μ-loop
+Cell c = c .before .before
+
 shared-slice-read-line : tie.Need-shared-slice-read-line Inv-loop μ-loop
 shared-slice-read-line c = search needs
 
@@ -21,7 +29,7 @@ line-requires : tie.Need-line-requires Inv-loop μ-loop
 line-requires c κs = search needs
 
 loop-holds : tie.Need-loop-holds Inv-loop μ-loop
-loop-holds c = listed-none _ _ _ _ _ _
+loop-holds c = listed-none
 
 add-line : tie.Need-add-line Inv-loop μ-loop
 add-line c = search needs
@@ -48,7 +56,10 @@ element-copy-out-line-2 : tie.Need-element-copy-out-line-2 Inv-loop μ-loop
 element-copy-out-line-2 c = search needs
 
 line-requires-2 : tie.Need-line-requires-2 Inv-loop μ-loop
-line-requires-2 c κs = let z = line-room _ _ _ _ _ _ _ _ _ (c .before .before .before .before .before .before .before .before .line .ensures) in let l = c .before .before .before .before .before .loop .inv .room in omega (arith, z .end, z .same, l .end, l .same)
+line-requires-2 c κs =
+    let l = Turn c .before in
+    let z = listed-room (l .loop .inv) _ _ (Gate l .line .ensures) in
+    omega (arith, z .end, z .same)
 
 add-i : tie.Need-add-i Inv-loop μ-loop
 add-i c = search needs
@@ -57,13 +68,13 @@ loop-less : tie.Need-loop-less Inv-loop μ-loop
 loop-less c = search needs
 
 loop-again : tie.Need-loop-again Inv-loop μ-loop
-loop-again c = listed-more _ _ _ _ _ _ _ _ _ _ _ (c .before .before .before .before .before .before .before .before .loop .inv) (c .before .before .before .before .before .before .before .loop-test .taken) (c .before .before .line2 .ensures)
+loop-again c = let t = Turn (Cell c .before) in listed-more (t .before .loop .inv) (t .loop-test .taken) (Cell c .line2 .ensures)
 
 same-length : tie.Need-same-length Inv-loop μ-loop
 same-length c = search needs
 
 returns : tie.Need-returns Inv-loop μ-loop
-returns c = let e : c .before .loop .i ≡ c .before .before .before .before .before .before .before .before .before .args .n = omega (arith, c .before .loop .inv .within) in puts-more _ _ _ _ _ _ _ _ (c .before .before .before .before .line .ensures) (rw e at (c .before .loop .inv .puts))
+returns c = listed-end (c .before .loop .inv) _ _ (Gate (c .before) .line .ensures) (search needs)
 
 pub lines-spec : {M : Type 1} → statement M
 lines-spec =

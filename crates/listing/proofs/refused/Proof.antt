@@ -1,10 +1,23 @@
 -- `listing::refused` meets its contract. Assumes nothing.
 use native.Mathlib.Omega.{arith}
-use Rattle.listing.specs.ListingLaws.{word-room, refused-put}
-use Rattle.listing.specs.Placed.{room}
+use Rattle.listing.specs.ListingLaws.{Word, word-room, named-room, refused-put}
+use Rattle.listing.specs.Placed.{Text, room-more}
 use borrow.Author.Needs.{needs}
 use Rattle.listing.proofs.refused.Statement.{statement}
 use Rattle.listing.proofs.refused.Tie as tie
+
+-- where each text has been put, from where the next is asked for
+abbrev Name : tie.After-word-arg → tie.After-put
+Name c = c .before .before .before
+
+abbrev Number : tie.After-word-arg2 → tie.After-word
+Number c = c .before .before .before
+
+abbrev Step : tie.After-word-arg3 → tie.After-word2
+Step c = c .before .before .before
+
+abbrev Place : tie.After-slice-known5 → tie.After-word3
+Place c = c .before .before
 
 slice-aggregate-put : tie.Need-slice-aggregate-put
 slice-aggregate-put c = search needs
@@ -16,16 +29,30 @@ word-requires : tie.Need-word-requires
 word-requires c κs = search needs
 
 word-requires-2 : tie.Need-word-requires-2
-word-requires-2 c κs = let z0 = room _ _ _ _ _ 8 (c .before .before .before .before .before .before .before .put .ensures) (omega arith) in let z1 = word-room _ _ _ _ _ _ (c .before .before .before .word .ensures) in omega (arith, z0 .end, z0 .same, z1 .end, z1 .same)
+word-requires-2 c κs =
+    let two = named-room (Text.put (Name (Number c .before) .put .ensures)) (Word.put (Number c .word .ensures)) in
+    omega (arith, two .end, two .same)
 
 word-requires-3 : tie.Need-word-requires-3
-word-requires-3 c κs = let z0 = room _ _ _ _ _ 8 (c .before .before .before .before .before .before .before .before .before .before .before .put .ensures) (omega arith) in let z1 = word-room _ _ _ _ _ _ (c .before .before .before .before .before .before .before .word .ensures) in let z2 = word-room _ _ _ _ _ _ (c .before .before .before .word2 .ensures) in omega (arith, z0 .end, z0 .same, z1 .end, z1 .same, z2 .end, z2 .same)
+word-requires-3 c κs =
+    let number = Number (Step c .before) in
+    let two = named-room (Text.put (Name (number .before) .put .ensures)) (Word.put (number .word .ensures)) in
+    let three = room-more two (word-room (Word.put (Step c .word2 .ensures))) in
+    omega (arith, three .end, three .same)
 
 same-length : tie.Need-same-length
 same-length c = search needs
 
 returns : tie.Need-returns
-returns c = refused-put _ _ _ _ _ _ _ _ _ _ _ _ _ (c .before .before .before .before .before .before .before .before .before .before .before .before .before .before .put .ensures) (c .before .before .before .before .before .before .before .before .before .before .word .ensures) (c .before .before .before .before .before .before .word2 .ensures) (c .before .before .word3 .ensures)
+returns c =
+    let step = Step (Place c .before) in
+    let number = Number (step .before) in
+    let name = Name (number .before) in
+    refused-put
+    (Text.put (name .put .ensures))
+    (Word.put (number .word .ensures))
+    (Word.put (step .word2 .ensures))
+    (Word.put (Place c .word3 .ensures))
 
 pub refused-spec : {M : Type 1} → statement M
 refused-spec =

@@ -8,6 +8,10 @@ use borrow.Author.Needs.{needs}
 use Rattle.moves.proofs.counted.Statement.{statement}
 use Rattle.moves.proofs.counted.Tie as tie
 
+-- the sum's place, from the stores'
+abbrev Sum : tie.After-struct-known2 → tie.After-present
+Sum c = c .before .before
+
 present-requires : tie.Need-present-requires
 present-requires c κs = search needs
 
@@ -15,7 +19,7 @@ add-t : tie.Need-add-t
 add-t c = search needs
 
 add-t-2 : tie.Need-add-t-2
-add-t-2 c = omega (arith, c .before .before .present .ensures, c .before .before .before .pre .total, c .before .before .before .pre .present)
+add-t-2 c = omega (arith, Sum c .present .ensures, Sum c .before .pre)
 
 -- a state with one step more, and a sum added to its total
 abbrev added : State → ℕ → State
@@ -31,7 +35,7 @@ added s sum = record {
 
 returns : tie.Need-returns
 unfolding countedOf
-returns c = ap (added (c .before .before .before .args .s)) (c .before .before .present .ensures)
+returns c = ap (added (Sum c .before .args .s)) (Sum c .present .ensures)
 
 pub counted-spec : {M : Type 1} → statement M
 counted-spec = tie.close (tie.spec present-requires add-t add-t-2 returns)

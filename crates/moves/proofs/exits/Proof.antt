@@ -1,28 +1,31 @@
--- `moves::exits` meets its contract. Assumes nothing.
-use mathlib.Core.Path.{_≡_, sym, ap, _∙_}
-use Prim.Native.Nat.{ℕ, _≤_, _-_, _*_, min}
+-- `moves::exits` meets its contract. The invariant: the sum is the exits of the first i cells. Assumes nothing.
+use mathlib.Core.Path.{_≡_}
+use Prim.Native.Nat.{_-_}
 use lib.ListN.{length}
-use Rattle.rows.specs.Sum.{sumOf}
-use Rattle.rows.specs.Rows.{listOf}
-use Rattle.rows.specs.RowsLaws.{sum-list-none}
-use Rattle.model.specs.Move.{exitAt}
-use Rattle.moves.specs.Cells.{exits-more, exits-cells}
+use Rattle.road.specs.Road.{mostCells}
+use Rattle.moves.specs.Cells.{Exited, exited-none, exited-more, exited-end}
 use borrow.Author.Needs.{needs}
-use native.Mathlib.Omega.{arith}
 use Rattle.moves.proofs.exits.Statement.{statement}
 use Rattle.moves.proofs.exits.Tie as tie
 
 abbrev Inv-loop : tie.InvT-loop
-Inv-loop r s n sum₀ i₀ sum i = (i ≤ n) × ((n ≡ min (r .n) 64) × ((sum ≡ sumOf (listOf (exitAt r s) i)) × (sum ≤ 4294967295 * i)))
+Inv-loop r s n sum₀ i₀ sum i = Exited r s n sum i
 
 abbrev μ-loop : tie.MeasureT-loop
 μ-loop r s n sum₀ i₀ sum i = n - i
+
+-- the arguments from the loop's place, and a turn's start from its end
+abbrev A : tie.At-loop Inv-loop μ-loop → tie.Start Inv-loop μ-loop
+A c = c .before .before
+
+abbrev Turn : tie.After-exit Inv-loop μ-loop → tie.In-loop Inv-loop μ-loop
+Turn c = c .before .before .before
 
 cells-requires : tie.Need-cells-requires Inv-loop μ-loop
 cells-requires c κs = search needs
 
 loop-holds : tie.Need-loop-holds Inv-loop μ-loop
-loop-holds c = (omega arith, (c .cells .ensures, (sym (sum-list-none (exitAt (c .before .args .t1) (c .before .args .t2))), omega arith)))
+loop-holds c = exited-none (c .cells .ensures)
 
 mul-exit : tie.Need-mul-exit Inv-loop μ-loop
 mul-exit c = search needs
@@ -49,18 +52,12 @@ loop-less : tie.Need-loop-less Inv-loop μ-loop
 loop-less c = search needs
 
 loop-again : tie.Need-loop-again Inv-loop μ-loop
-loop-again c =
-    let l = c .before .before .before .before .loop in
-    let a = c .before .before .before .before .before .before .args in
-    (omega arith, (l .inv .1 .0, (exits-more (a .t1) (a .t2) (l .i) (l .sum) (c .exit .result) (l .inv .1 .1 .0) (c .exit .ensures .0), omega arith)))
+loop-again c = let t = Turn c in exited-more (t .before .loop .inv) (t .loop-test .taken) (c .exit .ensures)
 
 returns : tie.Need-returns Inv-loop μ-loop
 returns c =
-    let l = c .before .loop in
-    let a = c .before .before .before .args in
-    let h : length (a .t2 .cumulative) ≡ 64 = search needs in
-    let e : l .i ≡ min (a .t1 .n) 64 = omega arith in
-    l .inv .1 .1 .0 ∙ ap (λ (i : ℕ). sumOf (listOf (exitAt (a .t1) (a .t2)) i)) e ∙ exits-cells (a .t1) (a .t2) h
+    let long : length (A (c .before) .args .t2 .cumulative) ≡ mostCells = search needs in
+    exited-end (c .before .loop .inv) (c .loop-test .left) long
 
 pub exits-spec : {M : Type 1} → statement M
 exits-spec =

@@ -1,12 +1,6 @@
--- `moves::moved` meets its contract. Assumes nothing.
-use mathlib.Core.Path.{_≡_, refl, sym, ap, _∙_}
+-- `moves::moved` meets its contract. The invariant: the gate and the first i cells are moved. Assumes nothing.
 use Prim.Native.Nat.{_-_}
-use Rattle.rows.specs.Rows.{fillOf}
-use Rattle.model.specs.Places.{shareAt, cumulativeAt}
-use Rattle.model.specs.Move.{movedTo}
-use Rattle.model.specs.MoveLaws.{moved-more}
-use Rattle.model.specs.RulesLaws.{entering-cell}
-use Rattle.moves.specs.Asked.{Turn, turn, gate, Moved}
+use Rattle.moves.specs.Asked.{Moved, moved-none, moved-cell, moved-end, Gate, gate, Turn, turn}
 use borrow.Author.Needs.{needs}
 use native.Mathlib.Omega.{arith}
 use Rattle.moves.proofs.moved.Statement.{statement}
@@ -18,12 +12,34 @@ Inv-loop row y r s n t₀ first entering₀ i₀ t entering i = Moved r s row y 
 abbrev μ-loop : tie.MeasureT-loop
 μ-loop row y r s n t₀ first entering₀ i₀ t entering i = r .n - i
 
--- what a turn of the loop knows of its numbers
-known : (c : tie.In-loop Inv-loop μ-loop)
-    → Turn (c .before .before .before .before .before .before .before .args .t1) (c .before .before .before .before .before .before .before .args .t2) (c .before .before .before .before .before .before .before .args .row .now) (c .before .before .before .before .before .before .before .args .y .now) (c .before .loop .i) (c .before .loop .entering)
-known c =
-    let a = c .before .before .before .before .before .before .before in
-    turn (a .args .t1) (a .args .t2) (a .args .row .now) (a .args .y .now) (c .before .loop .i) (c .before .loop .entering) (a .pre) (c .loop-test .taken) (c .before .loop .inv .enters)
+-- the arguments, from the gate's move and from the loop's place, and a turn's start from its stores: of held, of the queue, of F
+abbrev A-gate : tie.After-shared-slice-known4 Inv-loop μ-loop → tie.Start Inv-loop μ-loop
+A-gate c = c .before .before .before .before
+
+abbrev A : tie.At-loop Inv-loop μ-loop → tie.Start Inv-loop μ-loop
+A c = A-gate (c .before .before)
+
+abbrev Held : tie.After-t Inv-loop μ-loop → tie.In-loop Inv-loop μ-loop
+Held c = c .before .before .before .before
+
+abbrev Queue : tie.After-t2 Inv-loop μ-loop → tie.In-loop Inv-loop μ-loop
+Queue c = Held (c .before)
+
+abbrev Cumulative : tie.After-shared-slice-known7 Inv-loop μ-loop → tie.In-loop Inv-loop μ-loop
+Cumulative c = Queue (c .before)
+
+abbrev Turn-end : tie.After-entering2 Inv-loop μ-loop → tie.In-loop Inv-loop μ-loop
+Turn-end c = Cumulative (c .before .before)
+
+-- what the gate's move and a turn of the loop know of their numbers
+known-gate : (c : tie.After-shared-slice-known4 Inv-loop μ-loop) → let a = A-gate c .args in Gate (a .t2) (a .row .now) (a .y .now)
+known-gate c = gate (A-gate c .pre)
+
+known : (c : tie.In-loop Inv-loop μ-loop) →
+    let l = c .before in
+    let a = A l .args in
+    Turn (a .t1) (a .t2) (a .row .now) (a .y .now) (l .loop .i) (l .loop .entering)
+known c = let l = c .before in turn (A l .pre) (l .loop .inv) (c .loop-test .taken)
 
 shared-slice-read-first : tie.Need-shared-slice-read-first Inv-loop μ-loop
 shared-slice-read-first c = search needs
@@ -32,20 +48,19 @@ shared-slice-read-t : tie.Need-shared-slice-read-t Inv-loop μ-loop
 shared-slice-read-t c = search needs
 
 add-t : tie.Need-add-t Inv-loop μ-loop
-add-t c = let a = c .before .before .before .before in omega (arith, gate (a .args .t1) (a .args .t2) (a .args .row .now) (a .args .y .now) (a .pre))
+add-t c = omega (arith, known-gate c)
 
 sub-t : tie.Need-sub-t Inv-loop μ-loop
-sub-t c = let a = c .before .before .before .before in omega (arith, gate (a .args .t1) (a .args .t2) (a .args .row .now) (a .args .y .now) (a .pre))
+sub-t c = omega (arith, known-gate c)
 
 add-t-2 : tie.Need-add-t-2 Inv-loop μ-loop
-add-t-2 c = let a = c .before .before .before .before in omega (arith, gate (a .args .t1) (a .args .t2) (a .args .row .now) (a .args .y .now) (a .pre))
+add-t-2 c = omega (arith, known-gate c)
 
 entering-requires : tie.Need-entering-requires Inv-loop μ-loop
 entering-requires c κs = search needs
 
 loop-holds : tie.Need-loop-holds Inv-loop μ-loop
-unfolding shareAt cumulativeAt movedTo fillOf
-loop-holds c = record { within = omega arith; enters = c .entering .ensures; moved = refl }
+loop-holds c = moved-none (c .entering .ensures)
 
 mul-release : tie.Need-mul-release Inv-loop μ-loop
 mul-release c = search needs
@@ -81,16 +96,16 @@ element-copy-out-t : tie.Need-element-copy-out-t Inv-loop μ-loop
 element-copy-out-t c = search needs
 
 cast-t : tie.Need-cast-t Inv-loop μ-loop
-cast-t c = omega (arith, known (c .before .before .before .before))
+cast-t c = omega (arith, known (Held c))
 
 add-t-3 : tie.Need-add-t-3 Inv-loop μ-loop
-add-t-3 c = omega (arith, known (c .before .before .before .before))
+add-t-3 c = omega (arith, known (Held c))
 
 add-t-4 : tie.Need-add-t-4 Inv-loop μ-loop
-add-t-4 c = omega (arith, known (c .before .before .before .before))
+add-t-4 c = omega (arith, known (Held c))
 
 sub-t-2 : tie.Need-sub-t-2 Inv-loop μ-loop
-sub-t-2 c = omega (arith, known (c .before .before .before .before))
+sub-t-2 c = omega (arith, known (Held c))
 
 mul-t-2 : tie.Need-mul-t-2 Inv-loop μ-loop
 mul-t-2 c = search needs
@@ -108,7 +123,7 @@ mul-t-4 : tie.Need-mul-t-4 Inv-loop μ-loop
 mul-t-4 c = search needs
 
 add-t-5 : tie.Need-add-t-5 Inv-loop μ-loop
-add-t-5 c = omega (arith, known (c .before .before .before .before .before))
+add-t-5 c = omega (arith, known (Queue c))
 
 mul-t-5 : tie.Need-mul-t-5 Inv-loop μ-loop
 mul-t-5 c = search needs
@@ -117,10 +132,10 @@ shared-slice-read-t-2 : tie.Need-shared-slice-read-t-2 Inv-loop μ-loop
 shared-slice-read-t-2 c = search needs
 
 add-t-6 : tie.Need-add-t-6 Inv-loop μ-loop
-add-t-6 c = omega (arith, known (c .before .before .before .before .before .before))
+add-t-6 c = omega (arith, known (Cumulative c))
 
 sub-t-3 : tie.Need-sub-t-3 Inv-loop μ-loop
-sub-t-3 c = omega (arith, known (c .before .before .before .before .before .before))
+sub-t-3 c = omega (arith, known (Cumulative c))
 
 mul-t-6 : tie.Need-mul-t-6 Inv-loop μ-loop
 mul-t-6 c = search needs
@@ -129,7 +144,7 @@ element-write-t-2 : tie.Need-element-write-t-2 Inv-loop μ-loop
 element-write-t-2 c = search needs
 
 add-t-7 : tie.Need-add-t-7 Inv-loop μ-loop
-add-t-7 c = omega (arith, known (c .before .before .before .before .before .before))
+add-t-7 c = omega (arith, known (Cumulative c))
 
 mul-t-7 : tie.Need-mul-t-7 Inv-loop μ-loop
 mul-t-7 c = search needs
@@ -153,21 +168,10 @@ loop-less : tie.Need-loop-less Inv-loop μ-loop
 loop-less c = search needs
 
 loop-again : tie.Need-loop-again Inv-loop μ-loop
-loop-again c =
-    let a = c .before .before .before .before .before .before .before .before .before .before .before .before .before .before .before .args in
-    let l = c .before .before .before .before .before .before .before .before .before .loop in
-    record {
-      within = omega arith;
-      enters = c .entering2 .ensures ∙ sym (entering-cell (a .t1) (a .t2) (a .y .now) (l .i));
-      moved = moved-more (a .t1) (a .t2) (a .row .now) (a .y .now) (l .i) (l .t) (l .entering) (l .inv .moved) (l .inv .enters);
-    }
+loop-again c = let t = Turn-end c in moved-cell (t .before .loop .inv) (t .loop-test .taken) (c .entering2 .ensures)
 
 returns : tie.Need-returns Inv-loop μ-loop
-returns c =
-    let a = c .before .before .before .before .before .before .before .args in
-    let l = c .before .loop in
-    let e : l .i ≡ a .t1 .n = omega (arith, l .inv .within) in
-    l .inv .moved ∙ ap (movedTo (a .t1) (a .t2) (a .row .now) (a .y .now)) e
+returns c = moved-end (c .before .loop .inv) (c .loop-test .left)
 
 pub moved-spec : {M : Type 1} → statement M
 moved-spec =

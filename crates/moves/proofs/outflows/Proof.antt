@@ -1,4 +1,4 @@
--- `moves::outflows` meets its contract. Assumes nothing.
+-- `moves::outflows` meets its contract. The invariant: the first i places are filled. Assumes nothing.
 use mathlib.Core.Path.{sym, _∙_}
 use Prim.Native.Nat.{_-_}
 use lib.ListN.{length-set}
@@ -13,11 +13,30 @@ Inv-loop row y₀ r s n share₀ cumulative₀ demand₀ i₀ y share cumulative
 abbrev μ-loop : tie.MeasureT-loop
 μ-loop row y₀ r s n share₀ cumulative₀ demand₀ i₀ y share cumulative demand i = r .n - i
 
+-- the arguments, from the gate's demand and from the loop's place, and a turn's calls and its start from its end
+abbrev Gate : tie.After-gate-demand Inv-loop μ-loop → tie.Start Inv-loop μ-loop
+Gate c = c .before .before .before
+
+abbrev A : tie.At-loop Inv-loop μ-loop → tie.Start Inv-loop μ-loop
+A c = Gate (c .before)
+
+abbrev Outflow : tie.After-demand Inv-loop μ-loop → tie.After-outflow Inv-loop μ-loop
+Outflow c = c .before .before .before .before
+
+abbrev Room : tie.After-demand Inv-loop μ-loop → tie.After-room Inv-loop μ-loop
+Room c = Outflow c .before
+
+abbrev Supply : tie.After-demand Inv-loop μ-loop → tie.After-supply Inv-loop μ-loop
+Supply c = Room c .before .before
+
+abbrev Turn : tie.After-demand Inv-loop μ-loop → tie.In-loop Inv-loop μ-loop
+Turn c = Supply c .before .before .before .before .before
+
 gate-demand-requires : tie.Need-gate-demand-requires Inv-loop μ-loop
 gate-demand-requires c κs = search needs
 
 loop-holds : tie.Need-loop-holds Inv-loop μ-loop
-loop-holds c = let a = c .before .before .before .args in filled-none (a .t1) (a .t2) (a .row .now) (a .y .now) (c .gate-demand .result) (c .gate-demand .ensures) (c .before .before .before .pre .1 .1)
+loop-holds c = filled-none (c .gate-demand .ensures) (Gate c .pre .1 .1)
 
 mul-held : tie.Need-mul-held Inv-loop μ-loop
 mul-held c = search needs
@@ -99,11 +118,8 @@ loop-less c = search needs
 
 loop-again : tie.Need-loop-again Inv-loop μ-loop
 loop-again c =
-    let a = c .before .before .before .before .before .before .before .before .before .before .before .before .before .before .before .before .before .args in
-    let l = c .before .before .before .before .before .before .before .before .before .before .before .before .before .loop in
-    filled-more (a .t1) (a .t2) (a .row .now) (a .y .now) (l .y) (l .share) (l .cumulative) (l .demand) (l .i)
-    (c .before .before .before .before .before .before .before .supply .result) (c .before .before .before .before .before .room .result) (c .before .before .before .before .outflow .result) (c .demand .result)
-    (l .inv) (c .before .before .before .before .before .before .before .before .before .before .before .before .loop-test .taken) (c .before .before .before .before .before .before .before .supply .ensures) (c .before .before .before .before .before .room .ensures) (c .before .before .before .before .outflow .ensures) (c .demand .ensures)
+    let t = Turn c in
+    filled-more (t .before .loop .inv) (t .loop-test .taken) (Supply c .supply .ensures) (Room c .room .ensures) (Outflow c .outflow .ensures) (c .demand .ensures)
 
 mul-y-2 : tie.Need-mul-y-2 Inv-loop μ-loop
 mul-y-2 c = search needs
@@ -112,13 +128,10 @@ slice-write-y-2 : tie.Need-slice-write-y-2 Inv-loop μ-loop
 slice-write-y-2 c = search needs
 
 same-length : tie.Need-same-length Inv-loop μ-loop
-same-length c = simp length-set (c .before .loop .inv .places ∙ sym (c .before .before .before .before .before .pre .1 .1))
+same-length c = simp length-set (c .before .loop .inv .places ∙ sym (A (c .before) .pre .1 .1))
 
 returns : tie.Need-returns Inv-loop μ-loop
-returns c =
-    let a = c .before .before .before .before .before .args in
-    let l = c .before .loop in
-    filled-end (a .t1) (a .t2) (a .row .now) (a .y .now) (l .y) (l .share) (l .cumulative) (l .demand) (l .i) (l .inv) (c .loop-test .left) (c .before .before .before .before .before .pre .1 .1)
+returns c = filled-end (c .before .loop .inv) (c .loop-test .left) (A (c .before) .pre .1 .1)
 
 pub outflows-spec : {M : Type 1} → statement M
 outflows-spec =

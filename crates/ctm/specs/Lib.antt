@@ -1,3 +1,0 @@
-pub mod Printed
-pub mod Replay
-pub mod PrintedLaws

@@ -1,0 +1,116 @@
+-- Laws of the first number at which a test fails. Assumes nothing.
+use mathlib.Core.Path.{_≡_, refl, sym}
+use mathlib.Core.Bool.{Bool, true, false, cond}
+use mathlib.Core.Logic.{⊎-elim}
+use Prim.Native.Nat.{ℕ, zero, suc, _+_, _≤_, _<_}
+use native.Mathlib.Nat.{eq-or-lt-of-le, le-refl}
+use native.Mathlib.Omega.{arith}
+use lib.Dec.{eqb}
+use borrow.Author.Tests.{eqb-true, eqb-false, eq-eqb, ne-eqb}
+use Rattle.numbers.specs.First.{firstFrom, firstOf, allOf, firstFault}
+
+-- what holds of firstOf f n, and of no other number
+pub record First (f : ℕ → Bool) (n i : ℕ) : Type 0 where
+  pub within : i ≤ n
+  pub before : (j : ℕ) → j < i → f j ≡ true
+  pub stops : i < n → f i ≡ false
+
+from-le : (f : ℕ → Bool) (i n : ℕ) → firstFrom f i n ≤ i + n
+unfolding firstFrom
+from-le f i zero = omega arith
+from-le f i (suc n) = go (f i) (from-le f (suc i) n)
+  where
+    go : (b : Bool) → firstFrom f (suc i) n ≤ suc i + n → cond b (firstFrom f (suc i) n) i ≤ i + suc n
+    go true h = omega arith
+    go false h = omega arith
+
+from-before : (f : ℕ → Bool) (i n j : ℕ) → i ≤ j → j < firstFrom f i n → f j ≡ true
+unfolding firstFrom
+from-before f i zero j l h = absurd (omega arith)
+from-before f i (suc n) j l h = go (f i) refl h (λ k m. from-before f (suc i) n j k m)
+  where
+    go : (b : Bool) → f i ≡ b → j < cond b (firstFrom f (suc i) n) i → (suc i ≤ j → j < firstFrom f (suc i) n → f j ≡ true) → f j ≡ true
+    go true e k ih = ⊎-elim (λ (q : i ≡ j). let p : f j ≡ true = rw q at e in p) (λ (m : i < j). ih m k) (eq-or-lt-of-le l)
+    go false e k ih = absurd (omega arith)
+
+from-stops : (f : ℕ → Bool) (i n : ℕ) → firstFrom f i n < i + n → f (firstFrom f i n) ≡ false
+unfolding firstFrom
+from-stops f i zero l = absurd (omega arith)
+from-stops f i (suc n) l = go (f i) refl l (from-stops f (suc i) n)
+  where
+    go : (b : Bool) → f i ≡ b → cond b (firstFrom f (suc i) n) i < i + suc n
+        → (firstFrom f (suc i) n < suc i + n → f (firstFrom f (suc i) n) ≡ false) → f (cond b (firstFrom f (suc i) n) i) ≡ false
+    go true e k ih = ih (omega arith)
+    go false e k ih = e
+
+pub first : (f : ℕ → Bool) (n : ℕ) → First f n (firstOf f n)
+unfolding firstOf
+first f n = record {
+  within = omega (arith, from-le f 0 n);
+  before = λ j l. from-before f 0 n j (omega arith) l;
+  stops = λ l. from-stops f 0 n (omega arith);
+}
+
+never : (b : Bool) → b ≡ true → b ≡ false → ⊥
+never b h k = let z : _≡_ {A = ℕ} 0 1 = cc in omega arith
+
+pub first-is : (f : ℕ → Bool) (n i : ℕ) → First f n i → firstOf f n ≡ i
+first-is f n i h =
+    let a = first f n in
+    let p : firstOf f n < i → ⊥ = λ l. never (f (firstOf f n)) (h .before (firstOf f n) l) (a .stops (omega (arith, h .within))) in
+    let q : i < firstOf f n → ⊥ = λ l. never (f i) (a .before i l) (h .stops (omega (arith, a .within))) in
+    omega arith
+
+-- a loop over i that has found no failure before i ends so
+pub first-stop : (f : ℕ → Bool) (n i : ℕ) → i < n → ((j : ℕ) → j < i → f j ≡ true) → f i ≡ false → i ≡ firstOf f n
+first-stop f n i l h e = sym (first-is f n i (record { within = omega arith; before = h; stops = λ _. e }))
+
+pub first-none : (f : ℕ → Bool) (n : ℕ) → ((j : ℕ) → j < n → f j ≡ true) → firstOf f n ≡ n
+first-none f n h = first-is f n n (record { within = le-refl n; before = h; stops = λ l. absurd (omega arith) })
+
+-- all, taken apart and put together
+pub all-at : (f : ℕ → Bool) (n : ℕ) → allOf f n ≡ true → (i : ℕ) → i < n → f i ≡ true
+all-at f n h i l = first f n .before i (omega (arith, eqb-true (firstOf f n) n h))
+
+pub all-true : (f : ℕ → Bool) (n : ℕ) → ((i : ℕ) → i < n → f i ≡ true) → allOf f n ≡ true
+all-true f n h = eq-eqb (firstOf f n) n (first-none f n h)
+
+pub all-fails : (f : ℕ → Bool) (n i : ℕ) → i < n → f i ≡ false → allOf f n ≡ false
+all-fails f n i l e = go (allOf f n) refl
+  where
+    go : (b : Bool) → allOf f n ≡ b → b ≡ false
+    go true h = absurd (never (f i) (all-at f n h i l) e)
+    go false h = refl
+
+-- the first fault
+module _ (f : ℕ → ℕ) (n : ℕ) where
+  pub fault-within : firstFault f n ≤ n
+  unfolding firstFault
+  fault-within = first (λ i. eqb (f i) 0) n .within
+
+  pub fault-before : (j : ℕ) → j < firstFault f n → f j ≡ 0
+  unfolding firstFault
+  fault-before j l = eqb-true (f j) 0 (first (λ i. eqb (f i) 0) n .before j l)
+
+  pub fault-there : firstFault f n < n → f (firstFault f n) ≡ 0 → ⊥
+  unfolding firstFault
+  fault-there l = eqb-false (f (firstOf (λ i. eqb (f i) 0) n)) 0 (first (λ i. eqb (f i) 0) n .stops l)
+
+  -- a loop over the numbers that has found no fault before i ends so
+  pub fault-at : (i : ℕ) → i < n → ((j : ℕ) → j < i → f j ≡ 0) → (f i ≡ 0 → ⊥) → firstFault f n ≡ i
+  unfolding firstFault
+  fault-at i l h ne = first-is (λ i. eqb (f i) 0) n i (record {
+    within = omega arith;
+    before = λ j m. eq-eqb (f j) 0 (h j m);
+    stops = λ _. ne-eqb (f i) 0 ne;
+  })
+
+  pub fault-none : ((j : ℕ) → j < n → f j ≡ 0) → firstFault f n ≡ n
+  unfolding firstFault
+  fault-none h = first-none (λ i. eqb (f i) 0) n (λ j m. eq-eqb (f j) 0 (h j m))
+
+  -- all numbers without a fault come before it
+  pub fault-far : (i : ℕ) → i ≤ n → ((j : ℕ) → j < i → f j ≡ 0) → i ≤ firstFault f n
+  fault-far i l h =
+      let m : firstFault f n < i → ⊥ = λ k. fault-there (omega arith) (h (firstFault f n) k) in
+      omega arith

@@ -1,0 +1,60 @@
+-- Tests on numbers: one after the other, a row of them taken apart and put together. Assumes nothing.
+use mathlib.Core.Path.{_≡_, refl}
+use mathlib.Core.Bool.{Bool, true, false, _&&_}
+use mathlib.Core.Logic.{_⊎_, inl, inr}
+use Prim.Native.Nat.{ℕ, _≤_, _<_}
+use native.Mathlib.Omega.{arith}
+use lib.Dec.{leb, eqb}
+use borrow.Author.Tests.{leb-true, leb-false, eqb-true, le-leb, eq-eqb}
+use Rattle.numbers.specs.First.{unless}
+
+pub and-true : (a b : Bool) → a && b ≡ true → (a ≡ true) × (b ≡ true)
+and-true true b h = (refl, h)
+and-true false b h = absurd (let z : _≡_ {A = ℕ} 0 1 = cc in omega arith)
+
+pub both-true : (a b : Bool) → a ≡ true → b ≡ true → a && b ≡ true
+both-true a b h k = rw (h, k)
+
+-- a test at the head of a row of tests
+pub le-head : (a b : ℕ) (t : Bool) → leb a b && t ≡ true → (a ≤ b) × (t ≡ true)
+le-head a b t h = let p = and-true (leb a b) t h in (leb-true a b (p .0), p .1)
+
+pub eq-head : (a b : ℕ) (t : Bool) → eqb a b && t ≡ true → (a ≡ b) × (t ≡ true)
+eq-head a b t h = let p = and-true (eqb a b) t h in (eqb-true a b (p .0), p .1)
+
+pub le-then : (a b : ℕ) (t : Bool) → a ≤ b → t ≡ true → leb a b && t ≡ true
+le-then a b t h k = both-true (leb a b) t (le-leb a b h) k
+
+pub eq-then : (a b : ℕ) (t : Bool) → a ≡ b → t ≡ true → eqb a b && t ≡ true
+eq-then a b t h k = both-true (eqb a b) t (eq-eqb a b h) k
+
+-- two numbers, in one order or the other
+pub order : (a b : ℕ) → (a ≤ b) ⊎ (b < a)
+order a b = go (leb a b) refl
+  where
+    go : (t : Bool) → leb a b ≡ t → (a ≤ b) ⊎ (b < a)
+    go true e = inl (leb-true a b e)
+    go false e = inr (leb-false a b e)
+
+-- a test with a fault
+pub one-zero : (a b m : ℕ) → (m ≡ 0 → ⊥) → unless (leb a b) m 0 ≡ 0 → a ≤ b
+one-zero a b m hm h = go (leb a b) refl h
+  where
+    go : (t : Bool) → leb a b ≡ t → unless t m 0 ≡ 0 → a ≤ b
+    go true e z = leb-true a b e
+    go false e z = absurd (hm z)
+
+pub one-pass : (a b m : ℕ) → a ≤ b → unless (leb a b) m 0 ≡ 0
+one-pass a b m h = rw (le-leb a b h)
+
+-- two tests with a fault each, one before the other
+pub two-zero : (a b c d m k : ℕ) → (m ≡ 0 → ⊥) → (k ≡ 0 → ⊥) → unless (leb a b) m (unless (leb c d) k 0) ≡ 0 → (a ≤ b) × (c ≤ d)
+two-zero a b c d m k hm hk h = go (leb a b) (leb c d) refl refl h
+  where
+    go : (t u : Bool) → leb a b ≡ t → leb c d ≡ u → unless t m (unless u k 0) ≡ 0 → (a ≤ b) × (c ≤ d)
+    go true true e f z = (leb-true a b e, leb-true c d f)
+    go true false e f z = absurd (hk z)
+    go false u e f z = absurd (hm z)
+
+pub two-pass : (a b c d m k : ℕ) → a ≤ b → c ≤ d → unless (leb a b) m (unless (leb c d) k 0) ≡ 0
+two-pass a b c d m k h l = rw (le-leb a b h, le-leb c d l)

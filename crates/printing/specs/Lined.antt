@@ -1,0 +1,141 @@
+-- What printing asks, and what its loop over the steps knows. Assumes nothing.
+use mathlib.Core.Path.{_≡_, refl, sym, _∙_}
+use mathlib.Core.List.{List, _++_}
+use Prim.Native.Nat.{ℕ, suc, _+_, _*_, _≤_, _<_}
+use native.Mathlib.Numerals.{add-one}
+use native.Mathlib.Omega.{arith}
+use lib.ListN.{length}
+use lib.Seq.{length-take-le}
+use borrow.Author.Tests.{eq-eqb, ne-eqb}
+use Rattle.rows.specs.TablesLaws.{row-ends, mul-more}
+use Rattle.road.specs.declared.Road.{Road}
+use Rattle.road.specs.declared.State.{State}
+use Rattle.road.specs.Study.{Study, places, tableSize}
+use Rattle.model.specs.Move.{nextOf, totalOf, exitsOf}
+use Rattle.model.specs.Rules.{outflowsOf}
+use Rattle.model.specs.Step.{Fault, releasesOf}
+use Rattle.model.specs.Runs.{engineAfter, outflowsAt}
+use Rattle.reading.specs.Reading.{ReadAnswer, readingOf, studyBy}
+use Rattle.reading.specs.Table.{mostOutflows}
+use Rattle.schedules.specs.Schedules.{EndAnswer, ended, runEnd}
+use Rattle.schedules.specs.Readable.{Readable}
+use Rattle.running.specs.Ran.{Ran, RanTurn, ran-none, ran-more, row-is, ends-ran, all-ran}
+use Rattle.listing.specs.Listing.{mostLine, headerLine, linesOf, totalLine, refusedLine}
+use Rattle.listing.specs.Placed.{Puts, placed-none, puts-first, puts-more, Room, Holds}
+use Rattle.listing.specs.ListingLaws.{header-room, lines-room, total-room, refused-room}
+use Rattle.printing.specs.Printed.{stepsLines, printedEnd, printedRun, printedOf}
+
+-- how long a text may be: a line for each outflow, a header and a last line
+abbrev pub mostText : ℕ
+mostText = mostLine * mostOutflows + 2 * mostLine
+
+-- a record that reads, and a buffer long enough
+pub record Printable (bytes : List ℕ) (a : Study) (buffer : List ℕ) : Type 0 where
+  pub readable : Readable bytes a
+  pub enough : mostText ≤ length buffer
+
+-- when k steps are made: their lines stand in the buffer after the header, which ends at `start`
+pub record Lined (a : Study) (before : List ℕ) (start : ℕ) (buffer : List ℕ) (u : State) (end k : ℕ) : Type 0 where
+  pub ran : Ran a u k
+  pub top : start ≤ mostLine
+  pub enough : mostText ≤ length before
+  pub puts : Puts before start (stepsLines a k) buffer end
+  pub room : Room before start buffer end (mostLine * (k * places a))
+
+module _ {a : Study} {before : List ℕ} {start : ℕ} where
+  pub lined-none : start ≤ mostLine → mostText ≤ length before → Lined a before start before (a .start) start 0
+  unfolding stepsLines
+  lined-none t e = record {
+    ran = ran-none;
+    top = t;
+    enough = e;
+    puts = (omega arith, sym (placed-none before start));
+    room = record { end = omega arith; same = refl };
+  }
+
+  module _ {buffer : List ℕ} {u : State} {end k : ℕ} (h : Lined a before start buffer u end k) where
+    -- room is left for the lines of the next step, and for a refusal's line
+    pub lines-fit : tableSize a ≤ mostOutflows → k < a .steps → end + mostLine * places a ≤ length buffer
+    lines-fit m l = omega (arith, h .room .end, h .room .same, h .top, h .enough, row-ends k (a .steps) (places a) l)
+
+    pub line-fits : 0 + mostLine ≤ length buffer
+    line-fits = omega (arith, h .room .same, h .enough)
+
+    -- and after all steps for the last line
+    pub last-fits : tableSize a ≤ mostOutflows → a .steps ≤ k → end + mostLine ≤ length buffer
+    last-fits m l =
+        let e : k ≡ a .steps = all-ran (h .ran) l in
+        let f : k * places a ≡ a .steps * places a = rw e in
+        omega (arith, h .room .end, h .room .same, h .top, h .enough, f)
+
+    module _ {q : Road} {row : List ℕ} (t : RanTurn a u k q row) {f : Fault} (e : f ≡ releasesOf q u row) (z : f .number ≡ 0) where
+      -- one step more is made and put
+      pub lined-more : {v : State} {y c : List ℕ} {m : ℕ} → v ≡ nextOf q u row (outflowsOf q u row) → y ≡ outflowsOf q u row
+          → Puts buffer end (linesOf k y v (a .road .n)) c m → Lined a before start c v m (k + 1)
+      unfolding stepsLines
+      lined-more {v} {y} {c} {m} ev ey p =
+          let w = ran-more t e z ev in
+          let s : v ≡ engineAfter a (suc k) = rw (add-one k) at (w .state) in
+          let g : Puts buffer end (linesOf k (outflowsAt a k) (engineAfter a (suc k)) (a .road .n)) c m = rw (row-is t ey, s) at p in
+          let x = lines-room buffer end k y v (a .road .n) c m p in
+          record {
+            ran = w;
+            top = h .top;
+            enough = h .enough;
+            puts = rw (add-one k) (puts-more before start (stepsLines a k) buffer end _ c m (h .puts) g);
+            room = record { end = omega (arith, x .end, h .room .end, mul-more k (places a)); same = x .same ∙ h .room .same };
+          }
+
+-- a text put at the start of a buffer
+holds : (before text after : List ℕ) (end k : ℕ) → Puts before 0 text after end → Room before 0 after end k → k ≤ length before → Holds before text after end
+holds before text after end k p z l = record {
+  first = puts-first before text after end p (omega (arith, p .0, z .end));
+  within = omega (arith, z .end, z .same);
+  counted = sym (length-take-le end after (omega (arith, z .end, z .same)));
+  same = z .same;
+}
+
+-- a refusal's line, in the place of what was put before
+module _ {a : Study} {before start-buffer : List ℕ} {start : ℕ} {buffer : List ℕ} {u : State} {end k : ℕ} where
+  pub holds-fault : Lined a start-buffer start buffer u end k → length start-buffer ≡ length before → {e : EndAnswer} {after : List ℕ} {m : ℕ}
+      → e ≡ runEnd a → (e .number ≡ 0 → ⊥) → Puts buffer 0 (refusedLine (e .number) (e .step) (e .place)) after m
+      → Holds before (printedRun a) after m
+  unfolding printedRun
+  holds-fault h s {e} {after} {m} ee n p =
+      let z = refused-room buffer 0 (e .number) (e .step) (e .place) after m p in
+      let w = holds buffer (refusedLine (e .number) (e .step) (e .place)) after m mostLine p z (omega (arith, h .room .same, h .enough)) in
+      let t : printedEnd a (runEnd a) ≡ refusedLine (e .number) (e .step) (e .place) = rw (← ee, ne-eqb (e .number) 0 n) in
+      record { first = w .first ∙ sym t; within = w .within; counted = w .counted; same = w .same ∙ h .room .same ∙ s }
+
+  -- the header, the steps and the last line, put one after the other
+  pub holds-run : Puts before 0 headerLine start-buffer start → Lined a start-buffer start buffer u end k → a .steps ≤ k → tableSize a ≤ mostOutflows
+      → {exits : ℕ} {after : List ℕ} {m : ℕ} → exits ≡ exitsOf (a .road) u → Puts buffer end (totalLine (totalOf u) exits) after m
+      → Holds before (printedRun a) after m
+  unfolding printedRun
+  holds-run p h l most {exits} {after} {m} ex q =
+      let e : ended 0 0 0 (a .road) u ≡ runEnd a = ends-ran (h .ran) l refl in
+      let i : k ≡ a .steps = all-ran (h .ran) l in
+      let j : k * places a ≡ a .steps * places a = rw i in
+      let g : Puts buffer end (totalLine (totalOf u) (exitsOf (a .road) u)) after m = rw ex at q in
+      let lines : Puts start-buffer start (stepsLines a (a .steps)) buffer end = rw i at (h .puts) in
+      let y = header-room before 0 start-buffer start p in
+      let w = total-room buffer end (totalOf u) (exitsOf (a .road) u) after m g in
+      let t : printedEnd a (runEnd a) ≡ headerLine ++ (stepsLines a (a .steps) ++ totalLine (totalOf u) (exitsOf (a .road) u)) = rw (← e) in
+      let all = puts-more before 0 headerLine start-buffer start _ after m p (puts-more start-buffer start (stepsLines a (a .steps)) buffer end _ after m lines g) in
+      let v = holds before _ after m mostText all
+      (record { end = omega (arith, w .end, h .room .end, h .top, most, j); same = w .same ∙ h .room .same ∙ y .same })
+      (omega (arith, h .enough, y .same)) in
+      record { first = v .first ∙ sym t; within = v .within; counted = v .counted; same = v .same }
+
+-- what is printed of a record, from what reading found
+module _ (bytes : List ℕ) {x : ReadAnswer} (ex : x ≡ readingOf bytes) {before after : List ℕ} {m : ℕ} where
+  pub holds-refused : (x .number ≡ 0 → ⊥) → mostText ≤ length before → Puts before 0 (refusedLine (x .number) 0 (x .place)) after m
+      → Holds before (printedOf bytes) after m
+  unfolding printedOf
+  holds-refused n l p =
+      let z = refused-room before 0 (x .number) 0 (x .place) after m p in
+      rw (← ex, ne-eqb (x .number) 0 n) (holds before (refusedLine (x .number) 0 (x .place)) after m mostLine p z (omega (arith, l)))
+
+  pub holds-read : x .number ≡ 0 → Holds before (printedRun (studyBy bytes (x .road) (x .state) (x .steps))) after m → Holds before (printedOf bytes) after m
+  unfolding printedOf
+  holds-read z h = rw (← ex, eq-eqb (x .number) 0 z) h

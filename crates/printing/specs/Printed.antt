@@ -1,0 +1,31 @@
+-- docs/MODEL.md, 'A run printed whole': what is printed of a record, byte by byte. Assumes nothing.
+use mathlib.Core.List.{List, [], _++_}
+use Prim.Native.Nat.{ℕ, zero, suc}
+use lib.Dec.{eqb}
+use Rattle.numbers.specs.First.{unless}
+use Rattle.road.specs.Study.{Study}
+use Rattle.model.specs.Move.{totalOf, exitsOf}
+use Rattle.model.specs.Runs.{engineAfter, outflowsAt}
+use Rattle.reading.specs.Reading.{readingOf, studyOf}
+use Rattle.schedules.specs.Schedules.{EndAnswer, runEnd}
+use Rattle.listing.specs.Listing.{headerLine, linesOf, totalLine, refusedLine}
+
+-- the lines of the first k steps of a run, each with its outflows and the state after it
+unfoldable pub stepsLines : Study → ℕ → List ℕ
+stepsLines a zero = []
+stepsLines a (suc k) = stepsLines a k ++ linesOf k (outflowsAt a k) (engineAfter a (suc k)) (a .road .n)
+
+-- of a run that ended as e: a refusal's line alone; else the header, one line a place in each step, and the totals
+abbrev pub printedEnd : Study → EndAnswer → List ℕ
+printedEnd a e =
+    unless (eqb (e .number) 0) (refusedLine (e .number) (e .step) (e .place))
+    (headerLine ++ (stepsLines a (a .steps) ++ totalLine (totalOf (e .state)) (exitsOf (e .road) (e .state))))
+
+unfoldable pub printedRun : Study → List ℕ
+printedRun a = printedEnd a (runEnd a)
+
+-- of a record: 1 to 6 as in reading, or its run
+unfoldable pub printedOf : List ℕ → List ℕ
+printedOf bytes =
+    unless (eqb (readingOf bytes .number) 0) (refusedLine (readingOf bytes .number) 0 (readingOf bytes .place))
+    (printedRun (studyOf bytes))

@@ -1,0 +1,74 @@
+-- Theorem: every number of a road and a state that were read stands at its offset, and past cell n all is 0. Assumes nothing.
+use mathlib.Core.Path.{_≡_, refl, ap, _∙_}
+use mathlib.Core.List.{List}
+use Prim.Native.Nat.{ℕ}
+use native.Mathlib.Omega.{arith}
+use lib.ListN.{length}
+use Rattle.road.specs.declared.Road.{Road}
+use Rattle.road.specs.declared.State.{State}
+use Rattle.road.specs.Road.{zeros}
+use Rattle.fields.specs.Fields.{shortSize, numberSize, numberOf}
+use Rattle.fields.specs.Fields.{gateCapacityOffset, gateQueueOffset, speedOffset, waveOffset, shareOffset, rampOffset, jamOffset, capacityOffset, heldOffset, queueOffset}
+use Rattle.fields.specs.FieldsLaws.{Column, column}
+use Rattle.road.specs.RoadLaws.{length-zeros}
+use Rattle.reading.specs.Reading.{ReadAnswer, cellsOf, stepsOf, readingOf}
+use Rattle.reading.specs.Found.{Found, read-found, early-refused}
+
+pub record Numbers (s : List ℕ) (T : ℕ) (r : Road) (q : State) : Type 0 where
+  pub cells : r .n ≡ cellsOf s
+  pub steps : T ≡ stepsOf s
+  pub gateCapacity : r .«gate_capacity» ≡ numberOf s gateCapacityOffset numberSize
+  pub speed : Column s speedOffset shortSize (r .n) (r .speed)
+  pub wave : Column s waveOffset shortSize (r .n) (r .wave)
+  pub share : Column s shareOffset shortSize (r .n) (r .share)
+  pub ramp : Column s rampOffset shortSize (r .n) (r .ramp)
+  pub jam : Column s jamOffset numberSize (r .n) (r .jam)
+  pub capacity : Column s capacityOffset numberSize (r .n) (r .capacity)
+  pub gateQueue : q .«gate_queue» ≡ numberOf s gateQueueOffset numberSize
+  pub held : Column s heldOffset numberSize (r .n) (q .held)
+  pub queue : Column s queueOffset numberSize (r .n) (q .queue)
+  -- the state before step 0, with every F, the total and the steps done 0
+  pub done : q .done ≡ 0
+  pub total : q .total ≡ 0
+  pub gateCumulative : q .«gate_cumulative» ≡ 0
+  pub cumulative : q .cumulative ≡ zeros
+
+found-numbers : (s : List ℕ) {a : ReadAnswer} → Found s a → a .number ≡ 0 → Numbers s (a .steps) (a .road) (a .state)
+found-numbers s (Found.early k l) h = absurd (early-refused l h)
+found-numbers s (Found.atPlace p l) h = absurd (omega arith)
+found-numbers s (Found.atStep t l) h = absurd (omega arith)
+found-numbers s (Found.clear w) h =
+    let n = cellsOf s in
+    let m = w .road .cells in
+    record {
+      cells = refl;
+      steps = refl;
+      gateCapacity = refl;
+      speed = column s speedOffset shortSize n m;
+      wave = column s waveOffset shortSize n m;
+      share = column s shareOffset shortSize n m;
+      ramp = column s rampOffset shortSize n m;
+      jam = column s jamOffset numberSize n m;
+      capacity = column s capacityOffset numberSize n m;
+      gateQueue = refl;
+      held = column s heldOffset numberSize n m;
+      queue = column s queueOffset numberSize n m;
+      done = refl;
+      total = refl;
+      gateCumulative = refl;
+      cumulative = refl;
+    }
+
+pub read-numbers : (s : List ℕ) (a : ReadAnswer) → a ≡ readingOf s → a .number ≡ 0 → Numbers s (a .steps) (a .road) (a .state)
+read-numbers s a e h = let f : Found s a = rw e (read-found s) in found-numbers s f h
+
+-- the state's arrays have 64 entries
+pub record Entries (q : State) : Type 0 where
+  pub held : length (q .held) ≡ 64
+  pub queue : length (q .queue) ≡ 64
+  pub cumulative : length (q .cumulative) ≡ 64
+
+pub read-entries : (s : List ℕ) (a : ReadAnswer) → a ≡ readingOf s → a .number ≡ 0 → Entries (a .state)
+read-entries s a e h =
+    let n = read-numbers s a e h in
+    record { held = n .held .entries; queue = n .queue .entries; cumulative = ap length (n .cumulative) ∙ length-zeros }

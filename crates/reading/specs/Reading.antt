@@ -1,0 +1,117 @@
+-- docs/MODEL.md, 'The four operations and their refusals', reading: its refusals in order, and what it gives. Assumes nothing.
+use mathlib.Core.Bool.{Bool, _&&_}
+use mathlib.Core.List.{List}
+use Prim.Native.Nat.{ℕ, _+_, _-_}
+use lib.Dec.{leb, eqb}
+use lib.ListN.{length}
+use Rattle.road.specs.declared.Road.{Road}
+use Rattle.road.specs.declared.State.{State}
+use Rattle.road.specs.Road.{zeros, emptyRoad, emptyState, mostCells, mostSteps, mostBytes}
+use Rattle.numbers.specs.First.{unless, firstOf, allOf}
+use Rattle.road.specs.Refusals.{refusalNumber}
+use Rattle.road.specs.Study.{Study, study}
+use Rattle.fields.specs.Fields.{recordVersion, countSize, shortSize, numberSize, headerSize, rowStart, numberOf, columnOf, recordRow}
+use Rattle.fields.specs.Fields.{versionOffset, cellsOffset, stepsOffset, gateCapacityOffset, gateQueueOffset}
+use Rattle.fields.specs.Fields.{speedOffset, waveOffset, shareOffset, rampOffset, jamOffset, capacityOffset, heldOffset, queueOffset}
+use Rattle.limits.specs.Limits.{placeOk, rowOk}
+use Rattle.road.specs.declared.Reading.{Reading}
+
+-- what reading answers: the refusal's number, its place or step, T, the road and the state before step 0
+pub record ReadAnswer : Type 0 where
+  pub number : ℕ
+  pub place : ℕ
+  pub steps : ℕ
+  pub road : Road
+  pub state : State
+
+-- the code's answer, in the model's numbers
+abbrev pub readAnswer : Reading → ReadAnswer
+readAnswer a = record {
+  number = refusalNumber (a .refusal);
+  place = a .place;
+  steps = a .steps;
+  road = a .road;
+  state = a .state;
+}
+
+-- the header's version, n and T
+abbrev pub versionOf : List ℕ → ℕ
+versionOf s = numberOf s versionOffset 1
+
+abbrev pub cellsOf : List ℕ → ℕ
+cellsOf s = numberOf s cellsOffset 1
+
+abbrev pub stepsOf : List ℕ → ℕ
+stepsOf s = numberOf s stepsOffset shortSize
+
+-- the whole is 16 + 24n + T × (4 + 8n) bytes
+abbrev pub sizeOf : ℕ → ℕ → ℕ
+sizeOf n T = rowStart n T
+
+-- the road that the gate's capacity and the cells' fields give
+abbrev pub roadOf : List ℕ → Road
+roadOf s = record {
+  n = cellsOf s;
+  «gate_capacity» = numberOf s gateCapacityOffset numberSize;
+  speed = columnOf s speedOffset shortSize (cellsOf s);
+  wave = columnOf s waveOffset shortSize (cellsOf s);
+  share = columnOf s shareOffset shortSize (cellsOf s);
+  ramp = columnOf s rampOffset shortSize (cellsOf s);
+  jam = columnOf s jamOffset numberSize (cellsOf s);
+  capacity = columnOf s capacityOffset numberSize (cellsOf s);
+}
+
+-- the state before step 0, with every F, the total and the steps done 0
+abbrev pub startOf : List ℕ → State
+startOf s = record {
+  done = 0;
+  total = 0;
+  «gate_queue» = numberOf s gateQueueOffset numberSize;
+  «gate_cumulative» = 0;
+  held = columnOf s heldOffset numberSize (cellsOf s);
+  queue = columnOf s queueOffset numberSize (cellsOf s);
+  cumulative = zeros;
+}
+
+-- 1: 16 to 65,536 bytes, and the first field is the count of bytes after it
+abbrev pub lengthOk : List ℕ → Bool
+lengthOk s = leb headerSize (length s) && (leb (length s) mostBytes && eqb (numberOf s 0 countSize) (length s - countSize))
+
+-- 3: n and T are within their limits
+abbrev pub cellsAndStepsOk : ℕ → ℕ → Bool
+cellsAndStepsOk n T = leb 1 n && (leb n mostCells && (leb 1 T && leb T mostSteps))
+
+-- 6: the row of step t is within the limits
+abbrev pub stepOk : List ℕ → Road → ℕ → Bool
+stepOk s r t = rowOk (r .ramp) (r .n) (recordRow s (r .n) t)
+
+-- a refusal gives an all-zero road and state
+abbrev pub refusedOf : ℕ → ℕ → ReadAnswer
+refusedOf number place = record { number = number; place = place; steps = 0; road = emptyRoad; state = emptyState }
+
+-- where no refusal applies the number is 0
+abbrev pub acceptedOf : ℕ → Road → State → ReadAnswer
+acceptedOf T r s = record { number = 0; place = 0; steps = T; road = r; state = s }
+
+-- a refusal at the first number below n at which a test fails, and else what comes after it
+abbrev pub unlessFirst : (ℕ → Bool) → ℕ → (ℕ → ReadAnswer) → ReadAnswer → ReadAnswer
+unlessFirst test n refused rest = unless (allOf test n) (refused (firstOf test n)) rest
+
+-- refusals, in order; the place is the lowest cell (0 for the gate) for 5, the first step for 6, and 0 otherwise
+unfoldable pub readingOf : List ℕ → ReadAnswer
+readingOf s =
+    unless (lengthOk s) (refusedOf 1 0)
+    (unless (eqb (versionOf s) recordVersion) (refusedOf 2 0)
+    (unless (cellsAndStepsOk (cellsOf s) (stepsOf s)) (refusedOf 3 0)
+    (unless (eqb (length s) (sizeOf (cellsOf s) (stepsOf s))) (refusedOf 4 0)
+    (unlessFirst (placeOk (roadOf s) (startOf s)) (cellsOf s + 1) (refusedOf 5)
+    (unlessFirst (stepOk s (roadOf s)) (stepsOf s) (refusedOf 6)
+    (acceptedOf (stepsOf s) (roadOf s) (startOf s)))))))
+
+-- the study of a record that gave this road, start and T: its rows stand in the bytes
+abbrev pub studyBy : List ℕ → Road → State → ℕ → Study
+studyBy s r q T = study r q T (recordRow s (r .n))
+
+-- the study of a record
+abbrev pub studyOf : List ℕ → Study
+studyOf s = studyBy s (readingOf s .road) (readingOf s .state) (readingOf s .steps)

@@ -1,0 +1,196 @@
+-- Laws of reading that its code goes by. Assumes nothing.
+use mathlib.Core.Path.{_≡_, sym, ap, _∙_}
+use mathlib.Core.Bool.{Bool, true, false}
+use mathlib.Core.List.{List}
+use Prim.Native.Nat.{ℕ, _+_, _-_, _*_, _≤_, _<_}
+use native.Mathlib.Nat.{mul-le-mul}
+use native.Mathlib.Omega.{arith}
+use borrow.Author.Count.{below-more, below-none}
+use lib.Dec.{eqb}
+use lib.ListN.{length}
+use borrow.Author.Tests.{leb-true, le-leb, lt-leb, eq-eqb, ne-eqb}
+use Rattle.road.specs.declared.Road.{Road}
+use Rattle.road.specs.declared.State.{State}
+use Rattle.road.specs.Road.{mostCells, mostSteps, mostBytes}
+use Rattle.fields.specs.Fields.{recordVersion, countSize, headerSize, rowSize, numberOf, recordRow, HoldsRow}
+use Rattle.fields.specs.FieldsLaws.{holds-row}
+use Rattle.numbers.specs.Tests.{le-head}
+use Rattle.numbers.specs.First.{firstOf}
+use Rattle.numbers.specs.FirstLaws.{first-stop, first-none}
+use Rattle.limits.specs.Limits.{placeOk, rowOk}
+use Rattle.reading.specs.Headers.{Cells, Steps, Header}
+use Rattle.reading.specs.Reading.{versionOf, cellsOf, stepsOf, sizeOf, roadOf, startOf}
+use Rattle.reading.specs.Reading.{lengthOk, cellsAndStepsOk, stepOk, ReadAnswer, refusedOf, acceptedOf, unlessFirst, readingOf}
+
+-- the length of a record
+pub length-facts : (s : List ℕ) → lengthOk s ≡ true → (headerSize ≤ length s) × (length s ≤ mostBytes)
+length-facts s h = let a = le-head _ _ _ h in (a .0, le-head _ _ _ (a .1) .0)
+
+-- the length's test, from what the code finds
+module _ (s : List ℕ) where
+  pub length-short : length s < headerSize → false ≡ lengthOk s
+  length-short h = rw (lt-leb headerSize (length s) h)
+
+  pub length-long : headerSize ≤ length s → mostBytes < length s → false ≡ lengthOk s
+  length-long h l = rw (le-leb headerSize (length s) h, lt-leb (length s) mostBytes l)
+
+  pub length-counted : (m : ℕ) → headerSize ≤ length s → length s ≤ mostBytes → m ≡ numberOf s 0 countSize → eqb m (length s - countSize) ≡ lengthOk s
+  length-counted m h l e = rw (le-leb headerSize (length s) h, le-leb (length s) mostBytes l, e)
+
+-- n and T within their limits
+pub record Counts (n T : ℕ) : Type 0 where
+  pub someCells : 1 ≤ n
+  pub cells : n ≤ mostCells
+  pub someSteps : 1 ≤ T
+  pub steps : T ≤ mostSteps
+
+pub counts-facts : (n T : ℕ) → cellsAndStepsOk n T ≡ true → Counts n T
+counts-facts n T h =
+    let a = le-head _ _ _ h in
+    let b = le-head _ _ _ (a .1) in
+    let c = le-head _ _ _ (b .1) in
+    record { someCells = a .0; cells = b .0; someSteps = c .0; steps = leb-true _ _ (c .1) }
+
+-- and then the size fits a machine number
+pub size-small : {n T : ℕ} → Counts n T → T * rowSize n ≤ mostSteps * rowSize mostCells
+size-small {n} {T} c = let k : rowSize n ≤ rowSize mostCells = omega (arith, c .cells) in mul-le-mul (c .steps) k
+
+-- what the header asks is what the cells and the rows ask
+module _ {s : List ℕ} {n T : ℕ} (h : Header s n T) where
+  header-counts : Counts n T
+  header-counts = counts-facts n T (h .counts)
+
+  pub header-cells : Cells s n
+  header-cells = record {
+    count = h .cells;
+    most = header-counts .cells;
+    held = let z : 0 * rowSize n ≡ 0 = omega arith in omega (arith, h .size);
+  }
+
+  pub header-done : {q : State} → q ≡ startOf s → q .done ≤ mostSteps
+  header-done e = rw e (omega arith)
+
+  module _ {r : Road} (e : r ≡ roadOf s) where
+    header-road : r .n ≡ n
+    header-road = ap (λ (x : Road). x .n) e ∙ sym (h .cells)
+
+    pub header-most : r .n ≤ mostCells
+    header-most = omega (arith, header-road, header-counts .cells)
+
+    pub header-steps : Steps s (r .n) T
+    header-steps = rw header-road (record { most = header-counts .cells; held = omega (arith, h .size) })
+
+-- the refusals of the header, each from the tests on the way to it
+module _ (s : List ℕ) where
+  pub answer-length : {x : ReadAnswer} → lengthOk s ≡ false → x ≡ refusedOf 1 0 → x ≡ readingOf s
+  unfolding readingOf
+  answer-length h g = g ∙ rw h
+
+  pub answer-version : {x : ReadAnswer} {v : ℕ} → lengthOk s ≡ true → v ≡ versionOf s → (v ≡ recordVersion → ⊥) → x ≡ refusedOf 2 0 → x ≡ readingOf s
+  unfolding readingOf
+  answer-version {v = v} h e k g = g ∙ rw (h, ← e, ne-eqb v recordVersion k)
+
+-- a record that refusals 1 and 2 let through, with its n and T
+pub record Opened (s : List ℕ) (n T : ℕ) : Type 0 where
+  pub lengths : lengthOk s ≡ true
+  pub version : versionOf s ≡ recordVersion
+  pub cells : n ≡ cellsOf s
+  pub steps : T ≡ stepsOf s
+
+module _ {s : List ℕ} {n T : ℕ} (h : Opened s n T) where
+  pub answer-counts : {x : ReadAnswer} → cellsAndStepsOk n T ≡ false → x ≡ refusedOf 3 0 → x ≡ readingOf s
+  unfolding readingOf
+  answer-counts k g = g ∙ rw (h .lengths, eq-eqb (versionOf s) recordVersion (h .version), ← h .cells, ← h .steps, k)
+
+  module _ (k : cellsAndStepsOk n T ≡ true) {size : ℕ} (e : size ≡ sizeOf n T) where
+    pub answer-size : {x : ReadAnswer} → (length s ≡ size → ⊥) → x ≡ refusedOf 4 0 → x ≡ readingOf s
+    unfolding readingOf
+    answer-size z g = g ∙ rw (
+      h .lengths,
+      eq-eqb (versionOf s) recordVersion (h .version),
+      ← h .cells,
+      ← h .steps,
+      k,
+      ne-eqb (length s) (sizeOf n T) (λ x. z (x ∙ sym e)),
+    )
+
+    pub header-passed : length s ≡ size → Header s n T
+    header-passed z = record { lengths = h .lengths; version = h .version; cells = h .cells; steps = h .steps; counts = k; size = z ∙ e }
+
+-- what follows the header
+abbrev bodyOf : List ℕ → ℕ → Road → State → ReadAnswer
+bodyOf s T r q =
+    unlessFirst (placeOk r q) (r .n + 1) (refusedOf 5)
+    (unlessFirst (stepOk s r) T (refusedOf 6)
+    (acceptedOf T r q))
+
+-- a record that refusals 1 to 4 let through, with its road, its start and the lowest place at fault
+pub record Body (s : List ℕ) (n T : ℕ) (r : Road) (q : State) (p : ℕ) : Type 0 where
+  pub header : Header s n T
+  pub road : r ≡ roadOf s
+  pub start : q ≡ startOf s
+  pub place : p ≡ firstOf (placeOk r q) (r .n + 1)
+
+module _ {s : List ℕ} {n T : ℕ} {r : Road} {q : State} {p : ℕ} (b : Body s n T r q p) where
+  body : bodyOf s T r q ≡ readingOf s
+  unfolding readingOf
+  body =
+      let h = b .header in
+      rw (
+        b .road,
+        b .start,
+        h .lengths,
+        eq-eqb (versionOf s) recordVersion (h .version),
+        ← h .cells,
+        ← h .steps,
+        h .counts,
+        eq-eqb (length s) (sizeOf n T) (h .size),
+      )
+
+  places : r .n ≡ n
+  places = header-road (b .header) (b .road)
+
+  pub answer-place : {x : ReadAnswer} → (p ≡ n + 1 → ⊥) → x ≡ refusedOf 5 p → x ≡ readingOf s
+  answer-place k g = g ∙ rw (← body, ← b .place, ne-eqb p (r .n + 1) (λ z. k (omega (arith, places))))
+
+  module _ (k : p ≡ n + 1) {t : ℕ} (e : t ≡ firstOf (stepOk s r) T) where
+    pub answer-step : {x : ReadAnswer} → (t ≡ T → ⊥) → x ≡ refusedOf 6 t → x ≡ readingOf s
+    answer-step l g = g ∙ rw (← body, ← b .place, eq-eqb p (r .n + 1) (omega (arith, places)), ← e, ne-eqb t T l)
+
+    pub answer-accepted : t ≡ T → acceptedOf T r q ≡ readingOf s
+    answer-accepted l = rw (← body, ← b .place, eq-eqb p (r .n + 1) (omega (arith, places)), ← e, eq-eqb t T l)
+
+-- a record that holds the rows of T steps holds each of them
+pub steps-row : {s : List ℕ} {n T t : ℕ} → Steps s n T → t < T → HoldsRow s n t
+steps-row {s} {n} {T} {t} h l = holds-row s n t T (h .most) (h .held) l
+
+-- the loop over the steps: the rows of the first t are within their limits
+pub record Checked (s ramp : List ℕ) (n T t : ℕ) : Type 0 where
+  pub within : t ≤ T
+  pub before : (j : ℕ) → j < t → rowOk ramp n (recordRow s n j) ≡ true
+
+-- a turn of it: the row that the code holds, and what it finds of it
+pub record Turn (s ramp : List ℕ) (n T t : ℕ) (row : List ℕ) (b : Bool) : Type 0 where
+  pub checked : Checked s ramp n T t
+  pub left : t < T
+  pub numbers : row ≡ recordRow s n t
+  pub test : b ≡ rowOk ramp n row
+
+pub checked-none : {s ramp : List ℕ} {n T : ℕ} → Checked s ramp n T 0
+checked-none = record { within = omega arith; before = below-none _ }
+
+module _ {s ramp : List ℕ} {n T t : ℕ} where
+  pub checked-end : Checked s ramp n T t → T ≤ t → t ≡ firstOf (λ (j : ℕ). rowOk ramp n (recordRow s n j)) T
+  checked-end h l =
+      let e : T ≡ t = omega (arith, h .within) in
+      sym (first-none (λ (j : ℕ). rowOk ramp n (recordRow s n j)) T (λ j k. h .before j (omega arith)) ∙ e)
+
+  module _ {row : List ℕ} {b : Bool} (u : Turn s ramp n T t row b) where
+    found : rowOk ramp n (recordRow s n t) ≡ b
+    found = sym (rw (u .numbers) at (u .test))
+
+    pub checked-more : b ≡ true → Checked s ramp n T (t + 1)
+    checked-more z = record { within = omega (arith, u .left); before = below-more _ _ (u .checked .before) (found ∙ z) }
+
+    pub checked-fault : b ≡ false → t ≡ firstOf (λ (j : ℕ). rowOk ramp n (recordRow s n j)) T
+    checked-fault z = first-stop (λ (j : ℕ). rowOk ramp n (recordRow s n j)) T t (u .left) (u .checked .before) (found ∙ z)

@@ -1,0 +1,43 @@
+-- Theorem: the table of outflows of a record that reads, one row a step with the gate first, has at most 8,799 numbers. Assumes nothing.
+use mathlib.Core.Path.{_≡_, refl}
+use mathlib.Core.Bool.{Bool, true, false}
+use mathlib.Core.List.{List}
+use Prim.Native.Nat.{ℕ, _+_, _*_, _≤_}
+use native.Mathlib.Nat.{mul-add, mul-le-mul, mul-le-mul-left}
+use native.Mathlib.Omega.{arith}
+use lib.Dec.{leb}
+use borrow.Author.Tests.{leb-true, leb-false}
+use Rattle.road.specs.Road.{mostSteps, mostBytes}
+use Rattle.fields.specs.Fields.{rowSize}
+use Rattle.reading.specs.Reading.{ReadAnswer, sizeOf, readingOf}
+use Rattle.reading.specs.Within.{read-within}
+
+abbrev pub mostOutflows : ℕ
+mostOutflows = 8799
+
+-- up to 5 cells the limit of steps bounds it
+few : (n T : ℕ) → n ≤ 5 → T ≤ mostSteps → T * (n + 1) ≤ mostOutflows
+few n T h l = let k : n + 1 ≤ 6 = omega arith in omega (arith, mul-le-mul l k)
+
+-- from 6 on the limit of bytes: at 6 there are at most 1,257 steps
+six : (n T : ℕ) → n ≡ 6 → sizeOf n T ≤ mostBytes → T * (n + 1) ≤ mostOutflows
+six n T e h = let k : sizeOf 6 T ≤ mostBytes = rw e at h in rw e (omega arith)
+
+-- and from 7 on at most 1,089
+many : (n T : ℕ) → 7 ≤ n → sizeOf n T ≤ mostBytes → T * (n + 1) ≤ mostOutflows
+many n T h l =
+    let k : 60 ≤ rowSize n = omega arith in
+    omega (arith, mul-le-mul-left T k, mul-add T n 1, mul-add T 4 (8 * n))
+
+pub table-most : (n T : ℕ) → T ≤ mostSteps → sizeOf n T ≤ mostBytes → T * (n + 1) ≤ mostOutflows
+table-most n T h l = go (leb n 5) (leb 7 n) refl refl
+  where
+    go : (a b : Bool) → leb n 5 ≡ a → leb 7 n ≡ b → T * (n + 1) ≤ mostOutflows
+    go true b e f = few n T (leb-true n 5 e) h
+    go false true e f = many n T (leb-true 7 n f) l
+    go false false e f = six n T (omega (arith, leb-false n 5 e, leb-false 7 n f)) l
+
+pub read-table : (s : List ℕ) (a : ReadAnswer) → a ≡ readingOf s → a .number ≡ 0 → a .steps * (a .road .n + 1) ≤ mostOutflows
+read-table s a e h =
+    let w = read-within s a e h in
+    table-most (a .road .n) (a .steps) (w .steps) (omega (arith, w .size, w .bytes))

@@ -1,0 +1,137 @@
+// Reading a record: the road, T and the state before step 0, or the first refusal in the model's order.
+use road::Reading;
+use road::Refusal;
+use road::Road;
+use road::State;
+ghost use mathlib.Core.Path.{_≡_};
+ghost use Rattle.road.specs.Refusals.{refusalNumber};
+ghost use Rattle.numbers.specs.First.{firstOf};
+ghost use Rattle.reading.specs.Reading.{lengthOk, cellsAndStepsOk, roadOf, startOf, stepOk, refusedOf, readAnswer, readingOf};
+ghost use Rattle.reading.specs.Headers.{Cells, Steps, Header};
+
+// Whether the length is within its limits and the first field counts the bytes after it.
+fn length_within(bytes: &[u8]) -> bool
+    ensures { λ r. ⌜ r ≡ lengthOk (now (bytes .entry)) ⌝ }
+{
+    if bytes.len() < fields::HEADER_SIZE {
+        return false;
+    }
+    if Road::BYTES < bytes.len() {
+        return false;
+    }
+    fields::number(bytes, 0, fields::COUNT_SIZE) as usize == bytes.len() - fields::COUNT_SIZE
+}
+
+fn cells_and_steps_within(n: usize, steps: usize) -> bool
+    ensures { λ r. ⌜ r ≡ cellsAndStepsOk n steps ⌝ }
+{
+    (1 <= n) & ((n <= Road::CELLS) & ((1 <= steps) & (steps <= Road::STEPS)))
+}
+
+// The road of a record of n cells.
+fn road_of(bytes: &[u8], n: usize) -> Road
+    requires { ⌜ Cells (now bytes) n ⌝ }
+    ensures { λ r. ⌜ r ≡ roadOf (now (bytes .entry)) ⌝ }
+{
+    Road {
+        n: n,
+        gate_capacity: fields::number(bytes, fields::GATE_CAPACITY_OFFSET, fields::NUMBER_SIZE),
+        speed: fields::short_column(bytes, fields::SPEED_OFFSET, n),
+        wave: fields::short_column(bytes, fields::WAVE_OFFSET, n),
+        share: fields::short_column(bytes, fields::SHARE_OFFSET, n),
+        ramp: fields::short_column(bytes, fields::RAMP_OFFSET, n),
+        jam: fields::column(bytes, fields::JAM_OFFSET, n),
+        capacity: fields::column(bytes, fields::CAPACITY_OFFSET, n),
+    }
+}
+
+// The state before step 0 of a record of n cells.
+fn start_of(bytes: &[u8], n: usize) -> State
+    requires { ⌜ Cells (now bytes) n ⌝ }
+    ensures { λ r. ⌜ r ≡ startOf (now (bytes .entry)) ⌝ }
+{
+    State {
+        done: 0,
+        total: 0,
+        gate_queue: fields::number(bytes, fields::GATE_QUEUE_OFFSET, fields::NUMBER_SIZE),
+        gate_cumulative: 0,
+        held: fields::column(bytes, fields::HELD_OFFSET, n),
+        queue: fields::column(bytes, fields::QUEUE_OFFSET, n),
+        cumulative: [0; 64],
+    }
+}
+
+// The first step whose row is out of its limits, or `steps`.
+fn first_row(bytes: &[u8], road: Road, steps: usize) -> usize
+    requires { ⌜ Steps (now bytes) (road .n) steps ⌝ }
+    ensures { λ r. ⌜ r ≡ firstOf (stepOk (now (bytes .entry)) road) steps ⌝ }
+{
+    let n = road.n;
+    let ramp = road.ramp;
+    let mut t = 0;
+    while t < steps {
+        let row = fields::row(bytes, n, t);
+        if !limits::row_within(ramp, n, &row[..1 + 2 * n]) {
+            return t;
+        }
+        t += 1;
+    }
+    t
+}
+
+fn refused(refusal: Refusal, place: usize) -> Reading
+    ensures { λ a. ⌜ readAnswer a ≡ refusedOf (refusalNumber refusal) place ⌝ }
+{
+    Reading {
+        refusal: refusal,
+        place: place,
+        steps: 0,
+        road: Road::empty(),
+        state: State::empty(),
+    }
+}
+
+// Refusals 5 and 6, and what the record gives.
+fn body(bytes: &[u8], n: usize, steps: usize) -> Reading
+    requires { ⌜ Header (now bytes) n steps ⌝ }
+    ensures { λ a. ⌜ readAnswer a ≡ readingOf (now (bytes .entry)) ⌝ }
+{
+    let road = road_of(bytes, n);
+    let state = start_of(bytes, n);
+    let place = limits::first_place(road, state);
+    if place != n + 1 {
+        return refused(Refusal::Limits, place);
+    }
+    let step = first_row(bytes, road, steps);
+    if step != steps {
+        return refused(Refusal::Rates, step);
+    }
+    Reading {
+        refusal: Refusal::None,
+        place: 0,
+        steps: steps,
+        road: road,
+        state: state,
+    }
+}
+
+// Reads a record of any length; refusals 1 to 4 come first.
+pub fn read(bytes: &[u8]) -> Reading
+    ensures { λ a. ⌜ readAnswer a ≡ readingOf (now (bytes .entry)) ⌝ }
+{
+    if !length_within(bytes) {
+        return refused(Refusal::Length, 0);
+    }
+    if fields::number(bytes, fields::VERSION_OFFSET, 1) != fields::VERSION {
+        return refused(Refusal::Version, 0);
+    }
+    let n = fields::number(bytes, fields::CELLS_OFFSET, 1) as usize;
+    let steps = fields::number(bytes, fields::STEPS_OFFSET, fields::SHORT_SIZE) as usize;
+    if !cells_and_steps_within(n, steps) {
+        return refused(Refusal::Counts, 0);
+    }
+    if bytes.len() != fields::row_start(n, steps) {
+        return refused(Refusal::Size, 0);
+    }
+    body(bytes, n, steps)
+}

@@ -1,8 +1,0 @@
-pub mod Reading
-pub mod Asked
-pub mod ReadingLaws
-pub mod Found
-pub mod Within
-pub mod Numbers
-pub mod Table
-pub mod Sample

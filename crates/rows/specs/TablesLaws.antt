@@ -1,0 +1,27 @@
+-- Laws of tables. Assumes nothing.
+use mathlib.Core.Path.{_≡_, _∙_}
+use mathlib.Core.List.{List}
+use Prim.Native.Nat.{ℕ, suc, _+_, _-_, _*_, _≤_, _<_}
+use native.Mathlib.Nat.{mul-le-mul-right, suc-mul}
+use native.Mathlib.Numerals.{add-one}
+use native.Mathlib.Omega.{arith}
+use lib.ListN.{length, take, drop, length-drop}
+use lib.Seq.{length-take-le}
+use Rattle.rows.specs.Tables.{rowAt}
+
+-- row k ends within t rows
+pub row-ends : (k t w : ℕ) → k < t → k * w + w ≤ t * w
+row-ends k t w h = omega (arith, suc-mul k w, mul-le-mul-right {m = suc k} {n = t} w h)
+
+pub mul-more : (k w : ℕ) → (k + 1) * w ≡ k * w + w
+mul-more k w = rw add-one (suc-mul k w)
+
+-- a part of a list as the code takes it
+pub part-row : (l : List ℕ) (w k from : ℕ) → from ≡ k * w → take (from + w - from) (drop from l) ≡ rowAt l w k
+unfolding rowAt
+part-row l w k from e =
+    let h : from + w - from ≡ w = omega arith in
+    rw (h, e)
+
+pub part-length : (l : List ℕ) (from w : ℕ) → from + w ≤ length l → length (take (from + w - from) (drop from l)) ≡ w
+part-length l from w h = length-take-le (from + w - from) (drop from l) (omega (arith, length-drop from l)) ∙ omega arith

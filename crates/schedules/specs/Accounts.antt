@@ -1,0 +1,94 @@
+-- What the states of a schedule add up to, for every record that reads: totals, cumulative outflows and conservation. Assumes nothing.
+use mathlib.Core.Path.{_≡_, refl, sym, _∙_}
+use mathlib.Core.List.{List}
+use Prim.Native.Nat.{ℕ, zero, suc, _+_, _≤_}
+use native.Mathlib.Omega.{arith}
+use Rattle.numbers.specs.Lists.{at}
+use Rattle.rows.specs.Sum.{sumOf}
+use Rattle.rows.specs.Rows.{listOf}
+use Rattle.rows.specs.RowsLaws.{sum-list-none, sum-list-more}
+use Rattle.road.specs.declared.State.{State}
+use Rattle.road.specs.RoadLaws.{zeros-at}
+use Rattle.road.specs.Study.{Study, roadAt}
+use Rattle.model.specs.Places.{cumulativeAt}
+use Rattle.model.specs.Move.{totalOf, presentOf, exitAt, exitsOf}
+use Rattle.model.specs.MoveLaws.{next-total, next-cumulative}
+use Rattle.model.specs.Roads.{step-alike, present-alike, sized-alike}
+use Rattle.model.specs.Runs.{scheduleAfter, arrivalsTo}
+use Rattle.model.specs.RunsLaws.{StudyOk, schedule-sized, run-conserved}
+use Rattle.reading.specs.Reading.{readingOf, studyOf}
+use Rattle.reading.specs.Numbers.{read-numbers}
+use Rattle.schedules.specs.Schedules.{proposedAt, scheduledAt}
+use Rattle.schedules.specs.Readable.{readable}
+use Rattle.schedules.specs.Demand.{Reaches}
+
+-- after k steps of a table of outflows
+pub record Accounts (a : Study) (zs : List ℕ) (k : ℕ) : Type 0 where
+  -- the total is the sum of present over the states after those steps
+  pub total : totalOf (scheduledAt a zs k) ≡ sumOf (listOf (λ j. presentOf (a .road) (scheduledAt a zs (suc j))) k)
+  -- each F is the sum of its column of outflows
+  pub cumulative : (p : ℕ) → p ≤ a .road .n → cumulativeAt (scheduledAt a zs k) p ≡ sumOf (listOf (λ j. at (proposedAt a zs j) p) k)
+  -- start plus arrivals equals present plus exits
+  pub conserved : presentOf (a .road) (a .start) + arrivalsTo a k
+      ≡ presentOf (a .road) (scheduledAt a zs k) + exitsOf (a .road) (scheduledAt a zs k)
+
+module _ (bytes zs : List ℕ) (reads : readingOf bytes .number ≡ 0) where
+  abbrev a : Study
+  a = studyOf bytes
+
+  abbrev u : ℕ → State
+  u k = scheduledAt a zs k
+
+  ok : StudyOk (studyOf bytes)
+  ok = readable bytes (readingOf bytes) refl reads .ok
+
+  start-total : totalOf (a .start) ≡ 0
+  start-total = read-numbers bytes (readingOf bytes) refl reads .total
+
+  start-cumulative : (p : ℕ) → cumulativeAt (a .start) p ≡ 0
+  unfolding cumulativeAt
+  start-cumulative zero = read-numbers bytes (readingOf bytes) refl reads .gateCumulative
+  start-cumulative (suc i) = rw (read-numbers bytes (readingOf bytes) refl reads .cumulative) (zeros-at i)
+
+  -- before step 0 nothing has left
+  no-exits : (k : ℕ) → sumOf (listOf (exitAt (a .road) (a .start)) k) ≡ 0
+  unfolding cumulativeAt
+  no-exits zero = sum-list-none (exitAt (a .road) (a .start))
+  no-exits (suc k) = omega (arith, sum-list-more (exitAt (a .road) (a .start)) k, no-exits k, start-cumulative (suc k))
+
+  start-exits : exitsOf (a .road) (a .start) ≡ 0
+  unfolding exitsOf
+  start-exits = no-exits (a .road .n)
+
+  total-sum : (k : ℕ) → totalOf (u k) ≡ sumOf (listOf (λ j. presentOf (a .road) (u (suc j))) k)
+  unfolding scheduleAfter
+  total-sum zero = start-total ∙ sym (sum-list-none (λ j. presentOf (a .road) (u (suc j))))
+  total-sum (suc k) =
+      omega (
+        arith,
+        next-total (roadAt a k) (u k) (a .rows k) (proposedAt a zs k),
+        present-alike (a .road) (roadAt a k) (step-alike (ok .roads k)) (u (suc k)),
+        total-sum k,
+        sum-list-more (λ j. presentOf (a .road) (u (suc j))) k,
+      )
+
+  cumulative-sum : (k p : ℕ) → p ≤ a .road .n → cumulativeAt (u k) p ≡ sumOf (listOf (λ j. at (proposedAt a zs j) p) k)
+  unfolding scheduleAfter
+  cumulative-sum zero p l = start-cumulative p ∙ sym (sum-list-none (λ j. at (proposedAt a zs j) p))
+  cumulative-sum (suc k) p l =
+      let e = ok .roads k in
+      omega (
+        arith,
+        next-cumulative (roadAt a k) (u k) (a .rows k) (proposedAt a zs k)
+            (sized-alike (a .road) (roadAt a k) (step-alike e) (u k) (schedule-sized a (proposedAt a zs) ok k)) p (omega (arith, e .n)),
+        cumulative-sum k p l,
+        sum-list-more (λ j. at (proposedAt a zs j) p) k,
+      )
+
+  -- of every step that a schedule reaches; running's written rows are one, and so is what judging goes through
+  pub accounts : (k : ℕ) → Reaches (studyOf bytes) zs k → Accounts (studyOf bytes) zs k
+  accounts k h = record {
+    total = total-sum k;
+    cumulative = cumulative-sum k;
+    conserved = omega (arith, start-exits, run-conserved a (proposedAt a zs) ok k (h .obeys));
+  }

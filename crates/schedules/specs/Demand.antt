@@ -1,0 +1,69 @@
+-- Demand 3: one statement about whole tables, up to every step that both reach. Assumes nothing.
+use mathlib.Core.Path.{_≡_}
+use mathlib.Core.Bool.{true, false}
+use mathlib.Core.List.{List}
+use Prim.Native.Nat.{ℕ, _≤_, _<_}
+use lib.ListN.{length, take}
+use Rattle.numbers.specs.Lists.{at}
+use Rattle.road.specs.declared.Road.{Road}
+use Rattle.road.specs.declared.State.{State}
+use Rattle.road.specs.Refusals.{began}
+use Rattle.road.specs.Study.{Study, roadAt, tableSize}
+use Rattle.model.specs.Move.{totalOf}
+use Rattle.model.specs.Rules.{Greatest}
+use Rattle.model.specs.Runs.{Obeying}
+use Rattle.reading.specs.Reading.{studyOf}
+use Rattle.schedules.specs.Schedules.{proposedAt, scheduledAt, EndAnswer, stepsMade, judgingOf}
+
+-- s is ahead of t: no cumulative outflow of t is larger, at the gate and at every cell, and no total of t is smaller
+pub record Ahead (r : Road) (s t : State) : Type 0 where
+  pub gate : t .«gate_cumulative» ≤ s .«gate_cumulative»
+  pub cell : (i : ℕ) → i < r .n → at (t .cumulative) i ≤ at (s .cumulative) i
+  pub total : totalOf s ≤ totalOf t
+
+-- a schedule reaches k steps: it obeys the rules in its own states in each of them; its later rows may be anything
+pub record Reaches (a : Study) (zs : List ℕ) (k : ℕ) : Type 0 where
+  pub within : k ≤ a .steps
+  pub obeys : Obeying a (proposedAt a zs) k
+
+-- row k of a table holds the greatest outflows in the table's own state
+abbrev pub GreatestIn : Study → List ℕ → ℕ → Type 0
+GreatestIn a zs k = Greatest (roadAt a k) (scheduledAt a zs k) (a .rows k) (proposedAt a zs k)
+
+-- what running's answer e and its list at exit are worth, for every schedule zs that anyone draws for the record. Both sides take road,
+-- start, arrivals and releases from one reading of the record, its study; running writes the rows of the steps made
+pub record Demand (bytes out : List ℕ) (e : EndAnswer) : Type 0 where
+  -- each row of the run holds the greatest outflows in the run's own states
+  pub greatest : (k : ℕ) → k < stepsMade (studyOf bytes) e → GreatestIn (studyOf bytes) out k
+  -- after every step that both reach, the schedule's cumulative outflow is at most the engine's and its total at least the engine's
+  pub ahead : (zs : List ℕ) (k : ℕ) → k ≤ stepsMade (studyOf bytes) e → Reaches (studyOf bytes) zs k
+      → Ahead (studyOf bytes .road) (scheduledAt (studyOf bytes) out k) (scheduledAt (studyOf bytes) zs k)
+  -- where running and judging end after equally many steps, the same holds of the states that they return
+  pub returned : (zs : List ℕ) → e .state .done ≡ judgingOf bytes zs .state .done
+      → Ahead (studyOf bytes .road) (e .state) (judgingOf bytes zs .state)
+
+-- what the words of Demand stand for: the rows written, taken as a schedule; the steps made; reaching; the states returned
+pub record Grounds (bytes out : List ℕ) (e : EndAnswer) : Type 0 where
+  -- the rows written, taken as a schedule, obey the rules up to every step written
+  pub own : (k : ℕ) → k ≤ stepsMade (studyOf bytes) e → Reaches (studyOf bytes) out k
+  -- where the run began they give the state that is returned, with the record's road
+  pub ownState : began (e .number) ≡ true → e .state ≡ scheduledAt (studyOf bytes) out (stepsMade (studyOf bytes) e)
+  pub ownRoad : began (e .number) ≡ true → e .road ≡ studyOf bytes .road
+  -- judging accepts them where running was not refused, with the same answer
+  pub ownJudged : e .number ≡ 0 → judgingOf bytes (take (tableSize (studyOf bytes)) out) ≡ e
+  -- running makes all T steps, or those before its refusal; none where it did not begin
+  pub allRows : e .number ≡ 0 → stepsMade (studyOf bytes) e ≡ studyOf bytes .steps
+  pub noRows : began (e .number) ≡ false → stepsMade (studyOf bytes) e ≡ 0
+  -- reaching is what judging does: a schedule of the right length reaches exactly the steps before its refusal, or all
+  pub reaches : (zs : List ℕ) → length zs ≡ tableSize (studyOf bytes) → (k : ℕ) → Reaches (studyOf bytes) zs k
+      → k ≤ stepsMade (studyOf bytes) (judgingOf bytes zs)
+  pub reached : (zs : List ℕ) → length zs ≡ tableSize (studyOf bytes) → Reaches (studyOf bytes) zs (stepsMade (studyOf bytes) (judgingOf bytes zs))
+  -- judging returns the schedule's own state after the steps made, with the record's road
+  pub judgedState : (zs : List ℕ) → length zs ≡ tableSize (studyOf bytes)
+      → judgingOf bytes zs .state ≡ scheduledAt (studyOf bytes) zs (stepsMade (studyOf bytes) (judgingOf bytes zs))
+  pub judgedRoad : (zs : List ℕ) → length zs ≡ tableSize (studyOf bytes) → judgingOf bytes zs .road ≡ studyOf bytes .road
+
+-- both, for a record that reads without refusal
+pub record Promised (bytes out : List ℕ) (e : EndAnswer) : Type 0 where
+  pub demand : Demand bytes out e
+  pub grounds : Grounds bytes out e

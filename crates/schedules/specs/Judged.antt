@@ -1,0 +1,61 @@
+-- Judging accepts exactly the schedules of the right length that obey the rules, and otherwise names the first broken one. Assumes nothing.
+use mathlib.Core.Path.{_≡_, refl, sym, ap, _∙_}
+use mathlib.Core.List.{List}
+use Prim.Native.Nat.{ℕ, _<_}
+use native.Mathlib.Nat.{le-refl}
+use native.Mathlib.Omega.{arith}
+use lib.ListN.{length}
+use Rattle.road.specs.Study.{Study, roadAt, tableSize}
+use Rattle.model.specs.Rules.{Obeys}
+use Rattle.model.specs.RunsLaws.{StudyOk}
+use Rattle.reading.specs.Reading.{readingOf, studyOf}
+use Rattle.schedules.specs.Schedules.{proposedAt, scheduledAt, judgeSays, firstStep, EndAnswer, ended, judgeEnd, judgingOf}
+use Rattle.schedules.specs.SchedulesLaws.{step-within, end-all, end-fault, end-number, obeys-faults, faults-obeys}
+use Rattle.schedules.specs.Ends.{judges-length, judges-ends}
+use Rattle.schedules.specs.Readable.{readable}
+use Rattle.schedules.specs.Demand.{Reaches}
+
+module _ (bytes zs : List ℕ) (reads : readingOf bytes .number ≡ 0) (right : length zs ≡ tableSize (studyOf bytes)) where
+  abbrev a : Study
+  a = studyOf bytes
+
+  abbrev J : ℕ
+  J = firstStep (judgeSays a zs) (a .steps)
+
+  ok : StudyOk (studyOf bytes)
+  ok = readable bytes (readingOf bytes) refl reads .ok
+
+  answer : judgingOf bytes zs ≡ judgeEnd (studyOf bytes) zs
+  answer = judges-ends bytes reads zs right
+
+  -- accepted: the schedule obeys the rules in all T steps
+  pub accepted-obeys : judgingOf bytes zs .number ≡ 0 → Reaches (studyOf bytes) zs (studyOf bytes .steps)
+  accepted-obeys h =
+      let f : J ≡ a .steps = end-number a (judgeSays a zs) (scheduledAt a zs) (sym (ap (λ (e : EndAnswer). e .number) answer) ∙ h) in
+      record { within = le-refl (a .steps); obeys = λ j l. faults-obeys a ok zs j (omega (arith, f)) }
+
+  -- and one that does is accepted, with the final state
+  pub obeys-accepted : Reaches (studyOf bytes) zs (studyOf bytes .steps)
+      → judgingOf bytes zs ≡ ended 0 0 0 (studyOf bytes .road) (scheduledAt (studyOf bytes) zs (studyOf bytes .steps))
+  obeys-accepted h =
+      let f : J ≡ a .steps = omega (arith, step-within (judgeSays a zs) (a .steps), obeys-faults a ok zs (a .steps) (h .within) (h .obeys)) in
+      answer ∙ end-all a (judgeSays a zs) (scheduledAt a zs) f
+
+  -- otherwise the answer is the verdict on the first row that does not obey, in the schedule's own state before it
+  pub refused-first : (k : ℕ) → k < studyOf bytes .steps → Reaches (studyOf bytes) zs k
+      → (Obeys (roadAt (studyOf bytes) k) (scheduledAt (studyOf bytes) zs k) (studyOf bytes .rows k) (proposedAt (studyOf bytes) zs k) → ⊥)
+      → judgingOf bytes zs
+      ≡ ended (judgeSays (studyOf bytes) zs k .number) k (judgeSays (studyOf bytes) zs k .place) (studyOf bytes .road) (scheduledAt (studyOf bytes) zs k)
+  refused-first k l h n =
+      let far = obeys-faults a ok zs k (h .within) (h .obeys) in
+      let not-past : k < J → ⊥ = λ m. n (faults-obeys a ok zs k m) in
+      let f : J ≡ k = omega arith in
+      let g = end-fault a (judgeSays a zs) (scheduledAt a zs) (omega arith) in
+      answer ∙ rw f at g
+
+-- a schedule of another length is refused by 12
+pub refused-length : (bytes zs : List ℕ) → readingOf bytes .number ≡ 0 → (length zs ≡ tableSize (studyOf bytes) → ⊥)
+    → (judgingOf bytes zs .number ≡ 12) × (judgingOf bytes zs .place ≡ 0)
+refused-length bytes zs reads n =
+    let e = judges-length bytes reads zs n in
+    (ap (λ (a : EndAnswer). a .number) e, ap (λ (a : EndAnswer). a .place) e)

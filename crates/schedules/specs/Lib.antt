@@ -1,0 +1,12 @@
+pub mod Schedules
+pub mod SchedulesLaws
+pub mod TableLaws
+pub mod Ends
+pub mod Readable
+pub mod Demand
+pub mod DemandLaws
+pub mod Whole
+pub mod Judged
+pub mod Accounts
+pub mod Returned
+pub mod NotEmpty

@@ -1,0 +1,107 @@
+-- docs/MODEL.md, 'Running' and 'Judging': step by step over the rows of a study. Assumes nothing.
+use mathlib.Core.Bool.{cond}
+use mathlib.Core.List.{List, [], _++_}
+use Prim.Native.Nat.{ℕ, zero, suc, _*_}
+use lib.Dec.{leb, eqb}
+use lib.ListN.{length, drop}
+use Rattle.numbers.specs.First.{unless, firstFault}
+use Rattle.rows.specs.Tables.{rowAt}
+use Rattle.road.specs.declared.Road.{Road}
+use Rattle.road.specs.declared.State.{State}
+use Rattle.road.specs.declared.Ended.{Ended}
+use Rattle.road.specs.Road.{emptyRoad, emptyState}
+use Rattle.road.specs.Refusals.{refusalNumber}
+use Rattle.road.specs.Study.{Study, roadAt, places, tableSize}
+use Rattle.model.specs.Step.{Fault, releasesOf}
+use Rattle.model.specs.Verdict.{verdictOf}
+use Rattle.model.specs.Runs.{scheduleAfter, engineAfter, outflowsAt}
+use Rattle.reading.specs.Reading.{readingOf, studyOf}
+
+-- a schedule is a table of outflows, gate first, one row a step: its row k
+abbrev pub proposedAt : Study → List ℕ → ℕ → List ℕ
+proposedAt a zs k = rowAt zs (places a) k
+
+-- a schedule's own state after k steps
+abbrev pub scheduledAt : Study → List ℕ → ℕ → State
+scheduledAt a zs k = scheduleAfter a (proposedAt a zs) k
+
+-- what running says of step k: 9 or 10
+abbrev pub runSays : Study → ℕ → Fault
+runSays a k = releasesOf (roadAt a k) (engineAfter a k) (a .rows k)
+
+-- what judging says of step k: 9 or 10 as in stepping, then 13 before 14
+abbrev pub judgeSays : Study → List ℕ → ℕ → Fault
+judgeSays a zs k = verdictOf (roadAt a k) (scheduledAt a zs k) (a .rows k) (proposedAt a zs k)
+
+-- the first of T steps that has a fault, T where none has
+abbrev pub firstStep : (ℕ → Fault) → ℕ → ℕ
+firstStep says T = firstFault (λ k. says k .number) T
+
+-- what running and judging answer: the refusal's number or 0, step, place, road and state
+pub record EndAnswer : Type 0 where
+  pub number : ℕ
+  pub step : ℕ
+  pub place : ℕ
+  pub road : Road
+  pub state : State
+
+abbrev pub ended : ℕ → ℕ → ℕ → Road → State → EndAnswer
+ended number step place r s = record { number = number; step = step; place = place; road = r; state = s }
+
+-- the code's answer, in the model's numbers
+abbrev pub endAnswer : Ended → EndAnswer
+endAnswer e = ended (refusalNumber (e .refusal)) (e .step) (e .place) (e .road) (e .state)
+
+-- a fault comes with its step, its place and the state before; otherwise the final state
+unfoldable pub endOf : Study → (ℕ → Fault) → (ℕ → State) → EndAnswer
+endOf a says after =
+    let k = firstStep says (a .steps) in
+    cond (eqb k (a .steps))
+    (ended 0 0 0 (a .road) (after (a .steps)))
+    (ended (says k .number) k (says k .place) (a .road) (after k))
+
+-- a refusal that names no state gives an all-zero road and state
+abbrev pub noState : ℕ → ℕ → EndAnswer
+noState number place = ended number 0 place emptyRoad emptyState
+
+-- how running and judging end, step by step
+abbrev pub runEnd : Study → EndAnswer
+runEnd a = endOf a (runSays a) (engineAfter a)
+
+abbrev pub judgeEnd : Study → List ℕ → EndAnswer
+judgeEnd a zs = endOf a (judgeSays a zs) (scheduledAt a zs)
+
+-- running takes a record and a lent list: 1 to 6 as in reading; 11, list shorter than T × (n + 1); then 9 or 10 with its step and cell
+unfoldable pub runningOf : List ℕ → List ℕ → EndAnswer
+runningOf bytes list =
+    unless (eqb (readingOf bytes .number) 0) (noState (readingOf bytes .number) (readingOf bytes .place))
+    (unless (leb (tableSize (studyOf bytes)) (length list)) (noState 11 0)
+    (runEnd (studyOf bytes)))
+
+-- judging takes a record and a proposed schedule: 1 to 6; 12, list not of length T × (n + 1); then, step by step, 9 or 10, and 13 or 14
+unfoldable pub judgingOf : List ℕ → List ℕ → EndAnswer
+judgingOf bytes zs =
+    unless (eqb (readingOf bytes .number) 0) (noState (readingOf bytes .number) (readingOf bytes .place))
+    (unless (eqb (length zs) (tableSize (studyOf bytes))) (noState 12 0)
+    (judgeEnd (studyOf bytes) zs))
+
+-- how many steps an answer has made: all T, or those before the refused one (none where no step is named)
+abbrev pub stepsMade : Study → EndAnswer → ℕ
+stepsMade a e = cond (eqb (e .number) 0) (a .steps) (e .step)
+
+-- the engine's rows of the first k steps
+unfoldable pub flowsOf : Study → ℕ → List ℕ
+flowsOf a zero = []
+flowsOf a (suc k) = flowsOf a k ++ outflowsAt a k
+
+-- the lent list with these rows written in front
+unfoldable pub tableOf : Study → List ℕ → ℕ → List ℕ
+tableOf a list k = flowsOf a k ++ drop (k * places a) list
+
+-- the lent list after a run step by step: the rows before its end
+abbrev pub runTable : Study → List ℕ → List ℕ
+runTable a list = tableOf a list (firstStep (runSays a) (a .steps))
+
+-- the lent list after running: the rows of the steps made are written, and nothing else
+unfoldable pub listAfter : List ℕ → List ℕ → List ℕ
+listAfter bytes list = tableOf (studyOf bytes) list (stepsMade (studyOf bytes) (runningOf bytes list))

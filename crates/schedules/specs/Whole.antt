@@ -1,0 +1,209 @@
+-- Demand 3 whole: it holds of the list that running leaves and of the answer that it gives, for every record that reads without refusal.
+-- Assumes nothing.
+use mathlib.Core.Path.{_≡_, refl, sym, ap, _∙_, subst⁻¹}
+use mathlib.Core.Bool.{Bool, true, false}
+use mathlib.Core.Logic.{_⊎_, ⊎-elim, inl, inr}
+use mathlib.Core.List.{List}
+use Prim.Native.Nat.{ℕ, _≤_, _<_}
+use native.Mathlib.Nat.{le-refl}
+use native.Mathlib.Omega.{arith}
+use lib.Dec.{eqb}
+use borrow.Author.Tests.{eqb-true, eqb-false}
+use lib.ListN.{length, take}
+use Rattle.numbers.specs.Lists.{at}
+use Rattle.numbers.specs.Tests.{order}
+use Rattle.numbers.specs.First.{oneOf}
+use Rattle.road.specs.declared.Road.{Road}
+use Rattle.road.specs.declared.State.{State}
+use Rattle.road.specs.Road.{emptyState}
+use Rattle.road.specs.RoadLaws.{zeros-at}
+use Rattle.road.specs.Refusals.{began}
+use Rattle.road.specs.Study.{Study, tableSize}
+use Rattle.model.specs.Move.{totalOf}
+use Rattle.model.specs.Runs.{scheduleAfter, engineAfter, outflowsAt}
+use Rattle.model.specs.RunsLaws.{StudyOk}
+use Rattle.reading.specs.Reading.{readingOf, studyOf}
+use Rattle.reading.specs.Numbers.{read-numbers}
+use Rattle.schedules.specs.Schedules.{proposedAt, scheduledAt, runSays, judgeSays, firstStep, EndAnswer, noState, runEnd, judgeEnd, runningOf, judgingOf}
+use Rattle.schedules.specs.Schedules.{stepsMade, flowsOf, tableOf, listAfter}
+use Rattle.schedules.specs.TableLaws.{length-flows, flows-row, table-row, table-front}
+use Rattle.schedules.specs.SchedulesLaws.{step-within, end-made, end-state, end-road, end-number, run-began, obeys-faults, faults-obeys}
+use Rattle.schedules.specs.Ends.{runs-short, runs-long, writes-short, writes-long, judges-length, judges-ends}
+use Rattle.schedules.specs.Readable.{readable}
+use Rattle.schedules.specs.Demand.{Ahead, Reaches, Demand, Grounds, Promised}
+use Rattle.schedules.specs.DemandLaws.{own-state, own-obeys, own-greatest, own-best, own-judged, run-done, judge-done, returned-ahead}
+
+-- a state that nothing has left yet
+record Fresh (r : Road) (u : State) : Type 0 where
+  gate : u .«gate_cumulative» ≡ 0
+  cell : (i : ℕ) → i < r .n → at (u .cumulative) i ≡ 0
+  total : totalOf u ≡ 0
+
+fresh-ahead : (r : Road) (u v : State) → Fresh r u → Fresh r v → Ahead r u v
+fresh-ahead r u v a b = record {
+  gate = omega (arith, a .gate, b .gate);
+  cell = λ i l. omega (arith, a .cell i l, b .cell i l);
+  total = omega (arith, a .total, b .total);
+}
+
+fresh-empty : (r : Road) → Fresh r emptyState
+fresh-empty r = record { gate = refl; cell = λ i l. zeros-at i; total = refl }
+
+module _ (bytes : List ℕ) (reads : readingOf bytes .number ≡ 0) where
+  abbrev a : Study
+  a = studyOf bytes
+
+  ok : StudyOk (studyOf bytes)
+  ok = readable bytes (readingOf bytes) refl reads .ok
+
+  abbrev K : ℕ
+  K = firstStep (runSays a) (a .steps)
+
+  abbrev J : List ℕ → ℕ
+  J zs = firstStep (judgeSays a zs) (a .steps)
+
+  fresh-start : Fresh (a .road) (a .start)
+  fresh-start =
+      let n = read-numbers bytes (readingOf bytes) refl reads in
+      record { gate = n .gateCumulative; cell = λ i l. rw (n .cumulative) (zeros-at i); total = n .total }
+
+  -- a state of the run or of a schedule with no step done is the start
+  run-fresh : runEnd a .state .done ≡ 0 → Fresh (a .road) (runEnd a .state)
+  unfolding engineAfter
+  run-fresh h =
+      let z : K ≡ 0 = sym (run-done a ok) ∙ h in
+      subst⁻¹ (Fresh (a .road)) (end-state a (runSays a) (engineAfter a) ∙ ap (engineAfter a) z) fresh-start
+
+  judge-fresh : (zs : List ℕ) → judgeEnd a zs .state .done ≡ 0 → Fresh (a .road) (judgeEnd a zs .state)
+  unfolding scheduleAfter
+  judge-fresh zs h =
+      let z : J zs ≡ 0 = sym (judge-done a ok zs) ∙ h in
+      subst⁻¹ (Fresh (a .road)) (end-state a (judgeSays a zs) (scheduledAt a zs) ∙ ap (scheduledAt a zs) z) fresh-start
+
+  -- a schedule of the right length, or not
+  sized : (zs : List ℕ) → (length zs ≡ tableSize a) ⊎ ((length zs ≡ tableSize a) → ⊥)
+  sized zs = go (eqb (length zs) (tableSize a)) refl
+    where
+      go : (b : Bool) → eqb (length zs) (tableSize a) ≡ b → (length zs ≡ tableSize a) ⊎ ((length zs ≡ tableSize a) → ⊥)
+      go true e = inl (eqb-true (length zs) (tableSize a) e)
+      go false e = inr (eqb-false (length zs) (tableSize a) e)
+
+  -- a schedule of the right length: reaching is what judging does, and the state returned is its own
+  module _ (zs : List ℕ) (right : length zs ≡ tableSize (studyOf bytes)) where
+    answer : judgingOf bytes zs ≡ judgeEnd a zs
+    answer = judges-ends bytes reads zs right
+
+    judged-made : stepsMade a (judgingOf bytes zs) ≡ J zs
+    judged-made = ap (stepsMade a) answer ∙ end-made a (judgeSays a zs) (scheduledAt a zs)
+
+    judge-reaches : (k : ℕ) → Reaches a zs k → k ≤ stepsMade a (judgingOf bytes zs)
+    judge-reaches k h = omega (arith, judged-made, obeys-faults a ok zs k (h .within) (h .obeys))
+
+    judge-reached : Reaches a zs (stepsMade a (judgingOf bytes zs))
+    judge-reached = record {
+      within = omega (arith, judged-made, step-within (judgeSays a zs) (a .steps));
+      obeys = λ j l. faults-obeys a ok zs j (omega (arith, judged-made));
+    }
+
+    judged-state : judgingOf bytes zs .state ≡ scheduledAt a zs (stepsMade a (judgingOf bytes zs))
+    judged-state =
+        ap (λ (e : EndAnswer). e .state) answer ∙ end-state a (judgeSays a zs) (scheduledAt a zs) ∙ ap (scheduledAt a zs) (sym judged-made)
+
+    judged-road : judgingOf bytes zs .road ≡ a .road
+    judged-road = ap (λ (e : EndAnswer). e .road) answer ∙ end-road a (judgeSays a zs) (scheduledAt a zs)
+
+  -- a state compared with the one that judging returns, by the schedule's length
+  against : (u : State) (zs : List ℕ) → u .done ≡ judgingOf bytes zs .state .done
+      → (length zs ≡ tableSize (studyOf bytes) → u .done ≡ judgeEnd (studyOf bytes) zs .state .done → Ahead (studyOf bytes .road) u (judgeEnd (studyOf bytes) zs .state))
+      → (u .done ≡ 0 → Fresh (studyOf bytes .road) u) → Ahead (studyOf bytes .road) u (judgingOf bytes zs .state)
+  against u zs h right fresh = ⊎-elim
+      (λ (l : length zs ≡ tableSize a).
+      let j = judges-ends bytes reads zs l in
+      subst⁻¹ (λ (e : EndAnswer). Ahead (a .road) u (e .state)) j (right l (h ∙ ap (λ (e : EndAnswer). e .state .done) j)))
+      (λ n.
+      let j = judges-length bytes reads zs n in
+      subst⁻¹ (λ (e : EndAnswer). Ahead (a .road) u (e .state)) j
+      (fresh-ahead (a .road) u emptyState (fresh (h ∙ ap (λ (e : EndAnswer). e .state .done) j)) (fresh-empty (a .road))))
+      (sized zs)
+
+  -- a list too short: nothing is written, and no step is made
+  module _ (list : List ℕ) (short : length list < tableSize (studyOf bytes)) where
+    short-demand : Demand bytes list (noState 11 0)
+    unfolding scheduleAfter
+    short-demand = record {
+      greatest = λ k l. absurd (omega arith);
+      ahead = λ zs k l h.
+          let z : k ≡ 0 = omega arith in
+          subst⁻¹ (λ (j : ℕ). Ahead (a .road) (scheduledAt a list j) (scheduledAt a zs j)) z (fresh-ahead (a .road) (a .start) (a .start) fresh-start fresh-start);
+      returned = λ zs e. against emptyState zs e
+          (λ l q. fresh-ahead (a .road) emptyState (judgeEnd a zs .state) (fresh-empty (a .road)) (judge-fresh zs (sym q)))
+          (λ _. fresh-empty (a .road));
+    }
+
+    short-grounds : Grounds bytes list (noState 11 0)
+    unfolding began oneOf
+    short-grounds = record {
+      own = λ k l. record { within = omega arith; obeys = λ j m. absurd (omega arith) };
+      ownState = λ h. absurd (let z : _≡_ {A = ℕ} 0 1 = cc in omega arith);
+      ownRoad = λ h. absurd (let z : _≡_ {A = ℕ} 0 1 = cc in omega arith);
+      ownJudged = λ e. absurd (omega arith);
+      allRows = λ e. absurd (omega arith);
+      noRows = λ e. refl;
+      reaches = judge-reaches;
+      reached = judge-reached;
+      judgedState = judged-state;
+      judgedRoad = judged-road;
+    }
+
+  -- a list long enough: the engine's rows of the steps before the first fault
+  module _ (list : List ℕ) (long : tableSize (studyOf bytes) ≤ length list) where
+    abbrev out : List ℕ
+    out = tableOf a list K
+
+    made : stepsMade a (runEnd a) ≡ K
+    made = end-made a (runSays a) (engineAfter a)
+
+    same : (j : ℕ) → j < K → proposedAt a out j ≡ outflowsAt a j
+    same j l = table-row a ok list K j l
+
+    -- the table alone, where all T rows are written
+    table : K ≡ a .steps → take (tableSize a) out ≡ flowsOf a (a .steps)
+    table f = ap (λ (j : ℕ). take (tableSize a) (tableOf a list j)) f ∙ table-front a ok list (a .steps)
+
+    judged : K ≡ a .steps → judgingOf bytes (take (tableSize a) out) ≡ runEnd a
+    judged f =
+        ap (judgingOf bytes) (table f)
+        ∙ judges-ends bytes reads (flowsOf a (a .steps)) (length-flows a ok (a .steps))
+        ∙ own-judged a ok (flowsOf a (a .steps)) (λ j l. flows-row a ok (a .steps) j (omega (arith, f))) f
+
+    long-demand : Demand bytes out (runEnd a)
+    long-demand = record {
+      greatest = λ j l. own-greatest a ok out same j (omega (arith, made));
+      ahead = λ zs j l h. own-best a ok out same zs j (omega (arith, made)) (h .obeys);
+      returned = λ zs e. against (runEnd a .state) zs e (λ l. returned-ahead a ok zs) run-fresh;
+    }
+
+    long-grounds : Grounds bytes out (runEnd a)
+    long-grounds = record {
+      own = λ j l. record {
+        within = omega (arith, made, step-within (runSays a) (a .steps));
+        obeys = λ i m. own-obeys a ok out same i (omega (arith, made));
+      };
+      ownState = λ n. end-state a (runSays a) (engineAfter a) ∙ sym (own-state a ok out same K (le-refl K)) ∙ ap (scheduledAt a out) (sym made);
+      ownRoad = λ n. end-road a (runSays a) (engineAfter a);
+      ownJudged = λ h. judged (end-number a (runSays a) (engineAfter a) h);
+      allRows = λ h. made ∙ end-number a (runSays a) (engineAfter a) h;
+      noRows = λ h. absurd (let e = run-began a in let z : _≡_ {A = ℕ} 0 1 = cc in omega arith);
+      reaches = judge-reaches;
+      reached = judge-reached;
+      judgedState = judged-state;
+      judgedRoad = judged-road;
+    }
+
+  pub promised : (list : List ℕ) → Promised bytes (listAfter bytes list) (runningOf bytes list)
+  promised list = ⊎-elim
+      (λ (l : tableSize a ≤ length list).
+      rw (writes-long bytes reads list l, runs-long bytes reads list l) (record { demand = long-demand list l; grounds = long-grounds list l }))
+      (λ (l : length list < tableSize a).
+      rw (writes-short bytes reads list l, runs-short bytes reads list l) (record { demand = short-demand list l; grounds = short-grounds list l }))
+      (order (tableSize a) (length list))

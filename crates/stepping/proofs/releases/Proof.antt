@@ -1,0 +1,138 @@
+-- `stepping::releases` meets its contract. The invariant: the releases of the i cells passed fit. Assumes nothing.
+use mathlib.Core.Path.{sym, _∙_}
+use Prim.Native.Nat.{_-_}
+use Rattle.road.specs.Refusals.{refusalNumber}
+use Rattle.stepping.specs.Looked.{Fitted, Turn, fitted-none, fitted-more, fitted-fault, fitted-end}
+use borrow.Author.Needs.{needs}
+use Rattle.stepping.proofs.releases.Statement.{statement}
+use Rattle.stepping.proofs.releases.Tie as tie
+
+abbrev Inv-loop : tie.InvT-loop
+Inv-loop row r s n i₀ i = Fitted r s row i
+
+abbrev μ-loop : tie.MeasureT-loop
+μ-loop row r s n i₀ i = r .n - i
+
+-- the arguments, from the loop's place; a turn's start, from its supply; and the supply, from the refusal
+abbrev A : tie.At-loop Inv-loop μ-loop → tie.Start Inv-loop μ-loop
+A c = c .before .before
+
+abbrev In : tie.After-supply Inv-loop μ-loop → tie.In-loop Inv-loop μ-loop
+In c = c .before .before .before .before .before
+
+abbrev Supply : tie.After-release-refusal Inv-loop μ-loop → tie.After-supply Inv-loop μ-loop
+Supply c = c .before .before .before
+
+turn : (c : tie.After-release-refusal Inv-loop μ-loop) →
+    let l = In (Supply c) .before in
+    let a = A l .args in
+    Turn (a .t1) (a .t2) (a .row .now) (l .loop .i) (Supply c .supply .result) (refusalNumber (c .release-refusal .result))
+turn c = record {
+  fitted = In (Supply c) .before .loop .inv;
+  left = In (Supply c) .loop-test .taken;
+  supplied = Supply c .supply .ensures;
+  number = c .release-refusal .ensures;
+}
+
+loop-holds : tie.Need-loop-holds Inv-loop μ-loop
+loop-holds c = fitted-none
+
+mul-supply : tie.Need-mul-supply Inv-loop μ-loop
+mul-supply c = search needs
+
+element-copy-out-supply : tie.Need-element-copy-out-supply Inv-loop μ-loop
+element-copy-out-supply c = search needs
+
+mul-supply-2 : tie.Need-mul-supply-2 Inv-loop μ-loop
+mul-supply-2 c = search needs
+
+element-copy-out-supply-2 : tie.Need-element-copy-out-supply-2 Inv-loop μ-loop
+element-copy-out-supply-2 c = search needs
+
+mul-supply-3 : tie.Need-mul-supply-3 Inv-loop μ-loop
+mul-supply-3 c = search needs
+
+element-copy-out-supply-3 : tie.Need-element-copy-out-supply-3 Inv-loop μ-loop
+element-copy-out-supply-3 c = search needs
+
+mul-supply-4 : tie.Need-mul-supply-4 Inv-loop μ-loop
+mul-supply-4 c = search needs
+
+element-copy-out-supply-4 : tie.Need-element-copy-out-supply-4 Inv-loop μ-loop
+element-copy-out-supply-4 c = search needs
+
+supply-requires : tie.Need-supply-requires Inv-loop μ-loop
+supply-requires c κs = search needs
+
+mul-release-refusal : tie.Need-mul-release-refusal Inv-loop μ-loop
+mul-release-refusal c = search needs
+
+add-release-refusal : tie.Need-add-release-refusal Inv-loop μ-loop
+add-release-refusal c = search needs
+
+mul-release-refusal-2 : tie.Need-mul-release-refusal-2 Inv-loop μ-loop
+mul-release-refusal-2 c = search needs
+
+shared-slice-read-release-refusal : tie.Need-shared-slice-read-release-refusal Inv-loop μ-loop
+shared-slice-read-release-refusal c = search needs
+
+mul-release-refusal-3 : tie.Need-mul-release-refusal-3 Inv-loop μ-loop
+mul-release-refusal-3 c = search needs
+
+element-copy-out-release-refusal : tie.Need-element-copy-out-release-refusal Inv-loop μ-loop
+element-copy-out-release-refusal c = search needs
+
+release-refusal-requires : tie.Need-release-refusal-requires Inv-loop μ-loop
+release-refusal-requires c κs = search needs
+
+number-requires : tie.Need-number-requires Inv-loop μ-loop
+number-requires c κs = search needs
+
+add-t31 : tie.Need-add-t31 Inv-loop μ-loop
+add-t31 c = search needs
+
+returns : tie.Need-returns Inv-loop μ-loop
+returns c = let m = c .before in fitted-fault (turn (m .before)) (λ z. c .if1 .taken (m .number .ensures ∙ z))
+
+add-i : tie.Need-add-i Inv-loop μ-loop
+add-i c = search needs
+
+loop-less : tie.Need-loop-less Inv-loop μ-loop
+loop-less c = search needs
+
+loop-again : tie.Need-loop-again Inv-loop μ-loop
+loop-again c = let m = c .before in fitted-more (turn (m .before)) (sym (m .number .ensures) ∙ c .if1 .left)
+
+returns-2 : tie.Need-returns-2 Inv-loop μ-loop
+returns-2 c = fitted-end (c .before .loop .inv) (search needs)
+
+pub releases-spec : {M : Type 1} → statement M
+releases-spec =
+    tie.close
+    (tie.spec
+    Inv-loop
+    μ-loop
+    loop-holds
+    mul-supply
+    element-copy-out-supply
+    mul-supply-2
+    element-copy-out-supply-2
+    mul-supply-3
+    element-copy-out-supply-3
+    mul-supply-4
+    element-copy-out-supply-4
+    supply-requires
+    mul-release-refusal
+    add-release-refusal
+    mul-release-refusal-2
+    shared-slice-read-release-refusal
+    mul-release-refusal-3
+    element-copy-out-release-refusal
+    release-refusal-requires
+    number-requires
+    add-t31
+    returns
+    add-i
+    loop-less
+    loop-again
+    returns-2)

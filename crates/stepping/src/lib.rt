@@ -1,0 +1,114 @@
+// Stepping: the next state of a road, or a refusal with its place and the state that was given.
+use road::Refusal;
+use road::Road;
+use road::State;
+use road::Stepped;
+ghost use mathlib.Core.Path.{_≡_};
+ghost use Prim.Native.Nat.{_+_, _*_, _≤_, _<_};
+ghost use lib.ListN.{length};
+ghost use Rattle.road.specs.Refusals.{refusalNumber};
+ghost use Rattle.model.specs.Move.{nextOf};
+ghost use Rattle.model.specs.Rules.{outflowsOf};
+ghost use Rattle.model.specs.Step.{releaseFault, releasesOf, steppingOf};
+ghost use Rattle.moves.specs.Asked.{Movable, Steppable};
+ghost use Rattle.stepping.specs.Answers.{faultOf, stepAnswer};
+
+// A refusal, or none, with its place.
+pub struct Fault {
+    pub refusal: Refusal,
+    pub place: usize,
+}
+
+// One cell's release: not above its queue, nor above its supply.
+fn release_refusal(release: u32, queue: u32, supply: u32) -> Refusal
+    ensures { λ q. ⌜ refusalNumber q ≡ releaseFault release queue supply ⌝ }
+{
+    if queue < release {
+        return Refusal::ReleaseAboveQueue;
+    }
+    if supply < release {
+        return Refusal::ReleaseAboveSupply;
+    }
+    Refusal::None
+}
+
+// The lowest cell whose release does not fit, with its refusal.
+pub fn releases(r: Road, s: State, row: &[u32]) -> Fault
+    requires { ⌜ (r .n ≤ 64) × (length (now row) ≡ 1 + 2 * r .n) ⌝ }
+    ensures { λ q. ⌜ faultOf q ≡ releasesOf r s (now (row .entry)) ⌝ }
+{
+    let n = r.n;
+    let mut i = 0;
+    while i < n {
+        let supply = flow::supply(r.wave[i], r.capacity[i], r.jam[i], s.held[i]);
+        let refusal = release_refusal(row[2 * i + 2], s.queue[i], supply);
+        if refusal.number() != 0 {
+            return Fault {
+                refusal: refusal,
+                place: i + 1,
+            };
+        }
+        i += 1;
+    }
+    Fault {
+        refusal: Refusal::None,
+        place: 0,
+    }
+}
+
+// The state after a step by a row of outflows that obeys the rules.
+pub fn next_by(r: Road, s: State, row: &[u32], y: &[u32]) -> State
+    requires { ⌜ (Movable r s (now row) (now y)) × (s .done < 1440) ⌝ }
+    ensures { λ t. ⌜ t ≡ nextOf r s (now (row .entry)) (now (y .entry)) ⌝ }
+{
+    let t = moves::moved(r, s, row, y);
+    moves::counted(r, t)
+}
+
+// Fills a row with the engine's outflows, and gives the state after the step by them.
+pub fn next(r: Road, s: State, row: &[u32], y: &mut [u32]) -> State
+    requires { ⌜ (Steppable r s (now row)) × (length (now y) ≡ r .n + 1) ⌝ }
+    ensures state { λ t. ⌜ t ≡ nextOf r s (now (row .entry)) (outflowsOf r s (now (row .entry))) ⌝ }
+    ensures row { λ t. ⌜ now (y .exit) ≡ outflowsOf r s (now (row .entry)) ⌝ }
+{
+    moves::outflows(r, s, row, y);
+    next_by(r, s, row, y)
+}
+
+// A refused step gives the old state back.
+fn refused(refusal: Refusal, place: usize, s: State) -> Stepped
+    ensures { λ a. ⌜ a ≡ record { refusal = refusal; step = 0; place = place; state = s } ⌝ }
+{
+    Stepped {
+        refusal: refusal,
+        step: 0,
+        place: place,
+        state: s,
+    }
+}
+
+// One step of a road by the numbers of a row in the record's order.
+pub fn step(r: Road, s: State, row: &[u32]) -> Stepped
+    ensures { λ a. ⌜ stepAnswer a ≡ steppingOf r s (now (row .entry)) ⌝ }
+{
+    if !limits::input_within(r, s, row) {
+        return refused(Refusal::StepInput, 0, s);
+    }
+    if s.done == Road::STEPS {
+        return refused(Refusal::StepsDone, 0, s);
+    }
+    let q = releases(r, s, row);
+    let refusal = q.refusal;
+    if refusal.number() != 0 {
+        return refused(refusal, q.place, s);
+    }
+    let places = r.n + 1;
+    let mut y = [0u32; 65];
+    let t = next(r, s, row, &mut y[..places]);
+    Stepped {
+        refusal: Refusal::None,
+        step: 0,
+        place: 0,
+        state: t,
+    }
+}
