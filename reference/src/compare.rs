@@ -36,7 +36,7 @@ fn record_of(case: Case) -> Option<Vec<u8>> {
         Case::Read { record } | Case::Run { record, .. } | Case::Judge { record, .. } => {
             Some(record)
         }
-        Case::Step(_) => None,
+        Case::Step(_) | Case::Write(_) | Case::Row { .. } => None,
     }
 }
 

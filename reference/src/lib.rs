@@ -1,6 +1,6 @@
 //! A second implementation of the metered carriageway, for comparison.
 //!
-//! It is written from the scope document alone. Clarity comes before speed.
+//! It is written from the scope document and its requests alone. Clarity comes before speed.
 
 #![forbid(unsafe_code)]
 
@@ -17,3 +17,4 @@ pub mod run;
 pub mod step;
 pub mod text;
 pub mod trials;
+pub mod write;

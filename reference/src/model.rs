@@ -27,6 +27,8 @@ impl Road {
     pub const MAX_CELLS: usize = 64;
     pub const MAX_STEPS: usize = 1_440;
     pub const MAX_BYTES: usize = 65_536;
+    /// Most numbers of a row.
+    pub const MAX_ROW: usize = 1 + 2 * Road::MAX_CELLS;
     /// Bound of every rate and of a jam count.
     pub const MAX_RATE: u32 = 1_000_000;
     pub const MAX_START_QUEUE: u32 = 1_000_000_000;
@@ -54,6 +56,15 @@ impl Road {
             cell => u64::from(self.b[cell - 1]),
         }
     }
+}
+
+/// What a record says of the time before step 0.
+#[derive(Clone, Copy, Debug, PartialEq, Eq)]
+pub struct Start {
+    pub gate_queue: u32,
+    pub held: [u32; Road::MAX_CELLS],
+    /// Ramp queues.
+    pub queue: [u32; Road::MAX_CELLS],
 }
 
 /// What changes from step to step.
@@ -84,6 +95,25 @@ impl State {
             held: [0; Road::MAX_CELLS],
             queue: [0; Road::MAX_CELLS],
             f: [0; Road::MAX_CELLS],
+        }
+    }
+
+    /// The state before step 0 of a start.
+    pub fn before(start: &Start) -> State {
+        State {
+            gate_queue: start.gate_queue,
+            held: start.held,
+            queue: start.queue,
+            ..State::empty()
+        }
+    }
+
+    /// Its held counts and queues, as a start.
+    pub fn start(&self) -> Start {
+        Start {
+            gate_queue: self.gate_queue,
+            held: self.held,
+            queue: self.queue,
         }
     }
 

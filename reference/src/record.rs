@@ -63,10 +63,25 @@ pub fn size(n: usize, steps: usize) -> usize {
 
 /// The row of a step, of 1 + 2n numbers, from a record of the right size.
 pub fn row(record: &[u8], n: usize, step: usize) -> Vec<u32> {
+    row_numbers(record, n, step)[..1 + 2 * n].to_vec()
+}
+
+/// The numbers of a step's row where a record of n cells has them, for any
+/// bytes. A number whose four bytes aren't all there is 0, and so are those
+/// past the row. All are 0 for n above 64 or a step from 1,440 on.
+pub fn row_numbers(bytes: &[u8], n: usize, step: usize) -> [u32; Road::MAX_ROW] {
+    let mut numbers = [0; Road::MAX_ROW];
+    if n > Road::MAX_CELLS || step >= Road::MAX_STEPS {
+        return numbers;
+    }
     let start = size(n, step);
-    (0..1 + 2 * n)
-        .map(|k| u32_at(record, start + 4 * k))
-        .collect()
+    for (k, number) in numbers[..1 + 2 * n].iter_mut().enumerate() {
+        let at = start + 4 * k;
+        if at + 4 <= bytes.len() {
+            *number = u32_at(bytes, at);
+        }
+    }
+    numbers
 }
 
 /// Refusals 1 to 4: the record's frame.
@@ -81,7 +96,7 @@ fn frame_fault(record: &[u8]) -> Option<u32> {
         return Some(2);
     }
     let (n, steps) = (cells_of(record), steps_of(record));
-    if !(1..=Road::MAX_CELLS).contains(&n) || !(1..=Road::MAX_STEPS).contains(&steps) {
+    if !counts_fit(n, steps) {
         return Some(3);
     }
     if record.len() != size(n, steps) {
@@ -90,8 +105,13 @@ fn frame_fault(record: &[u8]) -> Option<u32> {
     None
 }
 
+/// n and T are within their limits.
+pub fn counts_fit(n: usize, steps: usize) -> bool {
+    (1..=Road::MAX_CELLS).contains(&n) && (1..=Road::MAX_STEPS).contains(&steps)
+}
+
 /// Refusal 5: the lowest place out of its limits.
-fn first_bad_place(road: &Road, state: &State) -> Option<usize> {
+pub fn first_bad_place(road: &Road, state: &State) -> Option<usize> {
     if !limits::gate_fits(road) || !limits::gate_queue_fits(state) {
         return Some(0);
     }

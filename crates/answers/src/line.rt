@@ -4,6 +4,7 @@ use road::Ended;
 use road::Reading;
 use road::Road;
 use road::Stepped;
+use road::Written;
 
 fn ended(out: &mut [u8], at: usize) -> usize {
     text::put(out, at, b"\n")
@@ -28,11 +29,35 @@ pub fn of_reading(out: &mut [u8], at: usize, reading: Reading) -> usize {
     ended(out, next)
 }
 
-// A run's line has the digest of the list that was lent.
+// A run's line has the digest of the list that was lent; the words of the record written again end it.
 pub fn of_run(out: &mut [u8], at: usize, run: Ended, list: &[u32]) -> usize {
     let mut next = text::put(out, at, b"run");
     next = answer(out, next, run);
-    next = text::word(out, next, b" list ", digest::of_list(list) as u64);
+    text::word(out, next, b" list ", digest::of_list(list) as u64)
+}
+
+// Number, place and count of an answer, and the digest of the target that was lent.
+fn written(out: &mut [u8], at: usize, written: Written, target: &[u8]) -> usize {
+    let refusal = written.refusal;
+    let mut next = text::word(out, at, b" ", refusal.number() as u64);
+    next = text::word(out, next, b" ", written.place as u64);
+    next = text::word(out, next, b" ", written.count as u64);
+    next = text::word(out, next, b" target ", digest::of_bytes(target) as u64);
+    ended(out, next)
+}
+
+pub fn of_again(out: &mut [u8], at: usize, answer: Written, target: &[u8]) -> usize {
+    let next = text::put(out, at, b" again");
+    written(out, next, answer, target)
+}
+
+pub fn of_writing(out: &mut [u8], at: usize, answer: Written, target: &[u8]) -> usize {
+    let next = text::put(out, at, b"write");
+    written(out, next, answer, target)
+}
+
+pub fn of_row(out: &mut [u8], at: usize, row: &[u32]) -> usize {
+    let next = text::word(out, at, b"row digest ", digest::of_list(row) as u64);
     ended(out, next)
 }
 

@@ -1,17 +1,11 @@
-// The four kinds of cases: each reads the rest of its frame, and puts its line.
+// The kinds of cases: each reads the rest of its frame, and puts its line.
 use answers::line;
+use frames::case;
+use frames::case::Case;
 use frames::field;
 use frames::input;
 
-// A frame that was read.
-pub struct Case {
-    // Where its line ends.
-    pub at: usize,
-    // Whether it was whole.
-    pub is_whole: bool,
-}
-
-// The kinds of frames: R, U, J and S.
+// The kinds of frames: R, U, J, S, W and N.
 const READ: u32 = 82;
 
 const RUN: u32 = 85;
@@ -20,35 +14,23 @@ const JUDGE: u32 = 74;
 
 const STEP: u32 = 83;
 
+const WRITE: u32 = 87;
+
+const NUMBERS: u32 = 78;
+
 // The most numbers of a step's row.
 const ROW: usize = 200;
-
-// A frame that is cut short.
-fn cut() -> Case {
-    Case {
-        at: 0,
-        is_whole: false,
-    }
-}
-
-// A frame whose line ends here.
-fn whole(at: usize) -> Case {
-    Case {
-        at: at,
-        is_whole: true,
-    }
-}
 
 // A reading's line.
 fn read_line(bytes: &[u8], out: &mut [u8], at: usize) -> Case {
     let reading = freeway::read(bytes);
-    whole(line::of_reading(out, at, reading))
+    case::whole(line::of_reading(out, at, reading))
 }
 
 fn read(record: &mut [u8], out: &mut [u8], at: usize) -> Case {
     let size = input::bytes(record);
     if record.len() < size {
-        return cut();
+        return case::cut();
     }
     read_line(&record[..size], out, at)
 }
@@ -65,39 +47,41 @@ fn lend(list: &mut [u32]) {
     }
 }
 
-// A run's line, with the list that it was lent.
-fn ran(bytes: &[u8], list: &mut [u32], out: &mut [u8], at: usize) -> Case {
+// A run's words, with the list that it was lent.
+fn ran(bytes: &[u8], list: &mut [u32], out: &mut [u8], at: usize) -> usize {
     lend(list);
     let ended = freeway::run(bytes, list);
-    whole(line::of_run(out, at, ended, list))
+    line::of_run(out, at, ended, list)
 }
 
-fn run(record: &mut [u8], list: &mut [u32], out: &mut [u8], at: usize) -> Case {
+// A run's line ends with the record read and written again.
+fn run(record: &mut [u8], list: &mut [u32], target: &mut [u8], out: &mut [u8], at: usize) -> Case {
     let length = input::size();
     if list.len() < length {
-        return cut();
+        return case::cut();
     }
     let size = input::bytes(record);
     if record.len() < size {
-        return cut();
+        return case::cut();
     }
-    ran(&record[..size], &mut list[..length], out, at)
+    let next = ran(&record[..size], &mut list[..length], out, at);
+    writes::again(&record[..size], list, target, out, next)
 }
 
 // A judging's line.
 fn judge_line(bytes: &[u8], schedule: &[u32], out: &mut [u8], at: usize) -> Case {
     let ended = freeway::judge(bytes, schedule);
-    whole(line::of_judging(out, at, ended))
+    case::whole(line::of_judging(out, at, ended))
 }
 
 fn judge(record: &mut [u8], list: &mut [u32], out: &mut [u8], at: usize) -> Case {
     let length = input::list(list, record);
     if list.len() < length {
-        return cut();
+        return case::cut();
     }
     let size = input::bytes(record);
     if record.len() < size {
-        return cut();
+        return case::cut();
     }
     judge_line(&record[..size], &list[..length], out, at)
 }
@@ -106,32 +90,39 @@ fn judge(record: &mut [u8], list: &mut [u32], out: &mut [u8], at: usize) -> Case
 fn step_line(bytes: &[u8], row: &[u32], out: &mut [u8], at: usize) -> Case {
     let road = field::road(bytes);
     let stepped = freeway::step(road, field::state(bytes), row);
-    whole(line::of_step(out, at, road, stepped))
+    case::whole(line::of_step(out, at, road, stepped))
 }
 
 // The road and the state take 1,820 bytes.
 fn step(record: &mut [u8], list: &mut [u32], out: &mut [u8], at: usize) -> Case {
     let mut bytes = [0u8; 1820];
     if !input::fills(&mut bytes) {
-        return cut();
+        return case::cut();
     }
     let length = input::list(list, record);
     if ROW < length {
-        return cut();
+        return case::cut();
     }
     if list.len() < length {
-        return cut();
+        return case::cut();
     }
     step_line(&bytes, &list[..length], out, at)
 }
 
 // Reads the rest of a frame of this kind, and puts its line from `at` on.
-pub fn shown(kind: u32, record: &mut [u8], list: &mut [u32], out: &mut [u8], at: usize) -> Case {
+pub fn shown(
+    kind: u32,
+    record: &mut [u8],
+    list: &mut [u32],
+    target: &mut [u8],
+    out: &mut [u8],
+    at: usize,
+) -> Case {
     if kind == READ {
         return read(record, out, at);
     }
     if kind == RUN {
-        return run(record, list, out, at);
+        return run(record, list, target, out, at);
     }
     if kind == JUDGE {
         return judge(record, list, out, at);
@@ -139,5 +130,11 @@ pub fn shown(kind: u32, record: &mut [u8], list: &mut [u32], out: &mut [u8], at:
     if kind == STEP {
         return step(record, list, out, at);
     }
-    cut()
+    if kind == WRITE {
+        return writes::write(record, list, target, out, at);
+    }
+    if kind == NUMBERS {
+        return writes::row(record, out, at);
+    }
+    case::cut()
 }

@@ -25,6 +25,10 @@ fn fed_short(digest: u32, x: u16) -> u32 {
     fed(digest, x as u32)
 }
 
+fn fed_byte(digest: u32, x: u8) -> u32 {
+    fed(digest, x as u32)
+}
+
 // The high half, then the low half.
 fn fed_long(digest: u32, x: u64) -> u32 {
     fed(fed(digest, high(x)), low(x))
@@ -70,6 +74,17 @@ pub fn of_list(list: &[u32]) -> u32 {
     let mut i = 0;
     while i < list.len() {
         d = fed(d, list[i]);
+        i += 1;
+    }
+    d
+}
+
+// Of bytes, each as a number.
+pub fn of_bytes(bytes: &[u8]) -> u32 {
+    let mut d = 0;
+    let mut i = 0;
+    while i < bytes.len() {
+        d = fed_byte(d, bytes[i]);
         i += 1;
     }
     d

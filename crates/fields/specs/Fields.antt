@@ -1,6 +1,6 @@
 -- docs/MODEL.md, 'The record': where each field stands, and the numbers, columns and rows that the bytes give. Assumes nothing.
-use mathlib.Core.List.{List}
-use Prim.Native.Nat.{ℕ, zero, suc, _+_, _*_, _≤_}
+use mathlib.Core.List.{List, [], _∷_, _++_}
+use Prim.Native.Nat.{ℕ, zero, suc, _+_, _*_, _/_, _%_, _≤_}
 use lib.ListN.{length}
 use Rattle.numbers.specs.Lists.{at}
 use Rattle.road.specs.Road.{mostCells, zeros}
@@ -88,6 +88,11 @@ rowStart n t = headerSize + cellSize * n + t * rowSize n
 unfoldable pub numberOf : List ℕ → ℕ → ℕ → ℕ
 numberOf s i zero = 0
 numberOf s i (suc w) = numberOf s i w * 256 + at s (i + w)
+
+-- the other way round: the w bytes of a number
+unfoldable pub bytesOf : ℕ → ℕ → List ℕ
+bytesOf zero x = []
+bytesOf (suc w) x = bytesOf w (x / 256) ++ (x % 256 ∷ [])
 
 -- the field of w bytes at an offset into the cell at i
 abbrev pub fieldOf : List ℕ → ℕ → ℕ → ℕ → ℕ

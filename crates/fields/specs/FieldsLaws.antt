@@ -39,21 +39,21 @@ column s offset w n h = record {
 }
 
 -- the loop over a column's cells: the fields of the first i stand in l
-pub record Stored (s : List ℕ) (offset w n : ℕ) (l : List ℕ) (i : ℕ) : Type 0 where
+pub record Collected (s : List ℕ) (offset w n : ℕ) (l : List ℕ) (i : ℕ) : Type 0 where
   pub within : i ≤ n
   pub fields : l ≡ fillOf (fieldOf s offset w) i zeros
 
 module _ {s : List ℕ} {offset w n : ℕ} where
-  pub stored-none : Stored s offset w n zeros 0
+  pub collected-none : Collected s offset w n zeros 0
   unfolding fillOf
-  stored-none = record { within = omega arith; fields = refl }
+  collected-none = record { within = omega arith; fields = refl }
 
-  module _ {l : List ℕ} {i : ℕ} (h : Stored s offset w n l i) where
-    pub stored-more : {x : ℕ} → i < n → x ≡ fieldOf s offset w i → Stored s offset w n (set l i x) (i + 1)
-    stored-more k e = record { within = omega arith; fields = cc (fill-more (fieldOf s offset w) i zeros, e, h .fields) }
+  module _ {l : List ℕ} {i : ℕ} (h : Collected s offset w n l i) where
+    pub collected-more : {x : ℕ} → i < n → x ≡ fieldOf s offset w i → Collected s offset w n (set l i x) (i + 1)
+    collected-more k e = record { within = omega arith; fields = cc (fill-more (fieldOf s offset w) i zeros, e, h .fields) }
 
-    pub stored-end : n ≤ i → l ≡ columnOf s offset w n
-    stored-end k =
+    pub collected-end : n ≤ i → l ≡ columnOf s offset w n
+    collected-end k =
         let e : i ≡ n = omega (arith, h .within) in
         h .fields ∙ ap (columnOf s offset w) e
 

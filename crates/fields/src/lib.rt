@@ -1,8 +1,9 @@
-// The layout of the model's record, and the numbers, columns and rows of its bytes.
+// The layout of the model's record, and the numbers, columns and rows of its bytes, read and stored.
 ghost use mathlib.Core.Path.{_≡_};
 ghost use Prim.Native.Nat.{_+_, _*_, _^_, _≤_, _<_};
 ghost use lib.ListN.{length, take};
 ghost use Rattle.fields.specs.Fields.{shortSize, numberSize, cellSize, rowStart, numberOf, columnOf, recordRow, HoldsRow};
+ghost use Rattle.fields.specs.Stored.{Stored};
 
 // The version of the layout below.
 pub const VERSION: u32 = 1;
@@ -127,4 +128,35 @@ pub fn row(bytes: &[u8], n: usize, t: usize) -> [u32; 129]
         k += 1;
     }
     r
+}
+
+// Stores a byte at `at`, and gives the index after it.
+pub fn put_byte(target: &mut [u8], at: usize, x: u8) -> usize
+    requires { ⌜ at + 1 ≤ length (now target) ⌝ }
+    ensures { λ e. ⌜ Stored (now (target .entry)) at 1 x (now (target .exit)) e ⌝ }
+{
+    target[at] = x;
+    at + 1
+}
+
+// Stores a number of two bytes from `at` on, the highest first.
+pub fn put_short(target: &mut [u8], at: usize, x: u16) -> usize
+    requires { ⌜ at + shortSize ≤ length (now target) ⌝ }
+    ensures { λ e. ⌜ Stored (now (target .entry)) at shortSize x (now (target .exit)) e ⌝ }
+{
+    target[at] = (x / 256 % 256) as u8;
+    target[at + 1] = (x % 256) as u8;
+    at + SHORT_SIZE
+}
+
+// Stores a number of four bytes from `at` on, the highest first.
+pub fn put_number(target: &mut [u8], at: usize, x: u32) -> usize
+    requires { ⌜ at + numberSize ≤ length (now target) ⌝ }
+    ensures { λ e. ⌜ Stored (now (target .entry)) at numberSize x (now (target .exit)) e ⌝ }
+{
+    target[at] = (x / 256 / 256 / 256 % 256) as u8;
+    target[at + 1] = (x / 256 / 256 % 256) as u8;
+    target[at + 2] = (x / 256 % 256) as u8;
+    target[at + 3] = (x % 256) as u8;
+    at + NUMBER_SIZE
 }

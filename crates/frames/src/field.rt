@@ -1,10 +1,11 @@
 // Numbers of bytes, the highest byte first. What does not lie within the bytes is 0.
 ghost use Prim.Native.Nat.{_≤_, _<_};
 use road::Road;
+use road::Start;
 use road::State;
 
 // The most numbers of a list.
-pub const NUMBERS: usize = 9000;
+pub const NUMBERS: usize = 16512;
 
 pub fn wide(x: u8) -> u32
     ensures { λ r. ⌜ r < 256 ⌝ }
@@ -87,7 +88,7 @@ pub fn numbers(bytes: &[u8], to: &mut [u32]) {
     }
 }
 
-// The road at the front of a step's frame, byte by byte: n, the gate's capacity, v, w, b and the ramp mark by cell, J and C by cell.
+// The road at the front of a frame, byte by byte: n, the gate's capacity, v, w, b and the ramp mark by cell, J and C by cell.
 pub fn road(bytes: &[u8]) -> Road {
     let speed = short_column(bytes, 8, 8);
     let wave = short_column(bytes, 10, 8);
@@ -120,5 +121,21 @@ pub fn state(bytes: &[u8]) -> State {
         held: held,
         queue: queue,
         cumulative: cumulative,
+    }
+}
+
+// T, where it stands after the road.
+pub fn steps(bytes: &[u8]) -> usize {
+    number(bytes, 1032) as usize
+}
+
+// The start after T: the gate's queue, then held and queue by cell.
+pub fn start(bytes: &[u8]) -> Start {
+    let held = column(bytes, 1040, 8);
+    let queue = column(bytes, 1044, 8);
+    Start {
+        gate_queue: number(bytes, 1036),
+        held: held,
+        queue: queue,
     }
 }

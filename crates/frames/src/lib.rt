@@ -1,3 +1,4 @@
-// The parts of the trials' frames: numbers, lists, and a step's road and state.
+// The parts of the trials' frames: numbers, lists, a road, a state and a start.
+pub mod case;
 pub mod field;
 pub mod input;

@@ -12,7 +12,7 @@ use borrow.Author.Tests.{lt-ltb, le-ltb, leb-true, leb-false}
 use Rattle.io.specs.Digits.{digits, Fewest}
 use Rattle.road.specs.declared.State.{State}
 use Rattle.numbers.specs.Lists.{at}
-use Rattle.listing.specs.Placed.{Puts, placed-none, puts-more, Room, room, room-more, Text, text-room}
+use Rattle.rows.specs.Placed.{Puts, placed-none, puts-more, Room, room, room-more, Text, text-room}
 use Rattle.listing.specs.Listing.{blank, newline, mostWord, mostLine, digitsOf, decimalOf, wordOf, totalWord, exitsWord, refusedWord}
 use Rattle.listing.specs.Listing.{headerLine, lineOf, cellLines, linesOf, totalLine, refusedLine}
 

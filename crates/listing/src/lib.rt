@@ -3,7 +3,7 @@ use road::State;
 ghost use Prim.Native.Nat.{_+_, _*_, _≤_, _<_};
 ghost use lib.ListN.{length};
 ghost use Rattle.listing.specs.Listing.{mostWord, mostLine, wordOf, headerLine, lineOf, linesOf, totalLine, refusedLine};
-ghost use Rattle.listing.specs.Placed.{Puts};
+ghost use Rattle.rows.specs.Placed.{Puts};
 
 // Copies a text into the buffer from `at` on, and gives the index after it.
 fn put(buffer: &mut [u8], at: usize, text: &[u8]) -> usize

@@ -26,6 +26,10 @@ firstOf f n = firstFrom f 0 n
 abbrev pub allOf : (ℕ → Bool) → ℕ → Bool
 allOf f n = eqb (firstOf f n) n
 
+-- a refusal at the first number below n at which a test fails, and else what comes after it
+abbrev pub unlessFirst : {A : Type 0} → (ℕ → Bool) → ℕ → (ℕ → A) → A → A
+unlessFirst test n refused rest = unless (allOf test n) (refused (firstOf test n)) rest
+
 -- the first number below n with a fault, where f gives each the number of its fault, 0 for none; n where none has
 unfoldable pub firstFault : (ℕ → ℕ) → ℕ → ℕ
 firstFault f n = firstOf (λ i. eqb (f i) 0) n

@@ -21,7 +21,7 @@ use Rattle.schedules.specs.Schedules.{EndAnswer, ended, runEnd}
 use Rattle.schedules.specs.Readable.{Readable}
 use Rattle.running.specs.Ran.{Ran, RanTurn, ran-none, ran-more, row-is, ends-ran, all-ran}
 use Rattle.listing.specs.Listing.{mostLine, headerLine, linesOf, totalLine, refusedLine}
-use Rattle.listing.specs.Placed.{Puts, placed-none, puts-first, puts-more, Room, Holds}
+use Rattle.rows.specs.Placed.{Puts, placed-none, puts-first, puts-more, Room, Holds}
 use Rattle.listing.specs.ListingLaws.{header-room, lines-room, total-room, refused-room}
 use Rattle.printing.specs.Printed.{stepsLines, printedEnd, printedRun, printedOf}
 

@@ -8,7 +8,7 @@ ghost use Rattle.model.specs.Move.{nextOf};
 ghost use Rattle.model.specs.Rules.{outflowsOf};
 ghost use Rattle.moves.specs.Asked.{Steppable};
 ghost use Rattle.reading.specs.Reading.{studyBy};
-ghost use Rattle.listing.specs.Placed.{Puts, Holds};
+ghost use Rattle.rows.specs.Placed.{Puts, Holds};
 ghost use Rattle.listing.specs.Listing.{mostLine, linesOf};
 ghost use Rattle.printing.specs.Printed.{printedRun, printedOf};
 ghost use Rattle.printing.specs.Lined.{mostText, Printable};

@@ -1,4 +1,4 @@
--- docs/MODEL.md, 'The four operations and their refusals', reading: its refusals in order, and what it gives. Assumes nothing.
+-- docs/MODEL.md, 'The operations and their refusals', reading: its refusals in order, and what it gives. Assumes nothing.
 use mathlib.Core.Bool.{Bool, _&&_}
 use mathlib.Core.List.{List}
 use Prim.Native.Nat.{ℕ, _+_, _-_}
@@ -7,7 +7,7 @@ use lib.ListN.{length}
 use Rattle.road.specs.declared.Road.{Road}
 use Rattle.road.specs.declared.State.{State}
 use Rattle.road.specs.Road.{zeros, emptyRoad, emptyState, mostCells, mostSteps, mostBytes}
-use Rattle.numbers.specs.First.{unless, firstOf, allOf}
+use Rattle.numbers.specs.First.{unless, unlessFirst, firstOf, allOf}
 use Rattle.road.specs.Refusals.{refusalNumber}
 use Rattle.road.specs.Study.{Study, study}
 use Rattle.fields.specs.Fields.{recordVersion, countSize, shortSize, numberSize, headerSize, rowStart, numberOf, columnOf, recordRow}
@@ -92,10 +92,6 @@ refusedOf number place = record { number = number; place = place; steps = 0; roa
 -- where no refusal applies the number is 0
 abbrev pub acceptedOf : ℕ → Road → State → ReadAnswer
 acceptedOf T r s = record { number = 0; place = 0; steps = T; road = r; state = s }
-
--- a refusal at the first number below n at which a test fails, and else what comes after it
-abbrev pub unlessFirst : (ℕ → Bool) → ℕ → (ℕ → ReadAnswer) → ReadAnswer → ReadAnswer
-unlessFirst test n refused rest = unless (allOf test n) (refused (firstOf test n)) rest
 
 -- refusals, in order; the place is the lowest cell (0 for the gate) for 5, the first step for 6, and 0 otherwise
 unfoldable pub readingOf : List ℕ → ReadAnswer

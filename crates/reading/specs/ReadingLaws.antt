@@ -18,9 +18,10 @@ use Rattle.numbers.specs.Tests.{le-head}
 use Rattle.numbers.specs.First.{firstOf}
 use Rattle.numbers.specs.FirstLaws.{first-stop, first-none}
 use Rattle.limits.specs.Limits.{placeOk, rowOk}
+use Rattle.numbers.specs.First.{unlessFirst}
 use Rattle.reading.specs.Headers.{Cells, Steps, Header}
 use Rattle.reading.specs.Reading.{versionOf, cellsOf, stepsOf, sizeOf, roadOf, startOf}
-use Rattle.reading.specs.Reading.{lengthOk, cellsAndStepsOk, stepOk, ReadAnswer, refusedOf, acceptedOf, unlessFirst, readingOf}
+use Rattle.reading.specs.Reading.{lengthOk, cellsAndStepsOk, stepOk, ReadAnswer, refusedOf, acceptedOf, readingOf}
 
 -- the length of a record
 pub length-facts : (s : List ℕ) → lengthOk s ≡ true → (headerSize ≤ length s) × (length s ≤ mostBytes)

@@ -22,7 +22,7 @@ fn length_within(bytes: &[u8]) -> bool
     fields::number(bytes, 0, fields::COUNT_SIZE) as usize == bytes.len() - fields::COUNT_SIZE
 }
 
-fn cells_and_steps_within(n: usize, steps: usize) -> bool
+pub fn cells_and_steps_within(n: usize, steps: usize) -> bool
     ensures { λ r. ⌜ r ≡ cellsAndStepsOk n steps ⌝ }
 {
     (1 <= n) & ((n <= Road::CELLS) & ((1 <= steps) & (steps <= Road::STEPS)))

@@ -25,3 +25,8 @@ part-row l w k from e =
 
 pub part-length : (l : List ℕ) (from w : ℕ) → from + w ≤ length l → length (take (from + w - from) (drop from l)) ≡ w
 part-length l from w h = length-take-le (from + w - from) (drop from l) (omega (arith, length-drop from l)) ∙ omega arith
+
+-- a row of a table of t rows is whole
+pub row-length : (l : List ℕ) (w k t : ℕ) → k < t → length l ≡ t * w → length (rowAt l w k) ≡ w
+unfolding rowAt
+row-length l w k t h e = length-take-le w (drop (k * w) l) (omega (arith, length-drop (k * w) l, row-ends k t w h))

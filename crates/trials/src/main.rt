@@ -57,12 +57,18 @@ fn bad(out: &mut [u8], tally: Tally) -> Tally {
 }
 
 // The next frame's line, or the end.
-fn next(record: &mut [u8], list: &mut [u32], out: &mut [u8], tally: Tally) -> Tally {
+fn next(
+    record: &mut [u8],
+    list: &mut [u32],
+    target: &mut [u8],
+    out: &mut [u8],
+    tally: Tally,
+) -> Tally {
     let kind = input::kind();
     if kind == input::END {
         return ended(out, tally);
     }
-    let case = cases::shown(kind, record, list, out, tally.at);
+    let case = cases::shown(kind, record, list, target, out, tally.at);
     if !case.is_whole {
         return bad(out, tally);
     }
@@ -74,7 +80,7 @@ fn next(record: &mut [u8], list: &mut [u32], out: &mut [u8], tally: Tally) -> Ta
 }
 
 // A proved loop has to end, so it counts its turns down, from a number that no run uses up.
-fn all(record: &mut [u8], list: &mut [u32], out: &mut [u8]) {
+fn all(record: &mut [u8], list: &mut [u32], target: &mut [u8], out: &mut [u8]) {
     let mut tally = Tally {
         at: 0,
         cases: 0,
@@ -82,15 +88,16 @@ fn all(record: &mut [u8], list: &mut [u32], out: &mut [u8]) {
     };
     let mut turns = u64::MAX;
     while turns > 0 && tally.is_open {
-        tally = next(record, list, out, tally);
+        tally = next(record, list, target, out, tally);
         turns -= 1;
     }
 }
 
-// Room for the longest record, list and lines.
+// Room for the longest record or list of a frame in bytes, the longest list, target and lines.
 fn main() {
-    let mut record = [0u8; 65540];
-    let mut list = [0u32; 9000];
+    let mut record = [0u8; 66048];
+    let mut list = [0u32; 16512];
+    let mut target = [0u8; 65600];
     let mut out = [0u8; 65536];
-    all(&mut record, &mut list, &mut out);
+    all(&mut record, &mut list, &mut target, &mut out);
 }

@@ -1,6 +1,8 @@
 //! The cases in their order, as the groups add them.
 
-use super::frame::{Case, StepInput, MAX_LIST, MAX_RECORD, MAX_ROW};
+use super::frame::{
+    Case, StepInput, WriteInput, MAX_LIST, MAX_RECORD, MAX_ROW, MAX_ROWS, MAX_TARGET,
+};
 use crate::draft::Draft;
 use crate::run;
 
@@ -33,6 +35,17 @@ impl Cases {
     pub fn step(&mut self, input: &StepInput) {
         assert!(input.row.len() <= MAX_ROW);
         self.list.push(Case::Step(Box::new(input.clone())));
+    }
+
+    pub fn write(&mut self, input: &WriteInput) {
+        assert!(input.rows.len() <= MAX_ROWS && input.length <= MAX_TARGET);
+        self.list.push(Case::Write(Box::new(input.clone())));
+    }
+
+    pub fn row(&mut self, n: u32, t: u32, bytes: &[u8]) {
+        assert!(bytes.len() <= MAX_RECORD);
+        let bytes = bytes.to_vec();
+        self.list.push(Case::Row { n, t, bytes });
     }
 
     /// These bytes read, run with a list of this length, and judged with a

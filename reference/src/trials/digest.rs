@@ -59,6 +59,15 @@ pub fn of_list(list: &[u32]) -> u64 {
     digest.value()
 }
 
+/// Over bytes, each as a number.
+pub fn of_bytes(bytes: &[u8]) -> u64 {
+    let mut digest = Digest::default();
+    for &byte in bytes {
+        digest.add(u32::from(byte));
+    }
+    digest.value()
+}
+
 /// Over a road and then a state, all 64 entries of both.
 pub fn of_road_and_state(road: &Road, state: &State) -> u64 {
     let mut digest = Digest::default();

@@ -1,15 +1,44 @@
-//! The binary frames of the cases. All numbers are big-endian.
+//! The binary frames of the cases, one after another until the input ends.
+//!
+//! All numbers are big-endian and unsigned. A frame is a kind, one byte, and
+//! the fields of that kind in order, without gaps. `u32 B, B bytes` is a count
+//! of four bytes and then so many bytes; `u32 K, K u32` a count of four bytes
+//! and then so many numbers of four bytes each.
 //!
 //! ```text
-//! 'R'  u32 B, B bytes of a record
-//! 'U'  u32 L, the lent list's length; u32 B, B bytes
-//! 'J'  u32 Z, Z u32 of a schedule; u32 B, B bytes
-//! 'S'  u32 n, u32 gate capacity, 64 x (u16 v, w, b, ramp mark), 64 x (u32 J, C);
-//!      u32 steps, u64 total, u32 gate queue, u32 gate F,
-//!      64 x (u32 held, ramp queue, F); u32 K, K u32 of a row
+//! 'R'  reading
+//!      u32 B, B bytes of a record
+//! 'U'  running
+//!      u32 L, the lent list's length
+//!      u32 B, B bytes of a record
+//! 'J'  judging
+//!      u32 Z, Z u32 of a schedule
+//!      u32 B, B bytes of a record
+//! 'S'  stepping
+//!      a road (1,032 bytes), a state (788 bytes)
+//!      u32 K, K u32 of a row
+//! 'W'  writing
+//!      a road (1,032 bytes)
+//!      u32 T, the number of steps
+//!      a start (516 bytes)
+//!      u32 K, K u32, the numbers of all rows
+//!      u32 L, the target's length
+//! 'N'  the numbers of a row
+//!      u32 n, u32 t, the step
+//!      u32 B, B bytes of a record, whole or not
+//!
+//! road   u32 n, u32 gate capacity, 64 x (u16 v, w, b, ramp mark), 64 x (u32 J, C)
+//! state  u32 steps, u64 total, u32 gate queue, u32 gate F,
+//!        64 x (u32 held, ramp queue, F)
+//! start  u32 gate queue, 64 x (u32 held, ramp queue)
 //! ```
+//!
+//! Counts are within these limits: B at most 65,540; L of 'U' and Z at most
+//! 9,000; K of 'S' at most 200; K of 'W' at most 16,512; L of 'W' at most
+//! 65,600. No frame has more than 101,549 bytes. `report` says what each frame
+//! must print.
 
-use crate::model::{Road, State};
+use crate::model::{Road, Start, State};
 
 /// Most bytes of a record in a frame.
 pub const MAX_RECORD: usize = 65_540;
@@ -17,6 +46,10 @@ pub const MAX_RECORD: usize = 65_540;
 pub const MAX_LIST: usize = 9_000;
 /// Most numbers of a row.
 pub const MAX_ROW: usize = 200;
+/// Most numbers of all rows to be written.
+pub const MAX_ROWS: usize = 16_512;
+/// Greatest length of a target to be written.
+pub const MAX_TARGET: usize = 65_600;
 
 /// One case.
 #[derive(Clone, Debug, PartialEq, Eq)]
@@ -25,6 +58,8 @@ pub enum Case {
     Run { length: usize, record: Vec<u8> },
     Judge { schedule: Vec<u32>, record: Vec<u8> },
     Step(Box<StepInput>),
+    Write(Box<WriteInput>),
+    Row { n: u32, t: u32, bytes: Vec<u8> },
 }
 
 /// What stepping takes.
@@ -33,6 +68,16 @@ pub struct StepInput {
     pub road: Road,
     pub state: State,
     pub row: Vec<u32>,
+}
+
+/// What writing takes; the target is lent with `length` bytes.
+#[derive(Clone, Debug, PartialEq, Eq)]
+pub struct WriteInput {
+    pub road: Road,
+    pub steps: usize,
+    pub start: Start,
+    pub rows: Vec<u32>,
+    pub length: usize,
 }
 
 impl Case {
@@ -57,6 +102,20 @@ impl Case {
                 put_road(out, &input.road);
                 put_state(out, &input.state);
                 put_numbers(out, &input.row);
+            }
+            Case::Write(input) => {
+                out.push(b'W');
+                put_road(out, &input.road);
+                put(out, input.steps as u32);
+                put_start(out, &input.start);
+                put_numbers(out, &input.rows);
+                put(out, input.length as u32);
+            }
+            Case::Row { n, t, bytes } => {
+                out.push(b'N');
+                put(out, *n);
+                put(out, *t);
+                put_bytes(out, bytes);
             }
         }
     }
@@ -104,6 +163,14 @@ fn put_state(out: &mut Vec<u8>, state: &State) {
     }
 }
 
+fn put_start(out: &mut Vec<u8>, start: &Start) {
+    put(out, start.gate_queue);
+    for i in 0..Road::MAX_CELLS {
+        put(out, start.held[i]);
+        put(out, start.queue[i]);
+    }
+}
+
 /// The cases of all frames. The error names the frame, counted from 0.
 pub fn decode(bytes: &[u8]) -> Result<Vec<Case>, String> {
     let mut reader = Reader { bytes, at: 0 };
@@ -143,6 +210,18 @@ impl<'a> Reader<'a> {
                 state: self.state()?,
                 row: self.numbers("the row", MAX_ROW)?,
             }))),
+            b'W' => Ok(Case::Write(Box::new(WriteInput {
+                road: self.road()?,
+                steps: self.u32("the steps")? as usize,
+                start: self.start()?,
+                rows: self.numbers("the rows", MAX_ROWS)?,
+                length: self.count("the target's length", MAX_TARGET)?,
+            }))),
+            b'N' => Ok(Case::Row {
+                n: self.u32("the cells")?,
+                t: self.u32("the step")?,
+                bytes: self.record()?,
+            }),
             kind => Err(format!("{kind} is not a kind of frame")),
         }
     }
@@ -225,5 +304,16 @@ impl<'a> Reader<'a> {
             state.f[i] = self.u32(what)?;
         }
         Ok(state)
+    }
+
+    fn start(&mut self) -> Result<Start, String> {
+        let what = "the start";
+        let mut start = State::empty().start();
+        start.gate_queue = self.u32(what)?;
+        for i in 0..Road::MAX_CELLS {
+            start.held[i] = self.u32(what)?;
+            start.queue[i] = self.u32(what)?;
+        }
+        Ok(start)
     }
 }

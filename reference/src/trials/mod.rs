@@ -19,6 +19,7 @@ mod steps;
 mod sweep;
 mod trial;
 mod walk;
+mod writes;
 
 use cases::Cases;
 use frame::Case;
@@ -36,6 +37,8 @@ pub fn all_cases() -> Vec<Case> {
     let trials = roads::add(&mut cases);
     // Group 5: schedules over those roads, judged.
     judged::add(&mut cases, &trials);
+    // Group 6: records written, and the numbers of rows.
+    writes::add(&mut cases);
     cases.list
 }
 

@@ -1,7 +1,46 @@
 //! The line that each case must give.
+//!
+//! A frame gives one line, its words separated by single blanks, its numbers
+//! decimal, ended by one line end. After the last frame comes the line `cases C`
+//! with the number of frames.
+//!
+//! ```text
+//! 'R'  read NUMBER PLACE steps T digest D
+//! 'U'  run NUMBER STEP PLACE SUMS list D again AGAIN
+//! 'J'  judge NUMBER STEP PLACE SUMS
+//! 'S'  step NUMBER PLACE SUMS
+//! 'W'  write NUMBER PLACE COUNT target D
+//! 'N'  row digest D
+//!
+//! SUMS   total T exits E present P digest D
+//! AGAIN  NUMBER PLACE COUNT target D
+//! ```
+//!
+//! NUMBER is 0 or the refusal. SUMS are those of the road and the state that
+//! are returned; of stepping, of the road given and the state returned, where n
+//! above 64 counts as 64.
+//!
+//! The list that running takes is lent with 7i + 3 at index i, and the target
+//! that writing takes with 7i + 3 modulo 256 at byte i. Both are digested at
+//! their whole lent length as the operation leaves them.
+//!
+//! AGAIN: the record is read; its rows are taken step by step, for each t below
+//! the T that reading gives the first 1 + 2n numbers of its row; the road, T,
+//! the start and these rows are written into a target of B + 3 bytes. All this
+//! is done after every run, refused or not. Where reading refuses, road, T and
+//! start are zero and there are no rows, so that writing says 3.
+//!
+//! A digest starts at 0, and each number x makes it
+//! (d * 1000003 + x + 1) modulo 4294967291. It takes
+//!
+//! - of a list, the numbers in order; of a target, each byte as a number; of
+//!   'N', all 129 numbers;
+//! - of a road and a state: n, gate capacity; for each of the 64 cells v, w, b,
+//!   ramp mark, J, C; then steps, the total's upper 32 bits, its lower 32 bits,
+//!   gate queue, gate F; for each of the 64 cells held, ramp queue, F.
 
 use super::digest;
-use super::frame::{Case, StepInput};
+use super::frame::{Case, StepInput, WriteInput};
 use super::walk::Walk;
 use crate::answer::Answer;
 use crate::judge;
@@ -9,6 +48,7 @@ use crate::model::{self, Road, State};
 use crate::record;
 use crate::run;
 use crate::step;
+use crate::write::{self, Written};
 
 /// A case's line.
 pub struct Line {
@@ -26,6 +66,8 @@ pub fn line(case: &Case) -> Line {
             format!("judge {}", answer_words(&judge::judge(record, schedule)))
         }
         Case::Step(input) => step_line(input),
+        Case::Write(input) => write_line(input),
+        Case::Row { n, t, bytes } => row_line(*n as usize, *t as usize, bytes),
     };
     Line {
         text,
@@ -64,9 +106,55 @@ fn run_line(length: usize, record: &[u8]) -> Line {
     let words = answer_words(&answer);
     let list = digest::of_list(&list);
     Line {
-        text: format!("run {words} list {list}"),
+        text: format!("run {words} list {list} again {}", again(record)),
         complete: counts.ramps > 0 && counts.released > 0 && counts.held > 0,
     }
+}
+
+fn write_line(input: &WriteInput) -> String {
+    let mut target = lent_bytes(input.length);
+    let WriteInput {
+        road,
+        steps,
+        start,
+        rows,
+        ..
+    } = input;
+    let written = write::write(road, *steps, start, rows, &mut target);
+    format!("write {}", written_words(&written, &target))
+}
+
+fn row_line(n: usize, t: usize, bytes: &[u8]) -> String {
+    let numbers = record::row_numbers(bytes, n, t);
+    format!("row digest {}", digest::of_list(&numbers))
+}
+
+/// The record read and written again, into a target three bytes longer.
+fn again(record: &[u8]) -> String {
+    let reading = record::read(record);
+    let mut rows = Vec::new();
+    for t in 0..reading.steps {
+        rows.extend(record::row(record, reading.road.n, t));
+    }
+    let mut target = lent_bytes(record.len() + 3);
+    let start = reading.state.start();
+    let written = write::write(&reading.road, reading.steps, &start, &rows, &mut target);
+    written_words(&written, &target)
+}
+
+fn written_words(written: &Written, target: &[u8]) -> String {
+    let digest = digest::of_bytes(target);
+    let Written {
+        number,
+        place,
+        count,
+    } = written;
+    format!("{number} {place} {count} target {digest}")
+}
+
+/// The target as it is lent: 7i + 3 modulo 256 at byte i.
+pub fn lent_bytes(length: usize) -> Vec<u8> {
+    (0..length).map(|i| (7 * i + 3) as u8).collect()
 }
 
 /// The list as it is lent: 7i + 3 at index i.

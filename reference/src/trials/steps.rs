@@ -42,7 +42,17 @@ fn sound(dice: &mut Dice) -> StepInput {
 
 /// Anything at all in the entries past cell n.
 fn fill_past_n(input: &mut StepInput, dice: &mut Dice) {
-    let (road, state) = (&mut input.road, &mut input.state);
+    fill_road_past_n(&mut input.road, dice);
+    let state = &mut input.state;
+    for i in input.road.n..Road::MAX_CELLS {
+        state.held[i] = dice.bits() as u32;
+        state.queue[i] = dice.bits() as u32;
+        state.f[i] = dice.bits() as u32;
+    }
+}
+
+/// The same, of the road alone.
+pub fn fill_road_past_n(road: &mut Road, dice: &mut Dice) {
     for i in road.n..Road::MAX_CELLS {
         road.v[i] = dice.bits() as u16;
         road.w[i] = dice.bits() as u16;
@@ -50,9 +60,6 @@ fn fill_past_n(input: &mut StepInput, dice: &mut Dice) {
         road.ramp[i] = dice.bits() as u16;
         road.jam[i] = dice.bits() as u32;
         road.capacity[i] = dice.bits() as u32;
-        state.held[i] = dice.bits() as u32;
-        state.queue[i] = dice.bits() as u32;
-        state.f[i] = dice.bits() as u32;
     }
 }
 

@@ -14,3 +14,4 @@ mod stepping;
 mod support;
 mod text_form;
 mod trials;
+mod writing;

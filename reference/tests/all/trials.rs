@@ -6,9 +6,9 @@ use reference::print::printed_schedule;
 use reference::record::read;
 use reference::run::run;
 use reference::text::schedule_of;
-use reference::trials::digest::{of_list, of_road_and_state, Digest};
-use reference::trials::frame::{decode, Case, StepInput};
-use reference::trials::report::{lent, line};
+use reference::trials::digest::{of_bytes, of_list, of_road_and_state, Digest};
+use reference::trials::frame::{decode, Case, StepInput, WriteInput};
+use reference::trials::report::{lent, lent_bytes, line};
 use reference::trials::{all_cases, input, output};
 use std::collections::BTreeSet;
 use std::sync::OnceLock;
@@ -50,7 +50,7 @@ fn roads_start(cases: &[Case]) -> usize {
 }
 
 /// One small case of each kind.
-fn small_cases() -> [Case; 4] {
+fn small_cases() -> [Case; 6] {
     let reading = read(&record_of(EXAMPLE));
     [
         Case::Read {
@@ -69,6 +69,18 @@ fn small_cases() -> [Case; 4] {
             state: reading.state,
             row: vec![1, 2, 3],
         })),
+        Case::Write(Box::new(WriteInput {
+            road: reading.road,
+            steps: 3,
+            start: reading.state.start(),
+            rows: vec![6, 7],
+            length: 130,
+        })),
+        Case::Row {
+            n: 2,
+            t: 1,
+            bytes: vec![0xAA],
+        },
     ]
 }
 
@@ -109,7 +121,7 @@ fn road_and_state_are_fed_in_order() {
 
 #[test]
 fn small_frames_byte_by_byte() {
-    let [read, run, judge, step] = small_cases().map(|case| encoded(&case));
+    let [read, run, judge, step, ..] = small_cases().map(|case| encoded(&case));
     assert_eq!(read, [b'R', 0, 0, 0, 2, 0xAA, 0xBB]);
     assert_eq!(run, [b'U', 0, 0, 0, 9, 0, 0, 0, 2, 0xAA, 0xBB]);
     let numbers = [0, 0, 0, 2, 0, 0, 0, 5, 255, 255, 255, 255];
@@ -130,6 +142,70 @@ fn small_frames_byte_by_byte() {
         step[1821..],
         [0, 0, 0, 3, 0, 0, 0, 1, 0, 0, 0, 2, 0, 0, 0, 3]
     );
+}
+
+#[test]
+fn frames_of_writing_byte_by_byte() {
+    let [.., write, row] = small_cases().map(|case| encoded(&case));
+    // The road as in a step; T; gate queue, held and queues; rows; length.
+    assert_eq!(write.len(), 1 + 1032 + 4 + 516 + 12 + 4);
+    let step = encoded(&small_cases()[3]);
+    assert_eq!((write[0], &write[1..1033]), (b'W', &step[1..1033]));
+    assert_eq!(write[1033..1041], [0, 0, 0, 3, 0, 0, 0x0B, 0xB8]);
+    assert_eq!(write[1041..1049], [0, 0, 0x07, 0xD0, 0, 0, 0, 0]);
+    assert_eq!(write[1049..1057], [0, 0, 0x0F, 0xA0, 0, 0, 0x05, 0xDC]);
+    let rest = [0, 0, 0, 2, 0, 0, 0, 6, 0, 0, 0, 7, 0, 0, 0, 130];
+    assert_eq!(write[1553..], rest);
+    assert_eq!(row, [b'N', 0, 0, 0, 2, 0, 0, 0, 1, 0, 0, 0, 1, 0xAA]);
+}
+
+#[test]
+fn lines_of_writing_and_of_rows() {
+    let reading = read(&record_of(EXAMPLE));
+    let mut input = WriteInput {
+        road: reading.road,
+        steps: 3,
+        start: reading.state.start(),
+        rows: [1000, 0, 0, 500, 300].repeat(3),
+        length: 126,
+    };
+    let said = |input: &WriteInput| line(&Case::Write(Box::new(input.clone()))).text;
+    let bytes = [record_of(EXAMPLE), vec![103, 110]].concat();
+    let wanted = format!("write 0 0 124 target {}", of_bytes(&bytes));
+    assert_eq!(said(&input), wanted);
+    input.length = 123;
+    let wanted = format!("write 15 0 0 target {}", of_bytes(&lent_bytes(123)));
+    assert_eq!(said(&input), wanted);
+    let row = Case::Row {
+        n: 2,
+        t: 1,
+        bytes: record_of(EXAMPLE),
+    };
+    let mut numbers = vec![1000, 0, 0, 500, 300];
+    numbers.resize(129, 0);
+    assert_eq!(line(&row).text, format!("row digest {}", of_list(&numbers)));
+}
+
+#[test]
+fn a_record_that_reads_is_written_again_and_no_other() {
+    let (cases, lines, _) = made();
+    let mut again = 0;
+    for (case, line) in cases.iter().zip(lines) {
+        let Case::Run { record, .. } = case else {
+            continue;
+        };
+        let said = line.split(" again ").nth(1).unwrap();
+        let lent = lent_bytes(record.len() + 3);
+        let (start, bytes) = match read(record).number {
+            0 => (0, [record, &lent[record.len()..]].concat()),
+            _ => (3, lent),
+        };
+        let count = record.len() * usize::from(start == 0);
+        let wanted = format!("{start} 0 {count} target {}", of_bytes(&bytes));
+        assert_eq!(said, wanted);
+        again += usize::from(start == 0);
+    }
+    assert!(again >= 500);
 }
 
 #[test]
@@ -169,6 +245,13 @@ fn frames_beyond_their_limits_are_rejected() {
     let mut step = encoded(&small_cases()[3]);
     step[1824] = 201;
     assert!(error(&step).ends_with("the row: 201 is more than 200"));
+    // 16,513 numbers of rows; a target of 65,601 bytes.
+    let mut write = encoded(&small_cases()[4]);
+    write[1555..1557].copy_from_slice(&[0x40, 0x81]);
+    assert!(error(&write).ends_with("the rows: 16513 is more than 16512"));
+    let mut write = encoded(&small_cases()[4]);
+    write[1565..].copy_from_slice(&65_601_u32.to_be_bytes());
+    assert!(error(&write).ends_with("the target's length: 65601 is more than 65600"));
 }
 
 #[test]
@@ -176,9 +259,9 @@ fn every_case_comes_back_from_its_frame() {
     let (cases, ..) = made();
     let bytes: Vec<u8> = cases.iter().flat_map(encoded).collect();
     assert_eq!(&decode(&bytes).unwrap(), cases);
-    // The same each time, and below 5 MB.
+    // The same each time, and below 6 MB.
     assert!(bytes == input());
-    assert!(bytes.len() < 5_000_000, "{}", bytes.len());
+    assert!(bytes.len() < 6_000_000, "{}", bytes.len());
 }
 
 #[test]
@@ -189,8 +272,10 @@ fn the_first_lines_are_those_of_the_printed_run() {
     let start = "run 0 0 0 total 33098 exits 3701 present 11299 digest ";
     assert!(lines[0].starts_with("read 0 0 steps 3 digest "));
     assert!(lines[1].starts_with(start));
+    assert!(lines[1].contains(" again 0 0 124 target "));
     assert!(complete[1]);
     assert!(lines[2].starts_with("run 11 0 0 total 0 exits 0 present 0 digest "));
+    assert!(lines[2].contains(" again 0 0 124 target "));
     assert!(!complete[2]);
     // An empty list has digest 0.
     assert_eq!(after(&lines[3], "list"), 0);
@@ -233,6 +318,8 @@ fn there_are_enough_cases_of_each_kind() {
     assert!(count(roads, "run ") >= 400);
     assert!(count(roads, "judge ") >= 120);
     assert!(count(0, "step 0 ") >= 200);
+    assert!(count(0, "write ") >= 300 && count(0, "write 0 ") >= 150);
+    assert!(count(0, "row ") >= 80);
     // On the random roads alone.
     assert!(complete[roads..].iter().filter(|&&c| c).count() >= 250);
     assert!(count(roads, "run 9 ") >= 10 && count(roads, "run 10 ") >= 10);
@@ -254,6 +341,7 @@ fn every_refusal_of_every_operation_occurs() {
     let judge = (0..=6).chain([9, 10, 12, 13, 14]).collect();
     assert_eq!(found("judge "), judge);
     assert_eq!(found("step "), [0, 7, 8, 9, 10].into());
+    assert_eq!(found("write "), [0, 1, 3, 4, 5, 6, 15].into());
 }
 
 #[test]

@@ -41,6 +41,15 @@ slice-aggregate-ran-2 c = sym (length-take-le _ _ (search needs))
 ran-requires : tie.Need-ran-requires
 ran-requires c κs = search needs
 
+slice-reshare-prefix-again : tie.Need-slice-reshare-prefix-again
+slice-reshare-prefix-again c = search needs
+
+slice-aggregate-again : tie.Need-slice-aggregate-again
+slice-aggregate-again c = sym (length-take-le _ _ (search needs))
+
+again-requires : tie.Need-again-requires
+again-requires c κs = search needs
+
 same-length-2 : tie.Need-same-length-2
 same-length-2 c = search needs
 
@@ -49,6 +58,9 @@ same-length-3 c = search needs
 
 same-length-4 : tie.Need-same-length-4
 same-length-4 c = search needs
+
+same-length-5 : tie.Need-same-length-5
+same-length-5 c = search needs
 
 returns-3 : tie.Need-returns-3
 returns-3 c = search needs
@@ -69,7 +81,11 @@ run-spec =
     slice-relend-prefix-ran
     slice-aggregate-ran-2
     ran-requires
+    slice-reshare-prefix-again
+    slice-aggregate-again
+    again-requires
     same-length-2
     same-length-3
     same-length-4
+    same-length-5
     returns-3)

@@ -1,19 +1,19 @@
 -- `fields::short_column` meets its contract. The invariant: the fields of the i cells passed are stored. Assumes nothing.
 use Prim.Native.Nat.{_-_}
 use Rattle.fields.specs.Fields.{shortSize}
-use Rattle.fields.specs.FieldsLaws.{Stored, stored-none, stored-more, stored-end}
+use Rattle.fields.specs.FieldsLaws.{Collected, collected-none, collected-more, collected-end}
 use borrow.Author.Needs.{needs}
 use Rattle.fields.proofs.short_column.Statement.{statement}
 use Rattle.fields.proofs.short_column.Tie as tie
 
 abbrev Inv-loop : tie.InvT-loop
-Inv-loop bytes offset n r₀ i₀ r i = Stored bytes offset shortSize n r i
+Inv-loop bytes offset n r₀ i₀ r i = Collected bytes offset shortSize n r i
 
 abbrev μ-loop : tie.MeasureT-loop
 μ-loop bytes offset n r₀ i₀ r i = n - i
 
 loop-holds : tie.Need-loop-holds Inv-loop μ-loop
-loop-holds c = stored-none
+loop-holds c = collected-none
 
 mul-short : tie.Need-mul-short Inv-loop μ-loop
 mul-short c = search needs
@@ -40,10 +40,10 @@ loop-less : tie.Need-loop-less Inv-loop μ-loop
 loop-less c = search needs
 
 loop-again : tie.Need-loop-again Inv-loop μ-loop
-loop-again c = let i = c .before in stored-more (i .before .loop .inv) (i .loop-test .taken) (c .short .ensures)
+loop-again c = let i = c .before in collected-more (i .before .loop .inv) (i .loop-test .taken) (c .short .ensures)
 
 returns : tie.Need-returns Inv-loop μ-loop
-returns c = stored-end (c .before .loop .inv) (search needs)
+returns c = collected-end (c .before .loop .inv) (search needs)
 
 pub short-column-spec : {M : Type 1} → statement M
 short-column-spec =

@@ -1,5 +1,5 @@
 -- `listing::line` meets its contract: its five words, one after the other. Assumes nothing.
-use Rattle.listing.specs.Placed.{room-more}
+use Rattle.rows.specs.Placed.{room-more}
 use Rattle.listing.specs.ListingLaws.{Word, word-room, words-room, line-put}
 use native.Mathlib.Omega.{arith}
 use borrow.Author.Needs.{needs}

@@ -2,7 +2,7 @@
 use Prim.Native.Nat.{_-_}
 use lib.ListN.{length}
 use native.Mathlib.Omega.{arith}
-use Rattle.listing.specs.Placed.{Copied, copied-none, copied-length, copied-more, copied-end}
+use Rattle.rows.specs.Placed.{Copied, copied-none, copied-length, copied-more, copied-end}
 use borrow.Author.Needs.{needs}
 use Rattle.listing.proofs.put.Statement.{statement}
 use Rattle.listing.proofs.put.Tie as tie

@@ -1,7 +1,7 @@
 -- `listing::total` meets its contract. Assumes nothing.
 use native.Mathlib.Omega.{arith}
 use Rattle.listing.specs.ListingLaws.{Word, named-room, total-put}
-use Rattle.listing.specs.Placed.{Text, text-room, room-more}
+use Rattle.rows.specs.Placed.{Text, text-room, room-more}
 use borrow.Author.Needs.{needs}
 use Rattle.listing.proofs.total.Statement.{statement}
 use Rattle.listing.proofs.total.Tie as tie

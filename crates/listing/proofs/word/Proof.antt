@@ -3,7 +3,7 @@ use mathlib.Core.Path.{sym}
 use Prim.Native.Nat.{_^_, _<_}
 use lib.ListN.{take}
 use native.Mathlib.Omega.{arith}
-use Rattle.listing.specs.Placed.{Text, text-room}
+use Rattle.rows.specs.Placed.{Text, text-room}
 use Rattle.listing.specs.ListingLaws.{Made, decimal-most, word-put}
 use borrow.Author.Needs.{needs}
 use Rattle.listing.proofs.word.Statement.{statement}

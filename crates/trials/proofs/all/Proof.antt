@@ -6,10 +6,11 @@ use Rattle.trials.proofs.all.Statement.{statement}
 use Rattle.trials.proofs.all.Tie as tie
 
 abbrev Inv-loop : tie.InvT-loop
-Inv-loop record₀ list₀ out₀ tally₀ turns₀ «record» list out tally turns = (length «record» ≡ length record₀) × ((length list ≡ length list₀) × (length out ≡ length out₀))
+Inv-loop record₀ list₀ target₀ out₀ tally₀ turns₀ «record» list target out tally turns =
+    (length «record» ≡ length record₀) × ((length list ≡ length list₀) × ((length target ≡ length target₀) × (length out ≡ length out₀)))
 
 abbrev μ-loop : tie.MeasureT-loop
-μ-loop record₀ list₀ out₀ tally₀ turns₀ «record» list out tally turns = turns
+μ-loop record₀ list₀ target₀ out₀ tally₀ turns₀ «record» list target out tally turns = turns
 
 loop-holds : tie.Need-loop-holds Inv-loop μ-loop
 loop-holds c = search needs
@@ -35,17 +36,23 @@ same-length-2 c = search needs
 same-length-3 : tie.Need-same-length-3 Inv-loop μ-loop
 same-length-3 c = search needs
 
-returns : tie.Need-returns Inv-loop μ-loop
-returns c = search needs
-
 same-length-4 : tie.Need-same-length-4 Inv-loop μ-loop
 same-length-4 c = search needs
+
+returns : tie.Need-returns Inv-loop μ-loop
+returns c = search needs
 
 same-length-5 : tie.Need-same-length-5 Inv-loop μ-loop
 same-length-5 c = search needs
 
 same-length-6 : tie.Need-same-length-6 Inv-loop μ-loop
 same-length-6 c = search needs
+
+same-length-7 : tie.Need-same-length-7 Inv-loop μ-loop
+same-length-7 c = search needs
+
+same-length-8 : tie.Need-same-length-8 Inv-loop μ-loop
+same-length-8 c = search needs
 
 returns-2 : tie.Need-returns-2 Inv-loop μ-loop
 returns-2 c = search needs
@@ -64,8 +71,10 @@ all-spec =
     same-length
     same-length-2
     same-length-3
-    returns
     same-length-4
+    returns
     same-length-5
     same-length-6
+    same-length-7
+    same-length-8
     returns-2)

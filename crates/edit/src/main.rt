@@ -1,0 +1,55 @@
+// Reads a record, changes a release, writes the record, and prints the run of each: through `freeway` alone.
+
+// The release of cell 2 in step 0 is number 4 of all rows.
+const RELEASE: usize = 4;
+
+// Writes a record with this release into the target: how many bytes it takes, 0 after a refusal.
+fn released(bytes: &[u8], release: u32, list: &mut [u32], target: &mut [u8]) -> usize {
+    let reading = freeway::read(bytes);
+    let road = reading.road;
+    let length = taking::rows(bytes, road.n, reading.steps, list);
+    if list.len() < length {
+        return 0;
+    }
+    if length <= RELEASE {
+        return 0;
+    }
+    list[RELEASE] = release;
+    let start = taking::start(reading.state);
+    let written = freeway::write(road, reading.steps, start, &list[..length], target);
+    written.count
+}
+
+fn show(label: &[u8], value: u64) {
+    io::write_all(1, label);
+    io::print_decimal(1, value);
+}
+
+// Bytes, the release, and the total and the exits of the run.
+fn shown(bytes: &[u8], release: u32) {
+    let mut list = [0u32; 9];
+    let ended = freeway::run(bytes, &mut list);
+    show(b"bytes ", bytes.len() as u64);
+    show(b" release ", release as u64);
+    let state = ended.state;
+    show(b" total ", state.total);
+    show(b" exits ", freeway::exits(ended.road, state));
+    io::write_all(1, b"\n");
+}
+
+// The record with this release, shown.
+fn edited(bytes: &[u8], release: u32) {
+    let mut list = [0u32; 15];
+    let mut target = [0u8; 124];
+    let count = released(bytes, release, &mut list, &mut target);
+    if count <= 124 {
+        shown(&target[..count], release);
+    }
+}
+
+fn main() {
+    let mut bytes = [0u8; 124];
+    let size = io::read_full(0, &mut bytes);
+    edited(&bytes[..size], 300);
+    edited(&bytes[..size], 200);
+}

@@ -1,0 +1,26 @@
+-- `fields::put_byte` meets its contract. Assumes nothing.
+use mathlib.Core.Path.{_≡_}
+use Prim.Native.Nat.{_%_}
+use native.Mathlib.Omega.{arith}
+use Rattle.fields.specs.Stored.{stored, one-byte}
+use borrow.Author.Needs.{needs}
+use Rattle.fields.proofs.put_byte.Statement.{statement}
+use Rattle.fields.proofs.put_byte.Tie as tie
+
+slice-write-target : tie.Need-slice-write-target
+slice-write-target c = search needs
+
+add-result : tie.Need-add-result
+add-result c = search needs
+
+same-length : tie.Need-same-length
+same-length c = search needs
+
+returns : tie.Need-returns
+returns c =
+    let a = c .args in
+    let h : a .x % 256 ≡ a .x = omega arith in
+    stored (a .target .now) (a .at) 1 (a .x) _ (one-byte (a .target .now) (a .at) (a .x) h)
+
+pub put-byte-spec : {M : Type 1} → statement M
+put-byte-spec = tie.close (tie.spec slice-write-target add-result same-length returns)

@@ -1,0 +1,2 @@
+pub mod Rowing
+pub mod RowingLaws

@@ -1,0 +1,60 @@
+-- `writes::lend` is safe and ends. The invariant: the list keeps its length. Assumes nothing.
+use mathlib.Core.Path.{_≡_}
+use Prim.Native.Nat.{_≤_, _-_}
+use lib.ListN.{length}
+use borrow.Author.Needs.{needs}
+use Rattle.writes.proofs.lend.Statement.{statement}
+use Rattle.writes.proofs.lend.Tie as tie
+
+abbrev Inv-loop : tie.InvT-loop
+Inv-loop target₀ i₀ target i = (i ≤ length target₀) × (length target ≡ length target₀)
+
+abbrev μ-loop : tie.MeasureT-loop
+μ-loop target₀ i₀ target i = length target₀ - i
+
+loop-holds : tie.Need-loop-holds Inv-loop μ-loop
+loop-holds c = search needs
+
+mul-target : tie.Need-mul-target Inv-loop μ-loop
+mul-target c = search needs
+
+add-target : tie.Need-add-target Inv-loop μ-loop
+add-target c = search needs
+
+cast-target : tie.Need-cast-target Inv-loop μ-loop
+cast-target c = search needs
+
+slice-write-target : tie.Need-slice-write-target Inv-loop μ-loop
+slice-write-target c = search needs
+
+add-i : tie.Need-add-i Inv-loop μ-loop
+add-i c = search needs
+
+loop-less : tie.Need-loop-less Inv-loop μ-loop
+loop-less c = search needs
+
+loop-again : tie.Need-loop-again Inv-loop μ-loop
+loop-again c = search needs
+
+same-length : tie.Need-same-length Inv-loop μ-loop
+same-length c = search needs
+
+returns : tie.Need-returns Inv-loop μ-loop
+returns c = search needs
+
+pub lend-spec : {M : Type 1} → statement M
+lend-spec =
+    tie.close
+    (tie.spec
+    Inv-loop
+    μ-loop
+    loop-holds
+    mul-target
+    add-target
+    cast-target
+    slice-write-target
+    add-i
+    loop-less
+    loop-again
+    same-length
+    returns)

@@ -1,0 +1,114 @@
+-- `writing::first_row` meets its contract. The invariant: the rows of the t steps passed are within their limits. Assumes nothing.
+use mathlib.Core.List.{List}
+use Prim.Native.Nat.{ℕ, _+_, _-_, _*_, _≤_}
+use lib.ListN.{length, take, drop}
+use borrow.Author.Tests.{not-true, not-false}
+use Rattle.rows.specs.TablesLaws.{part-row, part-length}
+use Rattle.fields.specs.Fields.{rowNumbers}
+use Rattle.writing.specs.Checks.{Passed, Turn, passed-none, passed-more, passed-stop, passed-end, passed-fits}
+use borrow.Author.Needs.{needs}
+use native.Mathlib.Omega.{arith}
+use Rattle.writing.proofs.first_row.Statement.{statement}
+use Rattle.writing.proofs.first_row.Tie as tie
+
+abbrev Inv-loop : tie.InvT-loop
+Inv-loop ramp n rows steps numbers from₀ t₀ from t = Passed ramp rows n steps from t
+
+abbrev μ-loop : tie.MeasureT-loop
+μ-loop ramp n rows steps numbers from₀ t₀ from t = steps - t
+
+-- the arguments, from the loop's place; the loop's test, from the row's
+abbrev A : tie.At-loop Inv-loop μ-loop → tie.Start Inv-loop μ-loop
+A c = c .before .before
+
+abbrev In : tie.After-row-within Inv-loop μ-loop → tie.In-loop Inv-loop μ-loop
+In c = c .before .before
+
+-- the row that is lent
+abbrev Row : tie.In-loop Inv-loop μ-loop → List ℕ
+Row c =
+    let l = c .before in
+    take (l .loop .from + rowNumbers (A l .args .n) - l .loop .from) (drop (l .loop .from) (A l .args .rows .now))
+
+fits : (c : tie.In-loop Inv-loop μ-loop) → c .before .loop .from + rowNumbers (A (c .before) .args .n) ≤ length (A (c .before) .args .rows .now)
+fits c = passed-fits (c .before .loop .inv) (A (c .before) .pre) (c .loop-test .taken)
+
+turn : (c : tie.After-row-within Inv-loop μ-loop) →
+    let l = In c .before in
+    let a = A l .args in
+    Turn (a .ramp) (a .rows .now) (a .n) (a .steps) (l .loop .from) (l .loop .t) (Row (In c)) (c .row-within .result)
+turn c =
+    let l = In c .before in
+    let a = A l .args in
+    record {
+      passed = l .loop .inv;
+      left = In c .loop-test .taken;
+      numbers = part-row (a .rows .now) (rowNumbers (a .n)) (l .loop .t) (l .loop .from) (l .loop .inv .place);
+      test = c .row-within .ensures;
+    }
+
+mul-numbers : tie.Need-mul-numbers Inv-loop μ-loop
+mul-numbers c = search needs
+
+add-numbers : tie.Need-add-numbers Inv-loop μ-loop
+add-numbers c = search needs
+
+loop-holds : tie.Need-loop-holds Inv-loop μ-loop
+loop-holds c = passed-none
+
+add-end : tie.Need-add-end Inv-loop μ-loop
+add-end c = omega (arith, fits c)
+
+mul-row-within : tie.Need-mul-row-within Inv-loop μ-loop
+mul-row-within c = omega (arith, fits c)
+
+sub-row-within : tie.Need-sub-row-within Inv-loop μ-loop
+sub-row-within c = search needs
+
+part-row-within-start : tie.Need-part-row-within-start Inv-loop μ-loop
+part-row-within-start c = search needs
+
+part-row-within-end : tie.Need-part-row-within-end Inv-loop μ-loop
+part-row-within-end c = omega (arith, fits c)
+
+row-within-requires : tie.Need-row-within-requires Inv-loop μ-loop
+row-within-requires c κs =
+    let l = c .before .before in
+    let a = A l .args in
+    (A l .pre .cells, part-length (a .rows .now) (l .loop .from) (rowNumbers (a .n)) (fits (c .before)))
+
+returns : tie.Need-returns Inv-loop μ-loop
+returns c = passed-stop (turn (c .before)) (not-true _ (c .if1 .taken))
+
+add-t : tie.Need-add-t Inv-loop μ-loop
+add-t c = search needs
+
+loop-less : tie.Need-loop-less Inv-loop μ-loop
+loop-less c = search needs
+
+loop-again : tie.Need-loop-again Inv-loop μ-loop
+loop-again c = passed-more (turn (c .before)) (not-false _ (c .if1 .left))
+
+returns-2 : tie.Need-returns-2 Inv-loop μ-loop
+returns-2 c = passed-end (c .before .loop .inv) (search needs)
+
+pub first-row-spec : {M : Type 1} → statement M
+first-row-spec =
+    tie.close
+    (tie.spec
+    Inv-loop
+    μ-loop
+    mul-numbers
+    add-numbers
+    loop-holds
+    add-end
+    mul-row-within
+    sub-row-within
+    part-row-within-start
+    part-row-within-end
+    row-within-requires
+    returns
+    add-t
+    loop-less
+    loop-again
+    returns-2)

@@ -1,0 +1,73 @@
+-- `writing::write` meets its contract. Each return, by the test on the way to it. Assumes nothing.
+use mathlib.Core.Path.{_≡_, sym, ap, _∙_}
+use Rattle.road.specs.Refusals.{refusalNumber}
+use Rattle.writing.specs.Writing.{WriteAnswer, writingOf}
+use Rattle.writing.specs.Accepted.{fits, target-refused, target-put}
+use borrow.Author.Needs.{needs}
+use Rattle.writing.proofs.write.Statement.{statement}
+use Rattle.writing.proofs.write.Tie as tie
+
+-- places of the code: the arguments, from the checks; the checks, from the test after them
+abbrev A : tie.After-checked → tie.Start
+A c = c .before .before .before .before
+
+abbrev Checked : tie.Else1 → tie.After-checked
+Checked c = c .before .before
+
+-- the number that the test looked at is the answer's
+number : (c : tie.After-checked) →
+    let a = A c .args in
+    refusalNumber (c .checked .result .refusal) ≡ writingOf (a .road) (a .steps) (a .start) (a .rows .now) (a .target .now) .number
+number c = ap (λ (x : WriteAnswer). x .number) (c .checked .ensures)
+
+passed : (c : tie.Else1) →
+    let a = A (Checked c) .args in
+    writingOf (a .road) (a .steps) (a .start) (a .rows .now) (a .target .now) .number ≡ 0
+passed c =
+    let z : refusalNumber (Checked c .checked .result .refusal) ≡ 0 = search needs in
+    sym (number (Checked c)) ∙ z
+
+checked-requires : tie.Need-checked-requires
+checked-requires c κs = search needs
+
+number-requires : tie.Need-number-requires
+number-requires c κs = search needs
+
+same-length : tie.Need-same-length
+same-length c = search needs
+
+returns : tie.Need-returns
+returns c =
+    let k = c .before .before in
+    let a = A k .args in
+    let n : refusalNumber (k .checked .result .refusal) ≡ 0 → ⊥ = search needs in
+    (k .checked .ensures, sym (target-refused (a .road) (a .steps) (a .start) (a .rows .now) (a .target .now) (λ z. n (number k ∙ z))))
+
+put-record-requires : tie.Need-put-record-requires
+put-record-requires c κs =
+    let a = A (Checked (c .before)) .args in
+    fits (a .road) (a .steps) (a .start) (a .rows .now) (a .target .now) (passed (c .before))
+
+same-length-2 : tie.Need-same-length-2
+same-length-2 c = search needs
+
+returns-2 : tie.Need-returns-2
+returns-2 c =
+    let p = c .before .before in
+    let e = p .before .before in
+    let a = A (Checked e) .args in (
+      Checked e .checked .ensures,
+      target-put (a .road) (a .steps) (a .start) (a .rows .now) (a .target .now) (passed e) _ _ (p .put-record .ensures),
+    )
+
+pub write-spec : {M : Type 1} → statement M
+write-spec =
+    tie.close
+    (tie.spec
+    checked-requires
+    number-requires
+    same-length
+    returns
+    put-record-requires
+    same-length-2
+    returns-2)

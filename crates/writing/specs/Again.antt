@@ -1,0 +1,135 @@
+-- A record that was read and is written again has the same bytes. Assumes nothing.
+use mathlib.Core.Path.{_≡_, refl, sym, ap, _∙_}
+use mathlib.Core.List.{List, _++_}
+use Prim.Native.Nat.{ℕ, _+_, _-_, _*_, _≤_, _<_}
+use native.Mathlib.Omega.{arith}
+use lib.ListN.{length, take, drop}
+use lib.Seq.{take-all}
+use Rattle.numbers.specs.Lists.{at}
+use Rattle.rows.specs.Rows.{concatOf}
+use Rattle.rows.specs.Concat.{concat-same}
+use Rattle.rows.specs.Tables.{rowAt}
+use Rattle.rows.specs.TablesLaws.{row-ends}
+use Rattle.road.specs.declared.Road.{Road}
+use Rattle.road.specs.declared.State.{State}
+use Rattle.road.specs.declared.Start.{Start}
+use Rattle.road.specs.Road.{startState}
+use Rattle.road.specs.Study.{Study}
+use Rattle.fields.specs.Fields.{recordVersion, countSize, headerSize, cellSize, shortSize, numberSize, rowNumbers, rowSize, rowStart, numberOf, recordRow, bytesOf}
+use Rattle.fields.specs.FieldsLaws.{Column, row-at}
+use Rattle.fields.specs.BytesLaws.{partOf, part-join, part-next, part-concat, bytes-part}
+use Rattle.reading.specs.Reading.{ReadAnswer, sizeOf, readingOf}
+use Rattle.reading.specs.Found.{Accepted}
+use Rattle.reading.specs.Numbers.{Numbers, read-numbers}
+use Rattle.reading.specs.Within.{read-within}
+use Rattle.putting.specs.Record.{headerOf, cellOf, headerBytes, cellBytes, rowBytes, recordOf, given}
+
+-- the start of a state before step 0
+abbrev pub startIn : State → Start
+startIn s = record { «gate_queue» = s .«gate_queue»; held = s .held; queue = s .queue }
+
+module _ (s : List ℕ) (small : (i : ℕ) → at s i < 256) (reads : readingOf s .number ≡ 0) (rows : List ℕ)
+    (same : (t : ℕ) → t < readingOf s .steps → rowAt rows (rowNumbers (readingOf s .road .n)) t ≡ recordRow s (readingOf s .road .n) t) where
+  abbrev x : ReadAnswer
+  x = readingOf s
+
+  abbrev n : ℕ
+  n = x .road .n
+
+  abbrev T : ℕ
+  T = x .steps
+
+  abbrev a : Study
+  a = given (x .road) (x .steps) (startIn (x .state)) rows
+
+  numbers : Numbers s (readingOf s .steps) (readingOf s .road) (readingOf s .state)
+  numbers = read-numbers s (readingOf s) refl reads
+
+  within : Accepted s (readingOf s .steps) (readingOf s .road) (readingOf s .state)
+  within = read-within s (readingOf s) refl reads
+
+  part : (i w y : ℕ) → i + w ≤ length s → y ≡ numberOf s i w → bytesOf w y ≡ partOf s i w
+  part i w y l e = ap (bytesOf w) e ∙ bytes-part s i w small l
+
+  long : headerSize + n * cellSize + T * rowSize n ≤ length s
+  long = omega (arith, within .size)
+
+  -- the header
+  header : headerBytes a ≡ partOf s 0 headerSize
+  unfolding headerOf
+  header =
+      rw (
+        part 0 countSize (sizeOf n T - countSize) (omega (arith, long)) (omega (arith, within .count, within .size)),
+        part 4 1 recordVersion (omega (arith, long)) (sym (within .version)),
+        part 5 1 n (omega (arith, long)) (numbers .cells),
+        part 6 shortSize T (omega (arith, long)) (numbers .steps),
+        part 8 numberSize (x .road .«gate_capacity») (omega (arith, long)) (numbers .gateCapacity),
+        part 12 numberSize (x .state .«gate_queue») (omega (arith, long)) (numbers .gateQueue),
+        part-join s 8 4 4,
+        part-join s 6 2 8,
+        part-join s 5 1 10,
+        part-join s 4 1 11,
+        part-join s 0 4 12,
+      )
+
+  -- the cells
+  module _ (i : ℕ) (l : i < readingOf s .road .n) where
+    abbrev b : ℕ
+    b = headerSize + cellSize * i
+
+    inside : headerSize + cellSize * i + cellSize ≤ length s
+    inside = omega (arith, long, row-ends i n cellSize l)
+
+    cell : cellBytes (x .road) (startState (startIn (x .state))) i ≡ partOf s (headerSize + i * cellSize) cellSize
+    unfolding cellOf
+    cell =
+        let z : b + 0 ≡ headerSize + i * cellSize = omega arith in
+        rw (
+          part (b + 0) shortSize (at (x .road .speed) i) (omega (arith, inside)) (numbers .speed .cell i l),
+          part (b + 2) shortSize (at (x .road .wave) i) (omega (arith, inside)) (numbers .wave .cell i l),
+          part (b + 4) shortSize (at (x .road .share) i) (omega (arith, inside)) (numbers .share .cell i l),
+          part (b + 6) shortSize (at (x .road .ramp) i) (omega (arith, inside)) (numbers .ramp .cell i l),
+          part (b + 8) numberSize (at (x .road .jam) i) (omega (arith, inside)) (numbers .jam .cell i l),
+          part (b + 12) numberSize (at (x .road .capacity) i) (omega (arith, inside)) (numbers .capacity .cell i l),
+          part (b + 16) numberSize (at (x .state .held) i) (omega (arith, inside)) (numbers .held .cell i l),
+          part (b + 20) numberSize (at (x .state .queue) i) (omega (arith, inside)) (numbers .queue .cell i l),
+          part-next s b 16 4 4,
+          part-next s b 12 4 8,
+          part-next s b 8 4 12,
+          part-next s b 6 2 16,
+          part-next s b 4 2 18,
+          part-next s b 2 2 20,
+          part-next s b 0 2 22,
+          z,
+        )
+
+  cells : concatOf (cellBytes (x .road) (startState (startIn (x .state)))) n ≡ partOf s headerSize (n * cellSize)
+  cells =
+      concat-same (cellBytes (x .road) (startState (startIn (x .state)))) (λ j. partOf s (headerSize + j * cellSize) cellSize) n cell
+      ∙ part-concat s headerSize cellSize n
+
+  -- the rows
+  row : (t : ℕ) → t < T → rowBytes n (a .rows) t ≡ partOf s (headerSize + n * cellSize + t * rowSize n) (rowSize n)
+  row t l =
+      let size : rowNumbers n * numberSize ≡ rowSize n = omega arith in
+      let base : rowStart n t ≡ headerSize + n * cellSize + t * rowSize n = omega arith in
+      concat-same (λ k. bytesOf numberSize (at (a .rows t) k)) (λ k. partOf s (rowStart n t + k * numberSize) numberSize) (rowNumbers n)
+      (λ k m.
+      let e : rowStart n t + numberSize * k ≡ rowStart n t + k * numberSize = omega arith in
+      let f : at (a .rows t) k ≡ numberOf s (rowStart n t + numberSize * k) numberSize = ap (λ (l : List ℕ). at l k) (same t l) ∙ row-at s n t k m in
+      part (rowStart n t + numberSize * k) numberSize (at (a .rows t) k) (omega (arith, long, row-ends t T (rowSize n) l)) f
+      ∙ ap (λ (i : ℕ). partOf s i numberSize) e)
+      ∙ part-concat s (rowStart n t) numberSize (rowNumbers n)
+      ∙ rw (size, base)
+
+  all-rows : concatOf (rowBytes n (a .rows)) T ≡ partOf s (headerSize + n * cellSize) (T * rowSize n)
+  all-rows =
+      concat-same (rowBytes n (a .rows)) (λ t. partOf s (headerSize + n * cellSize + t * rowSize n) (rowSize n)) T row
+      ∙ part-concat s (headerSize + n * cellSize) (rowSize n) T
+
+  pub same-bytes : recordOf (given (readingOf s .road) (readingOf s .steps) (startIn (readingOf s .state)) rows) ≡ s
+  unfolding recordOf
+  same-bytes =
+      let e : headerSize + (n * cellSize + T * rowSize n) ≡ length s = omega (arith, within .size) in
+      rw (header, cells, all-rows, part-join s headerSize (n * cellSize) (T * rowSize n))
+      (part-join s 0 headerSize (n * cellSize + T * rowSize n) ∙ take-all (headerSize + (n * cellSize + T * rowSize n)) s (omega (arith, e)))

@@ -1,0 +1,90 @@
+-- A road and a state as a record keeps them: up to cell n, and 0 past it. Assumes nothing.
+use mathlib.Core.Path.{_≡_, _∙_}
+use mathlib.Core.List.{List}
+use Prim.Native.Nat.{ℕ, _≤_, _<_}
+use native.Mathlib.Omega.{arith}
+use Rattle.numbers.specs.Lists.{at}
+use Rattle.rows.specs.Rows.{fillOf}
+use Rattle.rows.specs.RowsLaws.{fill-at, fill-past}
+use Rattle.road.specs.declared.Road.{Road}
+use Rattle.road.specs.declared.State.{State}
+use Rattle.road.specs.Road.{mostCells, zeros}
+use Rattle.road.specs.RoadLaws.{length-zeros, zeros-at}
+use Rattle.limits.specs.LimitsLaws.{RoadOk, StateOk, RowOk}
+
+-- the first n entries of an array, and 0 past them
+abbrev pub cutOf : ℕ → List ℕ → List ℕ
+cutOf n l = fillOf (λ i. at l i) n zeros
+
+abbrev pub cutRoad : Road → Road
+cutRoad r = record {
+  n = r .n;
+  «gate_capacity» = r .«gate_capacity»;
+  speed = cutOf (r .n) (r .speed);
+  wave = cutOf (r .n) (r .wave);
+  share = cutOf (r .n) (r .share);
+  ramp = cutOf (r .n) (r .ramp);
+  jam = cutOf (r .n) (r .jam);
+  capacity = cutOf (r .n) (r .capacity);
+}
+
+abbrev pub cutState : ℕ → State → State
+cutState n s = record {
+  done = s .done;
+  total = s .total;
+  «gate_queue» = s .«gate_queue»;
+  «gate_cumulative» = s .«gate_cumulative»;
+  held = cutOf n (s .held);
+  queue = cutOf n (s .queue);
+  cumulative = cutOf n (s .cumulative);
+}
+
+-- the same values up to cell n and 0 past it
+pub cut-at : (n : ℕ) (l : List ℕ) → n ≤ mostCells → (i : ℕ) → i < n → at (cutOf n l) i ≡ at l i
+cut-at n l h i k = fill-at (λ j. at l j) n zeros i k (omega (arith, length-zeros))
+
+pub cut-past : (n : ℕ) (l : List ℕ) (i : ℕ) → n ≤ i → at (cutOf n l) i ≡ 0
+cut-past n l i h = fill-past (λ j. at l j) n zeros i h ∙ zeros-at i
+
+-- the limits look at no entry past cell n
+pub cut-road : (r : Road) → RoadOk r → RoadOk (cutRoad r)
+cut-road r ok =
+    let m = ok .cells in
+    record {
+      some = ok .some;
+      cells = m;
+      gate = ok .gate;
+      speed = λ i l. rw (cut-at (r .n) (r .speed) m i l) (ok .speed i l);
+      wave = λ i l. rw (cut-at (r .n) (r .wave) m i l) (ok .wave i l);
+      share = λ i l. rw (cut-at (r .n) (r .share) m i l) (ok .share i l);
+      last = λ i e. let l : i < r .n = omega (arith, e) in rw (cut-at (r .n) (r .share) m i l) (ok .last i e);
+      ramp = λ i l. rw (cut-at (r .n) (r .ramp) m i l) (ok .ramp i l);
+      jam = λ i l. rw (cut-at (r .n) (r .jam) m i l) (ok .jam i l);
+      capacity = λ i l. rw (cut-at (r .n) (r .capacity) m i l) (ok .capacity i l);
+    }
+
+pub cut-state : (r : Road) (s : State) → RoadOk r → StateOk r s → StateOk (cutRoad r) (cutState (r .n) s)
+cut-state r s road ok =
+    let m = road .cells in
+    record {
+      done = ok .done;
+      total = ok .total;
+      gateQueue = ok .gateQueue;
+      gateCumulative = ok .gateCumulative;
+      held = λ i l. rw (cut-at (r .n) (s .held) m i l, cut-at (r .n) (r .jam) m i l) (ok .held i l);
+      queue = λ i l. rw (cut-at (r .n) (s .queue) m i l) (ok .queue i l);
+      noRamp = λ i l e. rw (cut-at (r .n) (s .queue) m i l) (ok .noRamp i l (rw (cut-at (r .n) (r .ramp) m i l) at e));
+      cumulative = λ i l. rw (cut-at (r .n) (s .cumulative) m i l) (ok .cumulative i l);
+    }
+
+pub cut-row : (r : Road) (row : List ℕ) → RoadOk r → RowOk r row → RowOk (cutRoad r) row
+cut-row r row road ok =
+    let m = road .cells in
+    record {
+      numbers = ok .numbers;
+      gate = ok .gate;
+      arrivals = ok .arrivals;
+      release = ok .release;
+      noArrivals = λ i l e. ok .noArrivals i l (rw (cut-at (r .n) (r .ramp) m i l) at e);
+      noRelease = λ i l e. ok .noRelease i l (rw (cut-at (r .n) (r .ramp) m i l) at e);
+    }

@@ -1,0 +1,186 @@
+-- A record that was written is read back. Assumes nothing.
+use mathlib.Core.Path.{_≡_, refl, sym, ap, _∙_}
+use mathlib.Core.Bool.{Bool, true, _&&_}
+use mathlib.Core.List.{List}
+use Prim.Native.Nat.{ℕ, zero, suc, _+_, _-_, _*_, _/_, _%_, _^_, _≤_, _<_}
+use native.Mathlib.Omega.{arith}
+use lib.Dec.{leb, eqb}
+use lib.ListN.{length}
+use lib.Seq.{ext-getD}
+use borrow.Author.Tests.{le-leb, eq-eqb}
+use Rattle.numbers.specs.Lists.{at}
+use Rattle.numbers.specs.First.{allOf}
+use Rattle.numbers.specs.FirstLaws.{all-true}
+use Rattle.numbers.specs.Tests.{le-then}
+use Rattle.rows.specs.RowsLaws.{fill-same, fill-own}
+use Rattle.rows.specs.Tables.{rowAt}
+use Rattle.rows.specs.TablesLaws.{row-length}
+use Rattle.road.specs.declared.Road.{Road}
+use Rattle.road.specs.declared.State.{State}
+use Rattle.road.specs.declared.Start.{Start}
+use Rattle.road.specs.Road.{mostCells, mostSteps, mostBytes, mostRate, zeros, startState}
+use Rattle.road.specs.Study.{Study}
+use Rattle.fields.specs.Fields.{recordVersion, countSize, headerSize, cellSize, shortSize, numberSize, rowSize}
+use Rattle.fields.specs.Fields.{rowNumbers, rowStart, numberOf, fieldOf, columnOf, entryOf, recordRow}
+use Rattle.fields.specs.FieldsLaws.{length-row, row-at}
+use Rattle.fields.specs.BytesLaws.{Field, field-number}
+use Rattle.limits.specs.Limits.{placeOk, rowOk}
+use Rattle.limits.specs.LimitsLaws.{RoadOk, StateOk, RowOk, places-road, places-state, place-ok, row-facts, row-ok}
+use Rattle.reading.specs.Reading.{versionOf, cellsOf, stepsOf, sizeOf, roadOf, startOf, lengthOk, cellsAndStepsOk, stepOk, acceptedOf, readingOf}
+use Rattle.putting.specs.Record.{headerBytes, cellBytes, recordOf, given}
+use Rattle.putting.specs.Putting.{length-record}
+use Rattle.writing.specs.Accepted.{Accepted}
+use Rattle.writing.specs.Cut.{cutOf, cutRoad, cutState, cut-road, cut-state, cut-row}
+use Rattle.writing.specs.Stands.{HeaderFields, header-fields, CellFields, cell-fields, in-header, in-cell, in-row}
+
+module _ (road : Road) (T : ℕ) (start : Start) (rows : List ℕ) (room : ℕ) (ok : Accepted (given road T start rows) (length rows) room) where
+  abbrev a : Study
+  a = given road T start rows
+
+  abbrev s : List ℕ
+  s = recordOf a
+
+  abbrev n : ℕ
+  n = road .n
+
+  -- what was given is within the limits
+  road-ok : RoadOk road
+  road-ok = places-road road (startState start) (ok .places) (ok .counts .someCells) (ok .counts .cells)
+
+  state-ok : StateOk road (startState start)
+  state-ok = places-state road (startState start) (ok .places) (omega arith) (omega arith)
+
+  given-row : (t : ℕ) → t < T → RowOk road (rowAt rows (rowNumbers (road .n)) t)
+  given-row t l =
+      row-facts road (rowAt rows (rowNumbers n) t) (row-length rows (rowNumbers n) t T l (ok .all)) (road-ok .ramp) (ok .rows t l)
+
+  -- the header
+  header : HeaderFields (headerBytes (given road T start rows)) (road .n) T (road .«gate_capacity») (start .«gate_queue»)
+  header = header-fields n T (road .«gate_capacity») (start .«gate_queue»)
+
+  count-read : numberOf s 0 countSize ≡ sizeOf n T - countSize
+  count-read = field-number s 0 0 countSize (sizeOf n T - countSize) refl (omega (arith, ok .size)) (in-header a (omega arith) (header .count))
+
+  version-read : versionOf s ≡ recordVersion
+  version-read = field-number s 4 4 1 recordVersion refl (omega arith) (in-header a (omega arith) (header .version))
+
+  cells-read : cellsOf s ≡ n
+  cells-read = field-number s 5 5 1 n refl (omega (arith, ok .counts .cells)) (in-header a (omega arith) (header .cells))
+
+  steps-read : stepsOf s ≡ T
+  steps-read = field-number s 6 6 shortSize T refl (omega (arith, ok .counts .steps)) (in-header a (omega arith) (header .steps))
+
+  capacity-read : numberOf s 8 numberSize ≡ road .«gate_capacity»
+  capacity-read = field-number s 8 8 numberSize (road .«gate_capacity») refl (omega (arith, road-ok .gate)) (in-header a (omega arith) (header .gateCapacity))
+
+  queue-read : numberOf s 12 numberSize ≡ start .«gate_queue»
+  queue-read = field-number s 12 12 numberSize (start .«gate_queue») refl (omega (arith, state-ok .gateQueue)) (in-header a (omega arith) (header .gateQueue))
+
+  -- the cells
+  cell : (i : ℕ) → CellFields (cellBytes road (startState start) i) (at (road .speed) i) (at (road .wave) i) (at (road .share) i) (at (road .ramp) i)
+      (at (road .jam) i) (at (road .capacity) i) (at (start .held) i) (at (start .queue) i)
+  cell i = cell-fields _ _ _ _ _ _ _ _
+
+  -- a column of a record of n cells, by what stands in each
+  column : (offset w : ℕ) (l : List ℕ) → offset + w ≤ cellSize
+      → ((i : ℕ) → i < road .n → (at l i < 256 ^ w) × Field (cellBytes road (startState start) i) offset w (at l i))
+      → columnOf (recordOf (given road T start rows)) offset w (cellsOf (recordOf (given road T start rows))) ≡ cutOf (road .n) l
+  column offset w l fits h =
+      ap (columnOf s offset w) cells-read
+      ∙ fill-same (fieldOf s offset w) (λ i. at l i) n zeros
+      (λ i k. field-number s (headerSize + (i * cellSize + offset)) (headerSize + cellSize * i + offset) w (at l i) (omega arith) (h i k .0)
+      (in-cell a i k fits (h i k .1)))
+
+  short : (x most : ℕ) → x ≤ most → most ≤ 65535 → x < 256 ^ shortSize
+  short x most l m = omega arith
+
+  long : (x most : ℕ) → x ≤ most → most ≤ 4294967295 → x < 256 ^ numberSize
+  long x most l m = omega arith
+
+  speed-read : columnOf s 0 shortSize (cellsOf s) ≡ cutOf n (road .speed)
+  speed-read = column 0 shortSize (road .speed) (omega arith) (λ i l. (short _ _ (road-ok .speed i l) (omega arith), cell i .speedField))
+
+  wave-read : columnOf s 2 shortSize (cellsOf s) ≡ cutOf n (road .wave)
+  wave-read = column 2 shortSize (road .wave) (omega arith) (λ i l. (short _ _ (road-ok .wave i l) (omega arith), cell i .waveField))
+
+  share-read : columnOf s 4 shortSize (cellsOf s) ≡ cutOf n (road .share)
+  share-read = column 4 shortSize (road .share) (omega arith) (λ i l. (short _ _ (road-ok .share i l) (omega arith), cell i .shareField))
+
+  ramp-read : columnOf s 6 shortSize (cellsOf s) ≡ cutOf n (road .ramp)
+  ramp-read = column 6 shortSize (road .ramp) (omega arith) (λ i l. (short _ _ (road-ok .ramp i l) (omega arith), cell i .rampField))
+
+  jam-read : columnOf s 8 numberSize (cellsOf s) ≡ cutOf n (road .jam)
+  jam-read = column 8 numberSize (road .jam) (omega arith) (λ i l. (long _ _ (road-ok .jam i l) (omega arith), cell i .jamField))
+
+  capacities-read : columnOf s 12 numberSize (cellsOf s) ≡ cutOf n (road .capacity)
+  capacities-read = column 12 numberSize (road .capacity) (omega arith) (λ i l. (long _ _ (road-ok .capacity i l) (omega arith), cell i .capacityField))
+
+  held-read : columnOf s 16 numberSize (cellsOf s) ≡ cutOf n (start .held)
+  held-read = column 16 numberSize (start .held) (omega arith)
+      (λ i l. (long (at (start .held) i) mostRate (omega (arith, state-ok .held i l, road-ok .jam i l)) (omega arith), cell i .heldField))
+
+  queues-read : columnOf s 20 numberSize (cellsOf s) ≡ cutOf n (start .queue)
+  queues-read = column 20 numberSize (start .queue) (omega arith) (λ i l. (long _ _ (state-ok .queue i l) (omega arith), cell i .queueField))
+
+  road-read : roadOf s ≡ cutRoad road
+  road-read = rw (speed-read, wave-read, share-read, ramp-read, jam-read, capacities-read, cells-read, capacity-read)
+
+  start-read : startOf s ≡ cutState n (startState start)
+  start-read = rw (held-read, queues-read, queue-read, fill-own zeros n)
+
+  -- the rows
+  number-rate : (row : List ℕ) → RowOk road row → (k : ℕ) → k < rowNumbers (road .n) → at row k ≤ mostRate
+  number-rate row h zero l = h .gate
+  number-rate row h (suc k) l = go (k / 2) (k % 2) (omega arith) (omega arith)
+    where
+      go : (i j : ℕ) → k ≡ 2 * i + j → j < 2 → at row (suc k) ≤ mostRate
+      go i zero e m = let f : suc k ≡ 2 * i + 1 = omega arith in rw f (h .arrivals i (omega arith))
+      go i (suc j) e m = let f : suc k ≡ 2 * i + 2 = omega arith in rw f (h .release i (omega arith))
+
+  entry-read : (t : ℕ) → t < T → (k : ℕ) → k < rowNumbers (road .n)
+      → entryOf (recordOf (given road T start rows)) (road .n) t k ≡ at (rowAt rows (rowNumbers (road .n)) t) k
+  entry-read t l k m =
+      field-number s (headerSize + (n * cellSize + (t * rowSize n + (k * numberSize + 0)))) (rowStart n t + numberSize * k) numberSize _ (omega arith)
+      (long _ _ (number-rate (rowAt rows (rowNumbers n) t) (given-row t l) k m) (omega arith)) (in-row a t k l m)
+
+  pub rows-read : (t : ℕ) → t < T → recordRow (recordOf (given road T start rows)) (road .n) t ≡ rowAt rows (rowNumbers (road .n)) t
+  rows-read t l =
+      ext-getD 0 (recordRow s n t) (rowAt rows (rowNumbers n) t)
+      (length-row s n t ∙ sym (row-length rows (rowNumbers n) t T l (ok .all)))
+      (λ k m.
+      let h : k < rowNumbers n = omega (arith, length-row s n t) in
+      row-at s n t k h ∙ entry-read t l k h)
+
+  -- no refusal of reading applies
+  long-enough : lengthOk s ≡ true
+  long-enough =
+      let e = length-record a in
+      le-then headerSize (length s) _ (omega (arith, e)) (le-then (length s) mostBytes _ (omega (arith, e, ok .size))
+      (eq-eqb (numberOf s 0 countSize) (length s - countSize) (count-read ∙ omega (arith, e))))
+
+  counts-read : cellsAndStepsOk (cellsOf s) (stepsOf s) ≡ true
+  counts-read =
+      let c = ok .counts in
+      rw (cells-read, steps-read)
+      (le-then 1 n _ (c .someCells) (le-then n mostCells _ (c .cells) (le-then 1 T _ (c .someSteps) (le-leb T mostSteps (c .steps)))))
+
+  size-read : eqb (length s) (sizeOf (cellsOf s) (stepsOf s)) ≡ true
+  size-read = rw (cells-read, steps-read) (eq-eqb (length s) (sizeOf n T) (length-record a))
+
+  places-read : allOf (placeOk (roadOf s) (startOf s)) (cellsOf s + 1) ≡ true
+  places-read =
+      rw (road-read, start-read, cells-read)
+      (all-true (placeOk (cutRoad road) (cutState n (startState start))) (n + 1)
+      (place-ok (cutRoad road) (cutState n (startState start)) (cut-road road road-ok) (cut-state road (startState start) road-ok state-ok)))
+
+  steps-fit : allOf (stepOk s (roadOf s)) (stepsOf s) ≡ true
+  steps-fit =
+      rw (road-read, steps-read)
+      (all-true (stepOk s (cutRoad road)) T (λ t l.
+      rw (rows-read t l) (row-ok (cutRoad road) (rowAt rows (rowNumbers n) t) (cut-road road road-ok) (cut-row road (rowAt rows (rowNumbers n) t) road-ok (given-row t l)))))
+
+  pub reads-back : readingOf (recordOf (given road T start rows)) ≡ acceptedOf T (cutRoad road) (cutState (road .n) (startState start))
+  unfolding readingOf
+  reads-back =
+      rw (long-enough, eq-eqb (versionOf s) recordVersion version-read, counts-read, size-read, places-read, steps-fit)
+      (rw (road-read, start-read, steps-read))

@@ -1,0 +1,142 @@
+-- docs/MODEL.md, 'Writing': what saving a road promises. Read back it is the same up to cell n and 0 past it; a record that was read and
+-- written again has the same bytes; bytes beyond the record are untouched, and a refusal leaves the target unchanged. Assumes nothing.
+use mathlib.Core.Path.{_≡_, refl, sym, ap, _∙_}
+use mathlib.Core.Bool.{true}
+use mathlib.Core.List.{List}
+use Prim.Native.Nat.{ℕ, _+_, _*_, _≤_, _<_}
+use native.Mathlib.Omega.{arith}
+use lib.ListN.{length, take, drop}
+use lib.Seq.{take-at, drop-at}
+use Rattle.numbers.specs.Lists.{at}
+use Rattle.numbers.specs.FirstLaws.{first-none}
+use Rattle.rows.specs.Tables.{rowAt}
+use Rattle.road.specs.declared.Road.{Road}
+use Rattle.road.specs.declared.State.{State}
+use Rattle.road.specs.declared.Start.{Start}
+use Rattle.road.specs.Road.{zeros, startState}
+use Rattle.road.specs.Study.{Study}
+use Rattle.fields.specs.Fields.{rowNumbers, recordRow}
+use Rattle.limits.specs.Limits.{placeOk, rowOk}
+use Rattle.limits.specs.LimitsLaws.{place-ok, row-ok}
+use Rattle.reading.specs.Reading.{sizeOf, acceptedOf, readingOf, studyOf}
+use Rattle.reading.specs.Numbers.{read-numbers}
+use Rattle.reading.specs.Within.{read-within}
+use Rattle.putting.specs.Record.{recordOf, given}
+use Rattle.putting.specs.Putting.{length-record}
+use Rattle.writing.specs.Writing.{WriteAnswer, written, givenOk, writingOf, targetAfter}
+use Rattle.writing.specs.Checks.{answer-written, by-given}
+use Rattle.writing.specs.Accepted.{given-accepted, refused-count, target-refused, target-written}
+use Rattle.writing.specs.Cut.{cutRoad, cutState}
+use Rattle.writing.specs.ReadBack.{reads-back, rows-read}
+use Rattle.writing.specs.Again.{startIn, same-bytes}
+
+-- the record's bytes in the target
+abbrev pub savedOf : Road → ℕ → Start → List ℕ → List ℕ → List ℕ
+savedOf road T start rows target = take (writingOf road T start rows target .count) (targetAfter road T start rows target)
+
+module _ (road : Road) (T : ℕ) (start : Start) (rows target : List ℕ) where
+  -- where writing isn't refused
+  pub record Saved : Type 0 where
+    pub count : writingOf road T start rows target .count ≡ sizeOf (road .n) T
+    -- reading the first `count` bytes isn't refused and gives n, T and the values given up to cell n, 0 past it (cut-at, cut-past)
+    pub reads : readingOf (savedOf road T start rows target) ≡ acceptedOf T (cutRoad road) (cutState (road .n) (startState start))
+    -- and each row's numbers are those given
+    pub row : (t : ℕ) → t < T → recordRow (savedOf road T start rows target) (road .n) t ≡ rowAt rows (rowNumbers (road .n)) t
+    -- bytes beyond the record are untouched
+    pub beyond : drop (sizeOf (road .n) T) (targetAfter road T start rows target) ≡ drop (sizeOf (road .n) T) target
+
+  pub saved : writingOf road T start rows target .number ≡ 0 → Saved
+  saved h =
+      let ok = given-accepted road T start rows target h in
+      let a = given road T start rows in
+      let size : writingOf road T start rows target .count ≡ sizeOf (road .n) T =
+      sym (ap (λ (x : WriteAnswer). x .count) (by-given road T start rows target)) ∙ ap (λ (x : WriteAnswer). x .count) (ok .answer) in
+      let bytes : savedOf road T start rows target ≡ recordOf (given road T start rows) =
+      rw (target-written road T start rows target h)
+      (take-at (recordOf a) (drop (sizeOf (road .n) T) target) (writingOf road T start rows target .count) (length-record a ∙ sym size)) in
+      record {
+        count = size;
+        reads = ap readingOf bytes ∙ reads-back road T start rows (length target) ok;
+        row = λ t l. ap (λ (s : List ℕ). recordRow s (road .n) t) bytes ∙ rows-read road T start rows (length target) ok t l;
+        beyond = rw (target-written road T start rows target h)
+            (drop-at (recordOf a) (drop (sizeOf (road .n) T) target) (sizeOf (road .n) T) (length-record a));
+      }
+
+  -- every refusal leaves the target unchanged, and the count is 0
+  pub unsaved : (writingOf road T start rows target .number ≡ 0 → ⊥)
+      → (targetAfter road T start rows target ≡ target) × (writingOf road T start rows target .count ≡ 0)
+  unfolding writingOf
+  unsaved h = (target-refused road T start rows target h, refused-count (given road T start rows) (length rows) (length target) h)
+
+  -- so running and judging a written record is running and judging what was given: their study has its road, start, T and rows
+  pub saved-road : Saved → studyOf (savedOf road T start rows target) .road ≡ cutRoad road
+  saved-road k = rw (k .reads)
+
+  pub saved-start : Saved → studyOf (savedOf road T start rows target) .start ≡ cutState (road .n) (startState start)
+  saved-start k = rw (k .reads)
+
+  pub saved-steps : Saved → studyOf (savedOf road T start rows target) .steps ≡ T
+  saved-steps k = rw (k .reads)
+
+  pub saved-rows : Saved → (t : ℕ) → t < T → studyOf (savedOf road T start rows target) .rows t ≡ rowAt rows (rowNumbers (road .n)) t
+  saved-rows k t l = rw (k .reads) (k .row t l)
+
+-- a state before step 0 is that of its start
+start-state : (q : State) → q .done ≡ 0 → q .total ≡ 0 → q .«gate_cumulative» ≡ 0 → q .cumulative ≡ zeros → startState (startIn q) ≡ q
+start-state q d t g c =
+    sym (ap (λ (x : ℕ). made x (q .total) (q .«gate_cumulative») (q .cumulative)) d
+    ∙ ap (λ (x : ℕ). made 0 x (q .«gate_cumulative») (q .cumulative)) t
+    ∙ ap (λ (x : ℕ). made 0 0 x (q .cumulative)) g
+    ∙ ap (λ (l : List ℕ). made 0 0 0 l) c)
+  where
+    made : ℕ → ℕ → ℕ → List ℕ → State
+    made done total gate cumulative = record {
+      done = done;
+      total = total;
+      «gate_queue» = q .«gate_queue»;
+      «gate_cumulative» = gate;
+      held = q .held;
+      queue = q .queue;
+      cumulative = cumulative;
+    }
+
+-- a record that reads without refusal, written again from what reading gave and its rows
+module _ (s : List ℕ) (small : (i : ℕ) → at s i < 256) (reads : readingOf s .number ≡ 0) (rows target : List ℕ)
+    (all : length rows ≡ readingOf s .steps * rowNumbers (readingOf s .road .n))
+    (same : (t : ℕ) → t < readingOf s .steps → rowAt rows (rowNumbers (readingOf s .road .n)) t ≡ recordRow s (readingOf s .road .n) t)
+    (room : length s ≤ length target) where
+  abbrev road : Road
+  road = readingOf s .road
+
+  abbrev T : ℕ
+  T = readingOf s .steps
+
+  abbrev start : Start
+  start = startIn (readingOf s .state)
+
+  -- it isn't refused, and counts the record's bytes
+  pub again-answer : writingOf (readingOf s .road) (readingOf s .steps) (startIn (readingOf s .state)) rows target ≡ written (length s)
+  again-answer =
+      let w = read-within s (readingOf s) refl reads in
+      let n = read-numbers s (readingOf s) refl reads in
+      let e = start-state (readingOf s .state) (n .done) (n .total) (n .gateCumulative) (n .cumulative) in
+      let places : (p : ℕ) → p < road .n + 1 → placeOk road (startState start) p ≡ true = rw e (place-ok road (readingOf s .state) (w .road) (w .state)) in
+      let fits : (t : ℕ) → t < T → givenOk (given road T start rows) t ≡ true =
+      λ t l. (rw (same t l) (row-ok road (recordRow s (road .n) t) (w .road) (w .row t l))) in
+      sym (by-given road T start rows target)
+      ∙ sym (answer-written (given road T start rows) (length rows) (length target)
+      (record {
+        counts = record { someCells = w .road .some; cells = w .road .cells; someSteps = w .someSteps; steps = w .steps };
+        size = omega (arith, w .size, w .bytes);
+        all = all;
+      })
+      (road .n + 1) (sym (first-none (placeOk road (startState start)) (road .n + 1) places)) refl
+      T (sym (first-none (givenOk (given road T start rows)) T fits)) refl (omega (arith, w .size)))
+      ∙ ap written (sym (w .size))
+
+  -- and the target then begins with exactly these bytes
+  pub again-bytes : take (length s) (targetAfter (readingOf s .road) (readingOf s .steps) (startIn (readingOf s .state)) rows target) ≡ s
+  again-bytes =
+      let h : writingOf road T start rows target .number ≡ 0 = ap (λ (x : WriteAnswer). x .number) again-answer in
+      let e : recordOf (given road T start rows) ≡ s = same-bytes s small reads rows same in
+      rw (target-written road T start rows target h, e) (take-at s (drop (sizeOf (road .n) T) target) (length s) refl)

@@ -1,0 +1,66 @@
+-- Writing a record: its refusals in order, what it answers and what the target then holds. Assumes nothing.
+use mathlib.Core.Bool.{Bool, cond}
+use mathlib.Core.List.{List, _++_}
+use Prim.Native.Nat.{ℕ, _+_, _*_}
+use lib.Dec.{leb, eqb}
+use lib.ListN.{length, drop}
+use Rattle.numbers.specs.First.{unless, unlessFirst}
+use Rattle.road.specs.declared.Road.{Road}
+use Rattle.road.specs.declared.Start.{Start}
+use Rattle.road.specs.declared.Written.{Written}
+use Rattle.road.specs.Road.{mostBytes}
+use Rattle.road.specs.Refusals.{refusalNumber}
+use Rattle.road.specs.Study.{Study}
+use Rattle.fields.specs.Fields.{rowNumbers}
+use Rattle.limits.specs.Limits.{placeOk, rowOk}
+use Rattle.reading.specs.Reading.{sizeOf, cellsAndStepsOk}
+use Rattle.putting.specs.Record.{recordOf, given}
+
+-- what writing answers: the refusal's number, its place or step, and the count of bytes written
+pub record WriteAnswer : Type 0 where
+  pub number : ℕ
+  pub place : ℕ
+  pub count : ℕ
+
+-- the code's answer, in the model's numbers
+abbrev pub writeAnswer : Written → WriteAnswer
+writeAnswer a = record { number = refusalNumber (a .refusal); place = a .place; count = a .count }
+
+-- a refusal writes nothing
+abbrev pub unwritten : ℕ → ℕ → WriteAnswer
+unwritten number place = record { number = number; place = place; count = 0 }
+
+abbrev pub written : ℕ → WriteAnswer
+written count = record { number = 0; place = 0; count = count }
+
+-- 6: the row of step t is within the limits
+abbrev pub rowsOk : List ℕ → ℕ → (ℕ → List ℕ) → ℕ → Bool
+rowsOk ramp n rows t = rowOk ramp n (rows t)
+
+abbrev pub givenOk : Study → ℕ → Bool
+givenOk a t = rowsOk (a .road .ramp) (a .road .n) (a .rows) t
+
+-- the numbers of all rows
+abbrev pub numberCount : Study → ℕ
+numberCount a = a .steps * rowNumbers (a .road .n)
+
+-- 3; 1, more than 65,536 bytes; 4, row numbers not T × (1 + 2n); 5 with its place and 6 with its step, as in reading; 15, target too short
+abbrev pub writingBy : Study → ℕ → ℕ → WriteAnswer
+writingBy a numbers room =
+    unless (cellsAndStepsOk (a .road .n) (a .steps)) (unwritten 3 0)
+    (unless (leb (sizeOf (a .road .n) (a .steps)) mostBytes) (unwritten 1 0)
+    (unless (eqb numbers (numberCount a)) (unwritten 4 0)
+    (unlessFirst (placeOk (a .road) (a .start)) (a .road .n + 1) (unwritten 5)
+    (unlessFirst (givenOk a) (a .steps) (unwritten 6)
+    (unless (leb (sizeOf (a .road .n) (a .steps)) room) (unwritten 15 0)
+    (written (sizeOf (a .road .n) (a .steps))))))))
+
+unfoldable pub writingOf : Road → ℕ → Start → List ℕ → List ℕ → WriteAnswer
+writingOf road T start rows target = writingBy (given road T start rows) (length rows) (length target)
+
+-- the target then: the record's bytes in front of what stood beyond them, or as lent after a refusal
+unfoldable pub targetAfter : Road → ℕ → Start → List ℕ → List ℕ → List ℕ
+targetAfter road T start rows target =
+    cond (eqb (writingOf road T start rows target .number) 0)
+    (recordOf (given road T start rows) ++ drop (sizeOf (road .n) T) target)
+    target

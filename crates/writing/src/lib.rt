@@ -1,0 +1,102 @@
+// Writing a record: a road, T, a start and its rows, into a lent target.
+use road::Refusal;
+use road::Road;
+use road::Start;
+use road::Written;
+ghost use mathlib.Core.Path.{_≡_};
+ghost use Rattle.numbers.specs.First.{firstOf};
+ghost use Rattle.rows.specs.Tables.{rowAt};
+ghost use Rattle.road.specs.Refusals.{refusalNumber};
+ghost use Rattle.fields.specs.Fields.{rowNumbers};
+ghost use Rattle.putting.specs.Putting.{Rows};
+ghost use Rattle.writing.specs.Writing.{unwritten, rowsOk, writeAnswer, writingOf, targetAfter};
+ghost use Rattle.writing.specs.Checks.{frameFault};
+
+// 3, 1 and 4: n and T, the record's size, and the count of the rows' numbers.
+fn frame_refusal(n: usize, steps: usize, numbers: usize) -> Refusal
+    ensures { λ q. ⌜ refusalNumber q ≡ frameFault n steps numbers ⌝ }
+{
+    if !reading::cells_and_steps_within(n, steps) {
+        return Refusal::Counts;
+    }
+    if Road::BYTES < fields::row_start(n, steps) {
+        return Refusal::Length;
+    }
+    if numbers != steps * (1 + 2 * n) {
+        return Refusal::Size;
+    }
+    Refusal::None
+}
+
+// The first step whose row is out of its limits, or `steps`.
+fn first_row(ramp: [u16; 64], n: usize, rows: &[u32], steps: usize) -> usize
+    requires { ⌜ Rows (now rows) n steps ⌝ }
+    ensures { λ t. ⌜ t ≡ firstOf (rowsOk ramp n (rowAt (now (rows .entry)) (rowNumbers n))) steps ⌝ }
+{
+    let numbers = 1 + 2 * n;
+    let mut from = 0;
+    let mut t = 0;
+    while t < steps {
+        let end = from + numbers;
+        if !limits::row_within(ramp, n, &rows[from..end]) {
+            return t;
+        }
+        from = end;
+        t += 1;
+    }
+    t
+}
+
+fn refused(refusal: Refusal, place: usize) -> Written
+    ensures { λ a. ⌜ writeAnswer a ≡ unwritten (refusalNumber refusal) place ⌝ }
+{
+    Written {
+        refusal: refusal,
+        place: place,
+        count: 0,
+    }
+}
+
+// The refusals in order, or the count of bytes that the record takes.
+fn checked(road: Road, steps: usize, start: Start, rows: &[u32], target: &[u8]) -> Written
+    ensures { λ a. ⌜ writeAnswer a ≡ writingOf road steps start (now (rows .entry)) (now (target .entry)) ⌝ }
+{
+    let n = road.n;
+    let frame = frame_refusal(n, steps, rows.len());
+    if frame.number() != 0 {
+        return refused(frame, 0);
+    }
+    let state = start.state();
+    let place = limits::first_place(road, state);
+    if place != n + 1 {
+        return refused(Refusal::Limits, place);
+    }
+    let ramp = road.ramp;
+    let step = first_row(ramp, n, rows, steps);
+    if step != steps {
+        return refused(Refusal::Rates, step);
+    }
+    let size = fields::row_start(n, steps);
+    if target.len() < size {
+        return refused(Refusal::TargetLength, 0);
+    }
+    Written {
+        refusal: Refusal::None,
+        place: 0,
+        count: size,
+    }
+}
+
+// Writes a record into the target, or leaves it as it is: 3, 1, 4, 5, 6, then 15.
+pub fn write(road: Road, steps: usize, start: Start, rows: &[u32], target: &mut [u8]) -> Written
+    ensures answer { λ a. ⌜ writeAnswer a ≡ writingOf road steps start (now (rows .entry)) (now (target .entry)) ⌝ }
+    ensures target { λ a. ⌜ now (target .exit) ≡ targetAfter road steps start (now (rows .entry)) (now (target .entry)) ⌝ }
+{
+    let a = checked(road, steps, start, rows, target);
+    let refusal = a.refusal;
+    if refusal.number() != 0 {
+        return a;
+    }
+    putting::put_record(road, steps, start, rows, target);
+    a
+}
