@@ -214,6 +214,11 @@ pub fn arrivals(row: &[u32], place: usize) -> u64 {
     }
 }
 
+/// What a cell's ramp may release at most: its queue and this step's arrivals.
+pub fn waiting(state: &State, row: &[u32], cell: usize) -> u64 {
+    u64::from(state.queue[cell - 1]) + arrivals(row, cell)
+}
+
 /// Release into a cell, from a row in the record's order.
 pub fn release(row: &[u32], cell: usize) -> u64 {
     u64::from(row[2 * cell])

@@ -64,11 +64,12 @@ fn state_fits(road: &Road, state: &State) -> bool {
         && state.total <= MAX_TOTAL_A_STEP * s
 }
 
-/// Refusals 9 and 10: at the lowest cell with either, 9 before 10.
+/// Refusals 9 and 10: at the lowest cell with either, 9 before 10. What arrives
+/// in a step may be released in it.
 pub fn release_fault(road: &Road, state: &State, row: &[u32]) -> Option<(u32, usize)> {
     for cell in 1..=road.n {
         let release = model::release(row, cell);
-        if release > u64::from(state.queue[cell - 1]) {
+        if release > model::waiting(state, row, cell) {
             return Some((9, cell));
         }
         if release > model::supply(road, state, cell) {

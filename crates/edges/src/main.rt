@@ -171,18 +171,23 @@ fn printed_run() {
     stepped(b"printed run, step 2:", road, second, &numbers);
 }
 
-// The bounds of refusals 9 and 10.
+// A step of the printed run from a start with another queue at the ramp, and with another release.
+fn released(label: &[u8], queue: u32, release: u32) {
+    stepped(label, printed_road(), start(queue), &row(release));
+}
+
+// The bounds of refusals 9 and 10: 500 arrive at the ramp, and the supply is 1000.
 fn releases() {
-    let road = printed_road();
-    stepped(b"queue 300 release 300:", road, start(300), &row(300));
-    stepped(b"queue 300 release 301:", road, start(300), &row(301));
-    stepped(b"supply 1000 release 1000:", road, start(1500), &row(1000));
-    stepped(b"supply 1000 release 1001:", road, start(1500), &row(1001));
-    stepped(
-        b"queue 1000 release 1001, above both:",
-        road,
-        start(1000),
-        &row(1001),
+    released(b"queue 0 arrivals 500 release 500:", 0, 500);
+    released(b"queue 0 arrivals 500 release 501:", 0, 501);
+    released(b"queue 300 arrivals 500 release 800:", 300, 800);
+    released(b"queue 300 arrivals 500 release 801:", 300, 801);
+    released(b"supply 1000 release 1000:", 1500, 1000);
+    released(b"supply 1000 release 1001:", 1500, 1001);
+    released(
+        b"queue 500 arrivals 500 release 1001, above both:",
+        500,
+        1001,
     );
 }
 

@@ -104,10 +104,13 @@ rules =
     -- b 750, F 934: outflow 933 lets in 700, 934 lets in 701
     ∷ edge (enteringOf 750 934 933) 700
     ∷ edge (enteringOf 750 934 934) 701
-    -- release equal to queue passes; one more is 9
-    ∷ edge (released 300 300 .number) 0
-    ∷ edge (released 300 301 .number) 9
-    ∷ edge (released 300 301 .place) 2
+    -- arrivals 500: release equal to queue plus arrivals passes; one more is 9
+    ∷ edge (released 0 500 .number) 0
+    ∷ edge (released 0 501 .number) 9
+    ∷ edge (released 0 501 .place) 2
+    ∷ edge (released 300 800 .number) 0
+    ∷ edge (released 300 801 .number) 9
+    ∷ edge (released 300 801 .place) 2
     -- release equal to supply passes; one more is 10
     ∷ edge (released 1500 1000 .number) 0
     ∷ edge (released 1500 1001 .number) 10

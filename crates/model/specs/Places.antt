@@ -30,9 +30,9 @@ demandAt r s (suc i) = demandOf (at (r .speed) i) (capacityAt r i) (at (s .held)
 abbrev pub supplyAt : Road → State → ℕ → ℕ
 supplyAt r s i = supplyOf (at (r .wave) i) (capacityAt r i) (at (r .jam) i) (at (s .held) i)
 
--- what the release at the cell at i may be at most: the ramp's queue before this step's arrivals
+-- what the release at the cell at i may be at most: the ramp's queue and this step's arrivals there
 unfoldable pub mostReleaseAt : State → List ℕ → ℕ → ℕ
-mostReleaseAt s row i = at (s .queue) i
+mostReleaseAt s row i = at (s .queue) i + arrivalsAt row i
 
 -- the supply of the cell at i less its release
 abbrev pub roomAt : Road → State → List ℕ → ℕ → ℕ

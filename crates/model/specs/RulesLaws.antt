@@ -20,7 +20,7 @@ use Rattle.limits.specs.LimitsLaws.{RoadOk}
 use Rattle.model.specs.Places.{arrivalsAt, mostReleaseAt, capacityAt, demandAt, shareAt, cumulativeAt, roomAt, onwardAt, enteringAt, outflowAt}
 use Rattle.model.specs.Rules.{Released, Obeys, Greatest, outflowsOf}
 
--- what a release may be at most is there, at the latest with this step's arrivals
+-- what a release may be at most is there, with this step's arrivals
 pub release-there : (s : State) (row : List ℕ) (i : ℕ) → mostReleaseAt s row i ≤ at (s .queue) i + arrivalsAt row i
 unfolding mostReleaseAt
 release-there s row i = omega arith

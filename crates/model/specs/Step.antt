@@ -24,7 +24,7 @@ fault number place = record { number = number; place = place }
 unfoldable pub lowestOf : (ℕ → ℕ) → ℕ → ℕ → Fault
 lowestOf f n base = cond (eqb (firstFault f n) n) (fault 0 0) (fault (f (firstFault f n)) (firstFault f n + base))
 
--- at one cell: 9, release above queue, before 10, release above supply
+-- at one cell: 9, release above what its ramp may release at most, before 10, release above supply
 abbrev pub releaseFault : ℕ → ℕ → ℕ → ℕ
 releaseFault release most supply = unless (leb release most) 9 (unless (leb release supply) 10 0)
 

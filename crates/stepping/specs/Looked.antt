@@ -14,7 +14,7 @@ use Rattle.road.specs.Refusals.{refusalNumber}
 use Rattle.road.specs.Road.{mostCells, mostSteps}
 use Rattle.limits.specs.Limits.{inputOk}
 use Rattle.limits.specs.LimitsLaws.{InputOk, input-facts}
-use Rattle.model.specs.Places.{releaseAt, capacityAt, mostReleaseAt}
+use Rattle.model.specs.Places.{arrivalsAt, releaseAt, capacityAt, mostReleaseAt}
 use Rattle.model.specs.Move.{movedTo, movedOf, nextOf}
 use Rattle.model.specs.Rules.{Released, outflowsOf, Sized}
 use Rattle.model.specs.Step.{fault, releaseFault, releaseFaultAt, releasesOf, answer, steppingOf}
@@ -32,12 +32,13 @@ pub record Fitted (r : Road) (s : State) (row : List ℕ) (i : ℕ) : Type 0 whe
   pub within : i ≤ r .n
   pub before : (j : ℕ) → j < i → releaseFaultAt r s row j ≡ 0
 
--- a turn of it: the supply that the code computes, and the number of the refusal that it finds
-pub record Turn (r : Road) (s : State) (row : List ℕ) (i supply m : ℕ) : Type 0 where
+-- a turn of it: the supply and the most that the code computes, and the number of the refusal that it finds
+pub record Turn (r : Road) (s : State) (row : List ℕ) (i supply most m : ℕ) : Type 0 where
   pub fitted : Fitted r s row i
   pub left : i < r .n
   pub supplied : supply ≡ supplyOf (at (r .wave) i) (at (r .capacity) i) (at (r .jam) i) (at (s .held) i)
-  pub number : m ≡ releaseFault (releaseAt row i) (at (s .queue) i) supply
+  pub there : most ≡ at (s .queue) i + arrivalsAt row i
+  pub number : m ≡ releaseFault (releaseAt row i) most supply
 
 module _ {r : Road} {s : State} {row : List ℕ} where
   pub fitted-none : Fitted r s row 0
@@ -46,10 +47,10 @@ module _ {r : Road} {s : State} {row : List ℕ} where
   pub fitted-end : {i : ℕ} → Fitted r s row i → r .n ≤ i → fault 0 0 ≡ releasesOf r s row
   fitted-end h l = sym (lowest-none (releaseFaultAt r s row) (r .n) 1 (λ j k. h .before j (omega arith)))
 
-  module _ {i supply m : ℕ} (t : Turn r s row i supply m) where
+  module _ {i supply most m : ℕ} (t : Turn r s row i supply most m) where
     found : releaseFaultAt r s row i ≡ m
     unfolding capacityAt mostReleaseAt
-    found = sym (rw (t .supplied) at (t .number))
+    found = sym (rw (t .supplied, t .there) at (t .number))
 
     pub fitted-more : m ≡ 0 → Fitted r s row (i + 1)
     fitted-more z = record { within = omega (arith, t .left); before = below-more _ _ (t .fitted .before) (found ∙ z) }

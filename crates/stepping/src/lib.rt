@@ -19,11 +19,18 @@ pub struct Fault {
     pub place: usize,
 }
 
-// One cell's release: not above its queue, nor above its supply.
-fn release_refusal(release: u32, queue: u32, supply: u32) -> Refusal
-    ensures { λ q. ⌜ refusalNumber q ≡ releaseFault release queue supply ⌝ }
+// What a ramp may release at most in a step: its queue and the step's arrivals there. In u64 the sum never wraps.
+pub fn most_release(queue: u32, arrivals: u32) -> u64
+    ensures { λ m. ⌜ m ≡ queue + arrivals ⌝ }
 {
-    if queue < release {
+    queue as u64 + arrivals as u64
+}
+
+// One cell's release: not above what its ramp may release at most, nor above its supply.
+fn release_refusal(release: u32, most: u64, supply: u32) -> Refusal
+    ensures { λ q. ⌜ refusalNumber q ≡ releaseFault release most supply ⌝ }
+{
+    if most < release as u64 {
         return Refusal::ReleaseAboveQueue;
     }
     if supply < release {
@@ -41,7 +48,8 @@ pub fn releases(r: Road, s: State, row: &[u32]) -> Fault
     let mut i = 0;
     while i < n {
         let supply = flow::supply(r.wave[i], r.capacity[i], r.jam[i], s.held[i]);
-        let refusal = release_refusal(row[2 * i + 2], s.queue[i], supply);
+        let most = most_release(s.queue[i], row[2 * i + 1]);
+        let refusal = release_refusal(row[2 * i + 2], most, supply);
         if refusal.number() != 0 {
             return Fault {
                 refusal: refusal,

@@ -111,17 +111,18 @@ fn held_and_jam(cases: &mut Cases) {
     }
 }
 
-/// Queue 500 and supply 1000: a release of 500 passes, 501 is 9.
+/// Arrivals 500 and supply 1000: with queue 0 a release of 500 passes, 501 is
+/// 9; with queue 300, 800 and 801.
 fn release_and_queue(cases: &mut Cases) {
-    for release in [499, 500, 501] {
+    for (queue, release) in [(0, 499), (0, 500), (0, 501), (300, 800), (300, 801)] {
         let mut draft = samples::printed();
-        draft.cells[1].queue = 500;
+        draft.cells[1].queue = queue;
         draft.rows[0][4] = release;
         everywhere(cases, &draft);
     }
 }
 
-/// Queue 1500 and supply 1000: a release of 1000 passes, 1001 is 10.
+/// Queue 1500, arrivals 500 and supply 1000: a release of 1000 passes, 1001 is 10.
 fn release_and_supply(cases: &mut Cases) {
     for release in [999, 1_000, 1_001] {
         let mut draft = samples::printed();

@@ -189,7 +189,7 @@ fn steps_done(cases: &mut Cases, dice: &mut Dice) {
         input.state.steps = steps;
         cases.step(&input);
         // 8 comes before 9 and after 7.
-        input.row[2] = 701;
+        input.row[2] = 781;
         cases.step(&input);
         input.row[2] = 1_000_001;
         cases.step(&input);
@@ -256,25 +256,32 @@ fn past_n(cases: &mut Cases, dice: &mut Dice) {
 }
 
 /// 9 and 10 at their bounds, both at once, and at two cells. The queues are
-/// 700, the supplies 1500 and 500.
+/// 700, the arrivals 80 and 90, the supplies 1500 and 500.
 fn releases(cases: &mut Cases, dice: &mut Dice) {
-    let changes: [Change; 14] = [
-        |x| x.row[2] = 699,
+    let changes: [Change; 20] = [
         |x| x.row[2] = 700,
         |x| x.row[2] = 701,
+        |x| x.row[2] = 779,
+        |x| x.row[2] = 780,
+        |x| x.row[2] = 781,
         |x| x.row[2] = 1_500,
         |x| x.row[2] = 1_501,
         |x| (x.state.queue[0], x.row[2]) = (5_000, 1_500),
         |x| (x.state.queue[0], x.row[2]) = (5_000, 1_501),
         |x| x.row[6] = 500,
         |x| x.row[6] = 501,
-        |x| x.row[6] = 701,
+        |x| x.row[6] = 791,
         // Both cells at their bounds, then both past them.
-        |x| (x.row[2], x.row[6]) = (700, 500),
-        |x| (x.row[2], x.row[6]) = (701, 501),
-        |x| (x.state.queue[0], x.row[2], x.row[6]) = (5_000, 1_501, 701),
-        // Arrivals of the same step don't help.
-        |x| (x.state.queue[0], x.row[1], x.row[2]) = (0, 500, 1),
+        |x| (x.row[2], x.row[6]) = (780, 500),
+        |x| (x.row[2], x.row[6]) = (781, 501),
+        |x| (x.state.queue[0], x.row[2], x.row[6]) = (5_000, 1_501, 791),
+        // What arrives at an empty ramp may pass, and no more.
+        |x| (x.state.queue[0], x.row[1], x.row[2]) = (0, 500, 500),
+        |x| (x.state.queue[0], x.row[1], x.row[2]) = (0, 500, 501),
+        |x| (x.state.queue[0], x.row[1], x.row[2]) = (0, 0, 1),
+        |x| (x.state.queue[2], x.row[5], x.row[6]) = (0, 79, 80),
+        // The greatest queue and arrivals together.
+        |x| (x.state.queue[0], x.row[1], x.row[2]) = (1_001_000_000, 1_000_000, 1_500),
     ];
     for change in changes {
         let mut input = sound(dice);

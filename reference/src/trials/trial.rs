@@ -137,8 +137,8 @@ pub fn fitting_row(style: Style, road: &Road, states: [&State; 2], dice: &mut Di
             row.extend([0, 0]);
             continue;
         }
-        let most = states.map(|state| most_released(road, state, cell));
         row.push(style.arrivals(false, dice));
+        let most = states.map(|state| most_released(road, state, &row, cell));
         row.push(release(manner, most[0].min(most[1]), dice) as u32);
     }
     row
@@ -162,8 +162,8 @@ fn release(manner: u64, most: u64, dice: &mut Dice) -> u64 {
 }
 
 /// The greatest release that refusals 9 and 10 allow.
-fn most_released(road: &Road, state: &State, cell: usize) -> u64 {
-    model::supply(road, state, cell).min(u64::from(state.queue[cell - 1]))
+fn most_released(road: &Road, state: &State, row: &[u32], cell: usize) -> u64 {
+    model::supply(road, state, cell).min(model::waiting(state, row, cell))
 }
 
 /// Makes one release or two of them one too great.
@@ -176,7 +176,7 @@ pub fn spoil_some(road: &Road, state: &State, row: &mut [u32], dice: &mut Dice) 
 /// Makes one release one too great, by the queue or by the supply, if some
 /// ramp allows that.
 fn spoil(road: &Road, state: &State, row: &mut [u32], dice: &mut Dice) {
-    let by_queue = |cell: usize| u64::from(state.queue[cell - 1]) + 1;
+    let by_queue = |cell: usize| model::waiting(state, row, cell) + 1;
     let by_supply = |cell: usize| model::supply(road, state, cell) + 1;
     let ramps: Vec<usize> = (1..=road.n)
         .filter(|&cell| road.ramp[cell - 1] == 1)

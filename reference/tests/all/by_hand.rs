@@ -110,7 +110,7 @@ fn a_full_cell_that_empties_makes_no_room_in_the_same_step() {
 }
 
 #[test]
-fn arrivals_can_leave_from_the_next_step_on() {
+fn what_arrives_can_leave_the_gate_from_the_next_step_on() {
     // Step 0: queues are 0: gate 0. Then gate 5, ramp 3, held 0; present 8.
     // Step 1: gate 5, room 100 - 3 = 97: 5. Cell 0. Held 5 + 3 = 8, gate 5,
     //   ramp 3 + 3 - 3 = 3; present 16. Total 24; exits 0.
@@ -126,19 +126,38 @@ fn arrivals_can_leave_from_the_next_step_on() {
 }
 
 #[test]
-fn a_release_above_the_queue_stops_the_run() {
-    // Step 0: 3 <= 4, queue 4 + 1 - 3 = 2, held 3; the gate has nothing.
-    // Step 1: 3 > 2: refusal 9. Present after step 0 is 2 + 3 = 5.
+fn what_arrives_at_a_ramp_can_pass_in_the_same_step() {
+    // Step 0: queue 0, arrivals 5, release 5: held 5, ramp 0; present 5.
+    // Step 1: release 1 of 2: the cell sends 5 and holds 1, ramp 1; present 2.
+    // Step 2: release 3 of 1 + 2: the cell sends 1 and holds 3, ramp 0;
+    //   present 3. Total 10; exits 6.
+    let (answer, list) = run_text(
+        "steps 3
+         gate capacity 100
+         cell v 1000 w 1000 b 0 ramp 1 jam 100 capacity 100
+         row ramp 1 arrivals 5 release 5
+         row ramp 1 arrivals 2 release 1
+         row ramp 1 arrivals 2 release 3",
+    );
+    assert_eq!(list, [0, 0, 0, 5, 0, 1]);
+    assert_eq!(sums(&answer), (10, 6));
+    assert_eq!((answer.state.queue[0], answer.state.held[0]), (0, 3));
+}
+
+#[test]
+fn a_release_above_queue_and_arrivals_stops_the_run() {
+    // Step 0: 3 <= 3 + 1, queue 3 + 1 - 3 = 1, held 3; the gate has nothing.
+    // Step 1: 3 > 1 + 1: refusal 9. Present after step 0 is 1 + 3 = 4.
     let (answer, list) = run_text(
         "steps 2
          gate capacity 100
-         cell v 1000 w 1000 b 0 ramp 1 jam 100 capacity 100 queue 4
+         cell v 1000 w 1000 b 0 ramp 1 jam 100 capacity 100 queue 3
          repeat 2 row ramp 1 arrivals 1 release 3",
     );
     assert_eq!(verdict(&answer), (9, 1, 1));
     assert_eq!(list, [0, 0, LENT, LENT]);
-    assert_eq!((answer.state.steps, answer.state.total), (1, 5));
-    assert_eq!((answer.state.queue[0], answer.state.held[0]), (2, 3));
+    assert_eq!((answer.state.steps, answer.state.total), (1, 4));
+    assert_eq!((answer.state.queue[0], answer.state.held[0]), (1, 3));
 }
 
 #[test]

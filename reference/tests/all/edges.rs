@@ -86,13 +86,16 @@ fn the_three_steps_one_by_one() {
 }
 
 #[test]
-fn release_equal_to_queue_passes_and_one_more_is_9() {
+fn release_equal_to_queue_and_arrivals_passes_and_one_more_is_9() {
     let reading = read(&record_of(EXAMPLE));
-    let mut state = reading.state;
-    state.queue[1] = 300;
-    assert_eq!(step(reading.road, state, &[0, 0, 0, 500, 300]).number, 0);
-    let over = step(reading.road, state, &[0, 0, 0, 500, 301]);
-    assert_eq!((over.number, over.place, over.state), (9, 2, state));
+    for queue in [0, 300] {
+        let mut state = reading.state;
+        state.queue[1] = queue;
+        let passed = step(reading.road, state, &[0, 0, 0, 500, queue + 500]);
+        assert_eq!((passed.number, passed.state.queue[1]), (0, 0));
+        let over = step(reading.road, state, &[0, 0, 0, 500, queue + 501]);
+        assert_eq!((over.number, over.place, over.state), (9, 2, state));
+    }
 }
 
 #[test]

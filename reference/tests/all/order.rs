@@ -16,7 +16,7 @@ fn spoilt() -> Draft {
     draft.gate_queue = 1_000_000_001;
     draft.cells[0].held = 8_001;
     draft.cells[1].b = 1;
-    draft.rows[0][4] = 1_501;
+    draft.rows[0][4] = 2_001;
     draft.rows[1][0] = 1_000_001;
     draft.rows[1][4] = 1_001;
     draft.rows[2][1] = 1;

@@ -73,13 +73,14 @@ fn random_road(dice: &mut Dice) -> Draft {
 fn fitting_row(dice: &mut Dice, road: &Road, state: &State) -> Vec<u32> {
     let mut row = vec![dice.any_size(1_000_000)];
     for cell in 1..=road.n {
-        let most = supply(road, state, cell).min(u64::from(state.queue[cell - 1]));
         let with_ramp = road.ramp[cell - 1] == 1;
-        row.push(if with_ramp {
-            dice.any_size(1_000_000)
-        } else {
-            0
-        });
+        let arriving = match with_ramp {
+            true => dice.any_size(1_000_000),
+            false => 0,
+        };
+        row.push(arriving);
+        let waiting = u64::from(state.queue[cell - 1]) + u64::from(arriving);
+        let most = supply(road, state, cell).min(waiting);
         row.push(match (with_ramp, dice.upto(3)) {
             (false, _) => 0,
             (true, 0) => most as u32,

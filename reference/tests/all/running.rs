@@ -49,8 +49,8 @@ fn refusals_of_reading_write_nothing() {
 
 #[test]
 fn after_9_the_earlier_rows_stay() {
-    // Ramp queue 1700 before step 1, 1900 before step 2.
-    for (refused_at, release) in [(0, 1501), (1, 1701), (2, 1901)] {
+    // Ramp queue 1700 before step 1, 1900 before step 2; 500 arrive in each.
+    for (refused_at, release) in [(0, 2001), (1, 2201), (2, 2401)] {
         let mut draft = example_draft();
         draft.rows[refused_at][4] = release;
         let record = draft.encode();
@@ -87,7 +87,7 @@ fn refusal_lines() {
     let mut draft = example_draft();
     draft.rows[2][4] = 1_001;
     assert_eq!(printed_run(&draft.encode()), "refused 10 2 2\n");
-    draft.rows[1][4] = 1_701;
+    draft.rows[1][4] = 2_201;
     assert_eq!(printed_run(&draft.encode()), "refused 9 1 2\n");
     draft.rows[1][0] = 1_000_001;
     assert_eq!(printed_run(&draft.encode()), "refused 6 0 1\n");

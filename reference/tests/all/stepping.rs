@@ -204,17 +204,19 @@ fn refusals_9_and_10_at_the_lowest_cell() {
     assert_eq!(with(|x| x.row[2] = 11), (9, 1));
     assert_eq!(with(|x| x.row[4] = 1_000), (0, 0));
     assert_eq!(with(|x| x.row[4] = 1_001), (10, 2));
-    // Above both: 9 comes first.
-    assert_eq!(with(|x| x.row[4] = 1_701), (9, 2));
+    // Above both, 500 arrive at cell 2: 9 comes first.
+    assert_eq!(with(|x| x.row[4] = 2_200), (10, 2));
+    assert_eq!(with(|x| x.row[4] = 2_201), (9, 2));
     // 10 at cell 1 comes before 9 at cell 2.
     let both = |x: &mut Input| {
         x.state.queue[0] = 5_000;
         x.row[2] = 1_359;
-        x.row[4] = 1_701;
+        x.row[4] = 2_201;
     };
     assert_eq!(with(both), (10, 1));
-    // This step's arrivals don't help a release.
-    assert_eq!(with(|x| (x.row[1], x.row[2]) = (500, 11)), (9, 1));
+    // This step's arrivals may be released too, those of others may not.
+    assert_eq!(with(|x| (x.row[1], x.row[2]) = (500, 510)), (0, 0));
+    assert_eq!(with(|x| (x.row[1], x.row[2]) = (500, 511)), (9, 1));
 }
 
 #[test]

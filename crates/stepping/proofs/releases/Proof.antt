@@ -13,24 +13,29 @@ Inv-loop row r s n i₀ i = Fitted r s row i
 abbrev μ-loop : tie.MeasureT-loop
 μ-loop row r s n i₀ i = r .n - i
 
--- the arguments, from the loop's place; a turn's start, from its supply; and the supply, from the refusal
+-- the arguments, from the loop's place; a turn's start, from its supply; the supply, from the most; and the most, from the refusal
 abbrev A : tie.At-loop Inv-loop μ-loop → tie.Start Inv-loop μ-loop
 A c = c .before .before
 
 abbrev In : tie.After-supply Inv-loop μ-loop → tie.In-loop Inv-loop μ-loop
 In c = c .before .before .before .before .before
 
-abbrev Supply : tie.After-release-refusal Inv-loop μ-loop → tie.After-supply Inv-loop μ-loop
+abbrev Supply : tie.After-most-release Inv-loop μ-loop → tie.After-supply Inv-loop μ-loop
 Supply c = c .before .before .before
 
+abbrev Most : tie.After-release-refusal Inv-loop μ-loop → tie.After-most-release Inv-loop μ-loop
+Most c = c .before .before
+
 turn : (c : tie.After-release-refusal Inv-loop μ-loop) →
-    let l = In (Supply c) .before in
+    let m = Most c in
+    let l = In (Supply m) .before in
     let a = A l .args in
-    Turn (a .t1) (a .t2) (a .row .now) (l .loop .i) (Supply c .supply .result) (refusalNumber (c .release-refusal .result))
+    Turn (a .t1) (a .t2) (a .row .now) (l .loop .i) (Supply m .supply .result) (m .most-release .result) (refusalNumber (c .release-refusal .result))
 turn c = record {
-  fitted = In (Supply c) .before .loop .inv;
-  left = In (Supply c) .loop-test .taken;
-  supplied = Supply c .supply .ensures;
+  fitted = In (Supply (Most c)) .before .loop .inv;
+  left = In (Supply (Most c)) .loop-test .taken;
+  supplied = Supply (Most c) .supply .ensures;
+  there = Most c .most-release .ensures;
   number = c .release-refusal .ensures;
 }
 
@@ -64,6 +69,27 @@ element-copy-out-supply-4 c = search needs
 supply-requires : tie.Need-supply-requires Inv-loop μ-loop
 supply-requires c κs = search needs
 
+mul-most-release : tie.Need-mul-most-release Inv-loop μ-loop
+mul-most-release c = search needs
+
+element-copy-out-most-release : tie.Need-element-copy-out-most-release Inv-loop μ-loop
+element-copy-out-most-release c = search needs
+
+mul-most-release-2 : tie.Need-mul-most-release-2 Inv-loop μ-loop
+mul-most-release-2 c = search needs
+
+add-most-release : tie.Need-add-most-release Inv-loop μ-loop
+add-most-release c = search needs
+
+mul-most-release-3 : tie.Need-mul-most-release-3 Inv-loop μ-loop
+mul-most-release-3 c = search needs
+
+shared-slice-read-most-release : tie.Need-shared-slice-read-most-release Inv-loop μ-loop
+shared-slice-read-most-release c = search needs
+
+most-release-requires : tie.Need-most-release-requires Inv-loop μ-loop
+most-release-requires c κs = search needs
+
 mul-release-refusal : tie.Need-mul-release-refusal Inv-loop μ-loop
 mul-release-refusal c = search needs
 
@@ -76,20 +102,14 @@ mul-release-refusal-2 c = search needs
 shared-slice-read-release-refusal : tie.Need-shared-slice-read-release-refusal Inv-loop μ-loop
 shared-slice-read-release-refusal c = search needs
 
-mul-release-refusal-3 : tie.Need-mul-release-refusal-3 Inv-loop μ-loop
-mul-release-refusal-3 c = search needs
-
-element-copy-out-release-refusal : tie.Need-element-copy-out-release-refusal Inv-loop μ-loop
-element-copy-out-release-refusal c = search needs
-
 release-refusal-requires : tie.Need-release-refusal-requires Inv-loop μ-loop
 release-refusal-requires c κs = search needs
 
 number-requires : tie.Need-number-requires Inv-loop μ-loop
 number-requires c κs = search needs
 
-add-t31 : tie.Need-add-t31 Inv-loop μ-loop
-add-t31 c = search needs
+add-t33 : tie.Need-add-t33 Inv-loop μ-loop
+add-t33 c = search needs
 
 returns : tie.Need-returns Inv-loop μ-loop
 returns c = let m = c .before in fitted-fault (turn (m .before)) (λ z. c .if1 .taken (m .number .ensures ∙ z))
@@ -122,15 +142,20 @@ releases-spec =
     mul-supply-4
     element-copy-out-supply-4
     supply-requires
+    mul-most-release
+    element-copy-out-most-release
+    mul-most-release-2
+    add-most-release
+    mul-most-release-3
+    shared-slice-read-most-release
+    most-release-requires
     mul-release-refusal
     add-release-refusal
     mul-release-refusal-2
     shared-slice-read-release-refusal
-    mul-release-refusal-3
-    element-copy-out-release-refusal
     release-refusal-requires
     number-requires
-    add-t31
+    add-t33
     returns
     add-i
     loop-less

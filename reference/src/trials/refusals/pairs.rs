@@ -56,33 +56,33 @@ const FIELDS: [Change; 14] = [
     |d| (d.rows[1][4], d.rows[2][0]) = (1, 1_000_001),
     |d| (d.rows[1][4], d.rows[1][0]) = (1, 1_000_001),
     // 9 at step 0, 6 at step 2.
-    |d| (d.rows[0][2], d.rows[2][3]) = (701, 1),
+    |d| (d.rows[0][2], d.rows[2][3]) = (781, 1),
 ];
 
-/// Cells 1 and 3 have queues of 700. The supply of cell 1 is 1500, that of
-/// cell 3 is 500, before step 0.
+/// Cells 1 and 3 have queues of 700, and 80 and 90 arrive there. The supply of
+/// cell 1 is 1500, that of cell 3 is 500, before step 0.
 const RELEASES: [Change; 12] = [
     // 9 and 10 at one cell: 9.
     |d| d.rows[0][2] = 1_501,
-    |d| d.rows[0][6] = 701,
+    |d| d.rows[0][6] = 791,
     // 9 at cell 1, 10 at cell 3.
-    |d| (d.rows[0][2], d.rows[0][6]) = (701, 501),
+    |d| (d.rows[0][2], d.rows[0][6]) = (781, 501),
     // 10 at cell 1, 9 at cell 3.
-    |d| (d.cells[0].queue, d.rows[0][2], d.rows[0][6]) = (5_000, 1_501, 701),
+    |d| (d.cells[0].queue, d.rows[0][2], d.rows[0][6]) = (5_000, 1_501, 791),
     // 9 and 9, 10 and 10.
-    |d| (d.rows[0][2], d.rows[0][6]) = (701, 701),
+    |d| (d.rows[0][2], d.rows[0][6]) = (781, 791),
     |d| {
         (d.cells[0].queue, d.rows[0][2]) = (5_000, 1_501);
         d.rows[0][6] = 501;
     },
     // At two steps, in either order of number and cell.
-    |d| (d.rows[0][6], d.rows[1][2]) = (701, 900_000),
-    |d| (d.rows[0][2], d.rows[1][6]) = (701, 900_000),
+    |d| (d.rows[0][6], d.rows[1][2]) = (791, 900_000),
+    |d| (d.rows[0][2], d.rows[1][6]) = (781, 900_000),
     |d| (d.rows[1][6], d.rows[2][2]) = (900_000, 900_000),
     |d| (d.cells[2].queue, d.rows[1][6], d.rows[2][2]) = (5_000, 3_000, 900_000),
     |d| (d.cells[0].queue, d.rows[1][2], d.rows[2][6]) = (5_000, 3_000, 900_000),
     // Two refusals that only the second cell has.
-    |d| (d.rows[0][2], d.rows[0][6], d.cells[2].held) = (700, 701, 8_000),
+    |d| (d.rows[0][2], d.rows[0][6], d.cells[2].held) = (780, 791, 8_000),
 ];
 
 /// 11 and 12 beside 1, 5, 6, 9, 10, 13 and 14.
@@ -92,7 +92,7 @@ fn lengths(cases: &mut Cases) {
         |d| d.length = Some(0),
         |d| d.cells[2].v = 1_001,
         |d| d.rows[2][3] = 1,
-        |d| d.rows[0][2] = 701,
+        |d| d.rows[0][2] = 781,
         |d| (d.cells[0].queue, d.rows[0][2]) = (5_000, 1_501),
     ];
     for change in changes {

@@ -11,13 +11,15 @@ pub fn add(cases: &mut Cases) {
     lists(cases);
 }
 
-/// A small queue stays below the supply: after t steps it is 400 + 200 t.
+/// After t steps the queue is 100 + 200 t, and 500 arrive in each step. The
+/// supply is 1000: what may be released reaches it in step 2.
 fn queues(cases: &mut Cases) {
     for step in 0..3 {
-        let queue = 400 + 200 * step as u32;
-        for release in [queue - 1, queue, queue + 1, 1_000, 1_001] {
+        let queue = 100 + 200 * step as u32;
+        let most = queue + 500;
+        for release in [queue, queue + 1, most - 1, most, most + 1, 1_001] {
             let mut draft = samples::printed();
-            draft.cells[1].queue = 400;
+            draft.cells[1].queue = 100;
             draft.rows[step][4] = release;
             cases.draft(&draft);
         }
@@ -25,11 +27,11 @@ fn queues(cases: &mut Cases) {
 }
 
 /// The supply of cell 2 is 1000 in every state of the printed run; the queue
-/// is 1500, 1700 and 1900. Above both it is 9.
+/// and the arrivals are 2000, 2200 and 2400. Above both it is 9.
 fn supplies(cases: &mut Cases) {
     for step in 0..3 {
-        let queue = 1_500 + 200 * step as u32;
-        for release in [1_000, 1_001, queue, queue + 1, 1_000_000] {
+        let most = 2_000 + 200 * step as u32;
+        for release in [1_000, 1_001, most, most + 1, 1_000_000] {
             let mut draft = samples::printed();
             draft.rows[step][4] = release;
             cases.draft(&draft);
@@ -37,14 +39,19 @@ fn supplies(cases: &mut Cases) {
     }
 }
 
-/// A queue of 0 releases nothing, though as much arrives in the same step.
+/// An empty ramp releases what arrives in the same step and nothing else: not
+/// what arrives at the gate (900) or at the ramp before it (700).
 fn empty_ramp(cases: &mut Cases) {
-    for release in [0, 1] {
-        let mut draft = samples::printed();
-        draft.cells[1].queue = 0;
-        draft.rows = vec![vec![0, 0, 0, 500, release]];
-        draft.steps = 1;
-        cases.draft(&draft);
+    for (arrivals, release) in [(0, 0), (0, 1), (1, 1), (500, 500), (500, 501), (500, 700)] {
+        for step in 0..2 {
+            let mut draft = samples::printed();
+            (draft.cells[0].ramp, draft.cells[0].queue) = (1, 600);
+            draft.cells[1].queue = 0;
+            draft.rows = vec![vec![900, 700, 0, 0, 0], vec![900, 700, 0, 0, 0]];
+            draft.rows[step][3..].copy_from_slice(&[arrivals, release]);
+            draft.steps = 2;
+            cases.draft(&draft);
+        }
     }
 }
 
