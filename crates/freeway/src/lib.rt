@@ -4,6 +4,7 @@ pub use flow::entering;
 pub use flow::gate_demand;
 pub use flow::onward;
 pub use flow::outflow;
+pub use flow::outflow_by_halves;
 pub use flow::room;
 pub use flow::supply;
 pub use judging::judge;
