@@ -72,8 +72,11 @@ pub struct Start {
 pub struct State {
     /// Steps done.
     pub steps: usize,
-    /// Total time spent, in part-steps.
-    pub total: u64,
+    /// Sums over the steps done, in part-steps: of the gate queue, of the held
+    /// counts and of the ramp queues after each step.
+    pub gate_time: u64,
+    pub road_time: u64,
+    pub ramp_time: u64,
     pub gate_queue: u32,
     /// The gate's cumulative outflow.
     pub gate_f: u32,
@@ -89,7 +92,9 @@ impl State {
     pub const fn empty() -> State {
         State {
             steps: 0,
-            total: 0,
+            gate_time: 0,
+            road_time: 0,
+            ramp_time: 0,
             gate_queue: 0,
             gate_f: 0,
             held: [0; Road::MAX_CELLS],
@@ -115,6 +120,14 @@ impl State {
             held: self.held,
             queue: self.queue,
         }
+    }
+
+    /// Total time spent: the three times together, for any state.
+    pub fn total(&self) -> u128 {
+        [self.gate_time, self.road_time, self.ramp_time]
+            .map(u128::from)
+            .iter()
+            .sum()
     }
 
     /// Cumulative outflow F of a place.
@@ -187,13 +200,20 @@ pub fn supply(road: &Road, state: &State, cell: usize) -> u64 {
 }
 
 /// Gate queue, held counts and ramp queues together.
+pub fn present(road: &Road, state: &State) -> u64 {
+    u64::from(state.gate_queue) + all_held(road, state) + all_queues(road, state)
+}
+
+/// All held counts.
 ///
 /// The document adds them by halves; whole numbers add up the same in any order.
-pub fn present(road: &Road, state: &State) -> u64 {
-    let cells: u64 = (0..road.n)
-        .map(|i| u64::from(state.held[i]) + u64::from(state.queue[i]))
-        .sum();
-    u64::from(state.gate_queue) + cells
+pub fn all_held(road: &Road, state: &State) -> u64 {
+    state.held[..road.n].iter().copied().map(u64::from).sum()
+}
+
+/// All ramp queues.
+pub fn all_queues(road: &Road, state: &State) -> u64 {
+    state.queue[..road.n].iter().copied().map(u64::from).sum()
 }
 
 /// What has left by off-ramps: over the cells, F less the onward total.

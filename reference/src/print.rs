@@ -25,11 +25,7 @@ pub fn printed_run(record: &[u8]) -> String {
         state = step::advance(&reading.road, &state, &row, flows);
         print_step(&mut out, &state, t, flows);
     }
-    let exits = model::exits(&answer.road, &answer.state);
-    put(
-        &mut out,
-        format_args!("total {} exits {}\n", answer.state.total, exits),
-    );
+    put(&mut out, format_args!("{}\n", sums(&answer)));
     out
 }
 
@@ -56,8 +52,20 @@ pub fn judgement_line(answer: &Answer) -> String {
     if answer.number != 0 {
         return refusal_line(answer);
     }
+    format!("accepted {}\n", sums(answer))
+}
+
+/// The total with its three parts, and the exits.
+fn sums(answer: &Answer) -> String {
+    let State {
+        gate_time,
+        road_time,
+        ramp_time,
+        ..
+    } = answer.state;
+    let total = answer.state.total();
     let exits = model::exits(&answer.road, &answer.state);
-    format!("accepted total {} exits {exits}\n", answer.state.total)
+    format!("total {total} gate {gate_time} road {road_time} ramp {ramp_time} exits {exits}")
 }
 
 /// `refused`, number, step and place.

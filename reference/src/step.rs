@@ -61,7 +61,7 @@ fn state_fits(road: &Road, state: &State) -> bool {
     limits::gate_queue_fits(state)
         && (1..=road.n).all(|cell| limits::cell_counts_fit(road, state, cell))
         && (0..=road.n).all(|place| state.cumulative(place) <= f_bound)
-        && state.total <= MAX_TOTAL_A_STEP * s
+        && state.total() <= u128::from(MAX_TOTAL_A_STEP * s)
 }
 
 /// Refusals 9 and 10: at the lowest cell with either, 9 before 10. What arrives
@@ -121,7 +121,9 @@ pub fn advance(road: &Road, state: &State, row: &[u32], outflows: &[u32]) -> Sta
         next.f[i] += outflows[cell];
     }
     next.steps += 1;
-    next.total += model::present(road, &next);
+    next.gate_time += u64::from(next.gate_queue);
+    next.road_time += model::all_held(road, &next);
+    next.ramp_time += model::all_queues(road, &next);
     next
 }
 

@@ -10,13 +10,15 @@ fn ended(out: &mut [u8], at: usize) -> usize {
     text::put(out, at, b"\n")
 }
 
-// Number, step, place and sums of an answer.
+// Number, step, place, total and sums of an answer.
 fn answer(out: &mut [u8], at: usize, answer: Ended) -> usize {
     let refusal = answer.refusal;
     let mut next = text::word(out, at, b" ", refusal.number() as u64);
     next = text::word(out, next, b" ", answer.step as u64);
     next = text::word(out, next, b" ", answer.place as u64);
-    text::sums(out, next, answer.road, answer.state)
+    let state = answer.state;
+    next = text::word(out, next, b" total ", state.total());
+    text::sums(out, next, answer.road, state)
 }
 
 pub fn of_reading(out: &mut [u8], at: usize, reading: Reading) -> usize {

@@ -33,9 +33,11 @@ pub fn word(out: &mut [u8], at: usize, label: &[u8], value: u64) -> usize {
     number(out, next, value)
 }
 
-// Total, exits, present and digest.
+// Gate, road and ramp time, exits, present and digest.
 pub fn sums(out: &mut [u8], at: usize, road: Road, state: State) -> usize {
-    let mut next = word(out, at, b" total ", state.total);
+    let mut next = word(out, at, b" gate ", state.gate_time);
+    next = word(out, next, b" road ", state.road_time);
+    next = word(out, next, b" ramp ", state.ramp_time);
     next = word(out, next, b" exits ", freeway::exits(road, state));
     next = word(out, next, b" present ", freeway::present(road, state));
     word(out, next, b" digest ", digest::of(road, state) as u64)

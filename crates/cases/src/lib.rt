@@ -93,9 +93,9 @@ fn step_line(bytes: &[u8], row: &[u32], out: &mut [u8], at: usize) -> Case {
     case::whole(line::of_step(out, at, road, stepped))
 }
 
-// The road and the state take 1,820 bytes.
+// The road and the state take 1,836 bytes.
 fn step(record: &mut [u8], list: &mut [u32], out: &mut [u8], at: usize) -> Case {
-    let mut bytes = [0u8; 1820];
+    let mut bytes = [0u8; 1836];
     if !input::fills(&mut bytes) {
         return case::cut();
     }

@@ -52,7 +52,9 @@ fn fed_road(digest: u32, road: Road) -> u32 {
 
 fn fed_state(digest: u32, state: State) -> u32 {
     let mut d = fed(digest, low(state.done as u64));
-    d = fed_long(d, state.total);
+    d = fed_long(d, state.gate_time);
+    d = fed_long(d, state.road_time);
+    d = fed_long(d, state.ramp_time);
     d = fed(d, state.gate_queue);
     d = fed(d, state.gate_cumulative);
     let mut i = 0;

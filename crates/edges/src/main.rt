@@ -146,7 +146,8 @@ fn places(before: State, after: State) {
     );
 }
 
-// One step, printed: refusal, place, the places' numbers, present, total and exits. The next state is returned.
+// One step, printed: refusal, place, the places' numbers, present, its parts on the road and at the ramps, total, gate, road and ramp time,
+// and exits. The next state is returned.
 fn stepped(label: &[u8], road: Road, before: State, numbers: &[u32]) -> State {
     let answer = freeway::step(road, before, numbers);
     let refusal = answer.refusal;
@@ -156,7 +157,12 @@ fn stepped(label: &[u8], road: Road, before: State, numbers: &[u32]) -> State {
     word(answer.place as u64);
     places(before, after);
     word(freeway::present(road, after));
-    word(after.total);
+    word(freeway::on_road(road, after));
+    word(freeway::at_ramps(road, after));
+    word(after.total());
+    word(after.gate_time);
+    word(after.road_time);
+    word(after.ramp_time);
     word(freeway::exits(road, after));
     io::write_all(1, b"\n");
     after
@@ -205,6 +211,16 @@ fn done(label: &[u8], steps: usize) {
     stepped(label, printed_road(), late, &row(300));
 }
 
+// And from one after a step with these times.
+fn times(label: &[u8], gate: u64, on_road: u64, ramp: u64) {
+    let mut late = start(1500);
+    late.done = 1;
+    late.gate_time = gate;
+    late.road_time = on_road;
+    late.ramp_time = ramp;
+    stepped(label, printed_road(), late, &row(300));
+}
+
 fn cells(label: &[u8], n: usize) {
     let mut road = printed_road();
     road.n = n;
@@ -218,6 +234,14 @@ fn limits() {
     done(b"steps done 1439:", 1439);
     done(b"steps done 1440:", 1440);
     done(b"steps done 1441:", 1441);
+    times(
+        b"times 100000000000 and 100000000000 after a step:",
+        100000000000,
+        100000000000,
+        0,
+    );
+    times(b"and 1 more at the ramps:", 100000000000, 100000000000, 1);
+    times(b"times that wrap to 0:", 18446744073709551615, 1, 0);
     cells(b"65 cells:", 65);
     cells(b"0 cells:", 0);
     stepped(

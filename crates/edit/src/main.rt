@@ -32,7 +32,7 @@ fn shown(bytes: &[u8], release: u32) {
     show(b"bytes ", bytes.len() as u64);
     show(b" release ", release as u64);
     let state = ended.state;
-    show(b" total ", state.total);
+    show(b" total ", state.total());
     show(b" exits ", freeway::exits(ended.road, state));
     io::write_all(1, b"\n");
 }

@@ -108,16 +108,18 @@ pub fn road(bytes: &[u8]) -> Road {
     }
 }
 
-// The state after the road: steps done, total, the gate's queue and F, then held, queue and F by cell.
+// The state after the road: steps done, gate, road and ramp time, the gate's queue and F, then held, queue and F by cell.
 pub fn state(bytes: &[u8]) -> State {
-    let held = column(bytes, 1052, 12);
-    let queue = column(bytes, 1056, 12);
-    let cumulative = column(bytes, 1060, 12);
+    let held = column(bytes, 1068, 12);
+    let queue = column(bytes, 1072, 12);
+    let cumulative = column(bytes, 1076, 12);
     State {
         done: number(bytes, 1032) as usize,
-        total: long(bytes, 1036),
-        gate_queue: number(bytes, 1044),
-        gate_cumulative: number(bytes, 1048),
+        gate_time: long(bytes, 1036),
+        road_time: long(bytes, 1044),
+        ramp_time: long(bytes, 1052),
+        gate_queue: number(bytes, 1060),
+        gate_cumulative: number(bytes, 1064),
         held: held,
         queue: queue,
         cumulative: cumulative,

@@ -29,12 +29,20 @@ decimalOf n = digitsOf 20 n
 abbrev pub wordOf : ℕ → ℕ → List ℕ
 wordOf n after = decimalOf n ++ (after ∷ [])
 
+-- a name, a number and the byte after it
+abbrev pub namedOf : List ℕ → ℕ → ℕ → List ℕ
+namedOf name n after = name ++ wordOf n after
+
 -- how long a word may be, and a line: it has at most five words
 abbrev pub mostWord : ℕ
 mostWord = 21
 
 abbrev pub mostLine : ℕ
 mostLine = 105
+
+-- and the last line: five words and 27 bytes of their names
+abbrev pub mostLast : ℕ
+mostLast = mostLine + 27
 
 -- `step place outflow held queue`
 unfoldable pub headerLine : List ℕ
@@ -59,6 +67,18 @@ linesOf step y s n = lineOf step 0 (at y 0) (s .«gate_queue») 0 ++ cellLines s
 abbrev pub totalWord : List ℕ
 totalWord = 116 ∷ 111 ∷ 116 ∷ 97 ∷ 108 ∷ 32 ∷ []
 
+-- `gate `
+abbrev pub gateWord : List ℕ
+gateWord = 103 ∷ 97 ∷ 116 ∷ 101 ∷ 32 ∷ []
+
+-- `road `
+abbrev pub roadWord : List ℕ
+roadWord = 114 ∷ 111 ∷ 97 ∷ 100 ∷ 32 ∷ []
+
+-- `ramp `
+abbrev pub rampWord : List ℕ
+rampWord = 114 ∷ 97 ∷ 109 ∷ 112 ∷ 32 ∷ []
+
 -- `exits `
 abbrev pub exitsWord : List ℕ
 exitsWord = 101 ∷ 120 ∷ 105 ∷ 116 ∷ 115 ∷ 32 ∷ []
@@ -67,9 +87,11 @@ exitsWord = 101 ∷ 120 ∷ 105 ∷ 116 ∷ 115 ∷ 32 ∷ []
 abbrev pub refusedWord : List ℕ
 refusedWord = 114 ∷ 101 ∷ 102 ∷ 117 ∷ 115 ∷ 101 ∷ 100 ∷ 32 ∷ []
 
--- the last line is `total`, the total time spent, `exits` and the exits
-unfoldable pub totalLine : ℕ → ℕ → List ℕ
-totalLine total exits = totalWord ++ (wordOf total blank ++ (exitsWord ++ wordOf exits newline))
+-- the last line is `total` and the total time spent, `gate`, `road` and `ramp` with their times, `exits` and the exits
+unfoldable pub totalLine : ℕ → ℕ → ℕ → ℕ → ℕ → List ℕ
+totalLine total gate road ramp exits =
+    namedOf totalWord total blank
+    ++ (namedOf gateWord gate blank ++ (namedOf roadWord road blank ++ (namedOf rampWord ramp blank ++ namedOf exitsWord exits newline)))
 
 -- a refusal prints only `refused`, number, step, place
 unfoldable pub refusedLine : ℕ → ℕ → ℕ → List ℕ

@@ -13,7 +13,8 @@ use Rattle.io.specs.Digits.{digits, Fewest}
 use Rattle.road.specs.declared.State.{State}
 use Rattle.numbers.specs.Lists.{at}
 use Rattle.rows.specs.Placed.{Puts, placed-none, puts-more, Room, room, room-more, Text, text-room}
-use Rattle.listing.specs.Listing.{blank, newline, mostWord, mostLine, digitsOf, decimalOf, wordOf, totalWord, exitsWord, refusedWord}
+use Rattle.listing.specs.Listing.{blank, newline, mostWord, mostLine, mostLast, digitsOf, decimalOf, wordOf, namedOf, refusedWord}
+use Rattle.listing.specs.Listing.{totalWord, gateWord, roadWord, rampWord, exitsWord}
 use Rattle.listing.specs.Listing.{headerLine, lineOf, cellLines, linesOf, totalLine, refusedLine}
 
 one-or-more : (b : Bool) (x y : ℕ) (front : List ℕ) (most : ℕ) → length front ≤ most → length (cond b (x ∷ []) (front ++ (y ∷ []))) ≤ suc most
@@ -78,6 +79,22 @@ pub data Word (a : List ℕ) (start n after : ℕ) (b : List ℕ) (m : ℕ) : Ty
 pub word-room : {a : List ℕ} {start n after : ℕ} {b : List ℕ} {m : ℕ} → Word a start n after b m → Room a start b m mostWord
 word-room {a} {start} {n} {after} {b} {m} (Word.put p) = room a start (wordOf n after) b m mostWord p (word-length n after)
 
+-- the same of a name and a number
+pub data Named (a : List ℕ) (start : ℕ) (name : List ℕ) (n after : ℕ) (b : List ℕ) (m : ℕ) : Type 0 where
+  put : Puts a start (namedOf name n after) b m → Named a start name n after b m
+
+named-length : (name : List ℕ) (n after : ℕ) → length (namedOf name n after) ≤ length name + mostWord
+named-length name n after = omega (arith, length-append name (wordOf n after), word-length n after)
+
+pub number-room : {a : List ℕ} {start : ℕ} {name : List ℕ} {n after : ℕ} {b : List ℕ} {m : ℕ} → Named a start name n after b m
+    → Room a start b m (length name + mostWord)
+number-room {a} {start} {name} {n} {after} {b} {m} (Named.put p) =
+    room a start (namedOf name n after) b m (length name + mostWord) p (named-length name n after)
+
+pub named-put : {a : List ℕ} {start : ℕ} {name : List ℕ} {n after : ℕ} {b : List ℕ} {p : ℕ} {c : List ℕ} {q : ℕ}
+    → Text a start name b p → Word b p n after c q → Puts a start (namedOf name n after) c q
+named-put {a} {start} {b = b} {p} {c} {q} (Text.put h) (Word.put i) = puts-more a start _ b p _ c q h i
+
 -- what is left after a text or a word, and a word
 module _ {a : List ℕ} {start n after : ℕ} {b : List ℕ} {m : ℕ} {c : List ℕ} {e : ℕ} where
   pub named-room : {x : List ℕ} → Text a start x b m → Word b m n after c e → Room a start c e (length x + mostWord)
@@ -141,18 +158,25 @@ pub header-room : (a : List ℕ) (start : ℕ) (b : List ℕ) (m : ℕ) → Puts
 unfolding headerLine
 header-room a start b m p = room a start headerLine b m mostLine p (omega arith)
 
-pub total-room : (a : List ℕ) (start total exits : ℕ) (b : List ℕ) (m : ℕ) → Puts a start (totalLine total exits) b m → Room a start b m mostLine
+pub total-room : (a : List ℕ) (start total gate road ramp exits : ℕ) (b : List ℕ) (m : ℕ) → Puts a start (totalLine total gate road ramp exits) b m
+    → Room a start b m mostLast
 unfolding totalLine
-total-room a start total exits b m p =
-    let d = exitsWord ++ wordOf exits newline in
-    let c = wordOf total blank ++ (exitsWord ++ wordOf exits newline) in
-    room a start (totalLine total exits) b m mostLine p (omega (
+total-room a start total gate road ramp exits b m p =
+    let e = namedOf exitsWord exits newline in
+    let d = namedOf rampWord ramp blank ++ e in
+    let c = namedOf roadWord road blank ++ d in
+    let g = namedOf gateWord gate blank ++ c in
+    room a start (totalLine total gate road ramp exits) b m mostLast p (omega (
       arith,
-      length-append totalWord c,
-      length-append (wordOf total blank) d,
-      length-append exitsWord (wordOf exits newline),
-      word-length total blank,
-      word-length exits newline,
+      length-append (namedOf totalWord total blank) g,
+      length-append (namedOf gateWord gate blank) c,
+      length-append (namedOf roadWord road blank) d,
+      length-append (namedOf rampWord ramp blank) e,
+      named-length totalWord total blank,
+      named-length gateWord gate blank,
+      named-length roadWord road blank,
+      named-length rampWord ramp blank,
+      named-length exitsWord exits newline,
     ))
 
 pub refused-room : (a : List ℕ) (start number step place : ℕ) (b : List ℕ) (m : ℕ) → Puts a start (refusedLine number step place) b m
@@ -180,11 +204,13 @@ module _ {a : List ℕ} {start : ℕ} {b : List ℕ} {p : ℕ} {c : List ℕ} {q
   line-put {f = f} {w = w} (Word.put h) (Word.put i) (Word.put j) (Word.put k) (Word.put l) =
       puts-more a start _ b p _ f w h (puts-more b p _ c q _ f w i (puts-more c q _ d u _ f w j (puts-more d u _ e v _ f w k l)))
 
-  pub total-put : {total exits : ℕ} → Text a start totalWord b p → Word b p total blank c q → Text c q exitsWord d u → Word d u exits newline e v
-      → Puts a start (totalLine total exits) e v
+  pub total-put : {total gate road ramp exits : ℕ} {f : List ℕ} {w : ℕ}
+      → Named a start totalWord total blank b p → Named b p gateWord gate blank c q → Named c q roadWord road blank d u
+      → Named d u rampWord ramp blank e v → Named e v exitsWord exits newline f w
+      → Puts a start (totalLine total gate road ramp exits) f w
   unfolding totalLine
-  total-put (Text.put h) (Word.put i) (Text.put j) (Word.put k) =
-      puts-more a start _ b p _ e v h (puts-more b p _ c q _ e v i (puts-more c q _ d u _ e v j k))
+  total-put {f = f} {w = w} (Named.put h) (Named.put i) (Named.put j) (Named.put k) (Named.put l) =
+      puts-more a start _ b p _ f w h (puts-more b p _ c q _ f w i (puts-more c q _ d u _ f w j (puts-more d u _ e v _ f w k l)))
 
   pub refused-put : {number step place : ℕ} → Text a start refusedWord b p → Word b p number blank c q → Word c q step blank d u → Word d u place newline e v
       → Puts a start (refusedLine number step place) e v

@@ -2,7 +2,7 @@
 use road::State;
 ghost use Prim.Native.Nat.{_+_, _*_, _≤_, _<_};
 ghost use lib.ListN.{length};
-ghost use Rattle.listing.specs.Listing.{mostWord, mostLine, wordOf, headerLine, lineOf, linesOf, totalLine, refusedLine};
+ghost use Rattle.listing.specs.Listing.{mostWord, mostLine, mostLast, wordOf, namedOf, headerLine, lineOf, linesOf, totalLine, refusedLine};
 ghost use Rattle.rows.specs.Placed.{Puts};
 
 // Copies a text into the buffer from `at` on, and gives the index after it.
@@ -86,15 +86,33 @@ pub fn header(buffer: &mut [u8], at: usize) -> usize
     put(buffer, at, b"step place outflow held queue\n")
 }
 
-// The last line.
-pub fn total(buffer: &mut [u8], at: usize, total: u64, exits: u64) -> usize
-    requires { ⌜ at + mostLine ≤ length (now buffer) ⌝ }
-    ensures { λ r. ⌜ Puts (now (buffer .entry)) at (totalLine total exits) (now (buffer .exit)) r ⌝ }
+// A name, a number in decimal and the byte after it.
+fn named(buffer: &mut [u8], at: usize, name: &[u8], n: u64, after: u8) -> usize
+    requires { ⌜ at + (length (now name) + mostWord) ≤ length (now buffer) ⌝ }
+    ensures { λ r. ⌜ Puts (now (buffer .entry)) at (namedOf (now (name .entry)) n after) (now (buffer .exit)) r ⌝ }
 {
-    let to_total = put(buffer, at, b"total ");
-    let to_exits = word(buffer, to_total, total, b' ');
-    let to_number = put(buffer, to_exits, b"exits ");
-    word(buffer, to_number, exits, b'\n')
+    let end = put(buffer, at, name);
+    word(buffer, end, n, after)
+}
+
+// The last line.
+pub fn total(
+    buffer: &mut [u8],
+    at: usize,
+    total: u64,
+    gate: u64,
+    road: u64,
+    ramp: u64,
+    exits: u64,
+) -> usize
+    requires { ⌜ at + mostLast ≤ length (now buffer) ⌝ }
+    ensures { λ r. ⌜ Puts (now (buffer .entry)) at (totalLine total gate road ramp exits) (now (buffer .exit)) r ⌝ }
+{
+    let to_gate = named(buffer, at, b"total ", total, b' ');
+    let to_road = named(buffer, to_gate, b"gate ", gate, b' ');
+    let to_ramp = named(buffer, to_road, b"road ", road, b' ');
+    let to_exits = named(buffer, to_ramp, b"ramp ", ramp, b' ');
+    named(buffer, to_exits, b"exits ", exits, b'\n')
 }
 
 // The only line of a refusal.

@@ -1,6 +1,6 @@
 -- No schedule is ahead of the greatest outflows: two states after the same arrivals and releases, kept so by every step, one by the
 -- greatest outflows on a road that is nowhere worse and the other by any row that obeys the rules. Assumes nothing.
-use mathlib.Core.Path.{_≡_, sym, _∙_, subst}
+use mathlib.Core.Path.{_≡_, refl, sym, _∙_, subst}
 use mathlib.Core.Logic.{⊎-elim}
 use mathlib.Core.List.{List}
 use Prim.Native.Nat.{ℕ, zero, suc, _+_, _-_, _≤_, _<_}
@@ -11,26 +11,28 @@ use Rattle.flow.specs.FlowLaws.{demand-wider, gate-demand-wider, supply-wider, 
 use Rattle.road.specs.declared.Road.{Road}
 use Rattle.road.specs.declared.State.{State}
 use Rattle.numbers.specs.Lists.{at}
+use Rattle.road.specs.Road.{totalOf}
 use Rattle.limits.specs.LimitsLaws.{RoadOk}
 use Rattle.model.specs.Places.{releaseAt, capacityAt, demandAt, supplyAt, roomAt, shareAt, cumulativeAt, onwardAt, enteringAt}
-use Rattle.model.specs.Move.{nextOf, totalOf}
+use Rattle.model.specs.Move.{nextOf}
 use Rattle.model.specs.Rules.{Obeys, Greatest, Sized}
-use Rattle.model.specs.MoveLaws.{next-gate-queue, next-held, next-queue, next-cumulative, next-onward, next-sized, next-total}
+use Rattle.model.specs.MoveLaws.{next-gate-queue, next-held, next-queue, next-cumulative, next-onward, next-sized, next-ramp-time, next-total}
 use Rattle.model.specs.RulesLaws.{demand-at-gate, demand-at-cell}
-use Rattle.model.specs.Roads.{Alike, Wider, Compared, alike-back, share-alike, onward-alike, present-alike, sized-alike}
-use Rattle.model.specs.Level.{Level, level-self, level-alike, onward-le, present-le}
+use Rattle.model.specs.Roads.{Alike, Wider, Compared, alike-back, share-alike, onward-alike, queue-alike, present-alike, sized-alike}
+use Rattle.model.specs.Level.{Level, level-self, level-alike, onward-le, queue-same, present-le}
 
--- level, and t's total is not smaller
+-- level, ramp times are equal, and t's total is not smaller
 pub record Behind (r : Road) (s t : State) : Type 0 where
   pub level : Level r s t
+  pub rampTime : s .«ramp_time» ≡ t .«ramp_time»
   pub total : totalOf s ≤ totalOf t
 
 -- a state is behind itself
 pub behind-self : (r : Road) (s : State) → Sized r s → Behind r s s
-behind-self r s z = record { level = level-self r s z; total = le-refl (totalOf s) }
+behind-self r s z = record { level = level-self r s z; rampTime = refl; total = le-refl (totalOf s) }
 
 pub behind-alike : (a b : Road) (s t : State) → Alike a b → Behind a s t → Behind b s t
-behind-alike a b s t e h = record { level = level-alike a b s t e (h .level); total = h .total }
+behind-alike a b s t e h = record { level = level-alike a b s t e (h .level); rampTime = h .rampTime; total = h .total }
 
 -- a is the road of t and of z, any row that obeys the rules; b, nowhere worse, that of s and of y, the greatest outflows
 module _ (a b : Road) (s t : State) (row y z : List ℕ) (okA : RoadOk a) (okB : RoadOk b) (wider : Wider a b)
@@ -160,6 +162,16 @@ module _ (a b : Road) (s t : State) (row y z : List ℕ) (okA : RoadOk a) (okB :
         );
   }
 
+  pub step-ramp-time : s .«ramp_time» ≡ t .«ramp_time» → S′ .«ramp_time» ≡ T′ .«ramp_time»
+  step-ramp-time h =
+      omega (
+        arith,
+        next-ramp-time b s row y,
+        next-ramp-time a t row z,
+        queue-alike a b (wider .alike) S′,
+        queue-same a S′ T′ okA step-level,
+      )
+
   pub step-total : totalOf s ≤ totalOf t → totalOf S′ ≤ totalOf T′
   step-total h =
       omega (
@@ -178,5 +190,6 @@ step-behind r a b s t row y z c own most ok before =
     record {
       level = level-alike a r (nextOf b s row y) (nextOf a t row z) (alike-back r a (c .alike))
           (step-level a b s t row y z (c .rival) (c .engine) (c .wider) own most ok h);
+      rampTime = step-ramp-time a b s t row y z (c .rival) (c .engine) (c .wider) own most ok h (before .rampTime);
       total = step-total a b s t row y z (c .rival) (c .engine) (c .wider) own most ok h (before .total);
     }

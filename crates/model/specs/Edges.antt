@@ -12,6 +12,7 @@ use Rattle.rows.specs.Rows.{fillOf, listOf}
 use Rattle.road.specs.declared.Road.{Road}
 use Rattle.road.specs.declared.State.{State}
 use Rattle.numbers.specs.Lists.{at}
+use Rattle.road.specs.Road.{totalOf}
 use Rattle.numbers.specs.First.{firstFrom, firstOf, firstFault}
 use Rattle.limits.specs.Limits.{placeOk, rowOk, frameOk, inputOk}
 use Rattle.model.specs.Places.{capacityAt, demandAt, mostReleaseAt, shareAt, cumulativeAt}
@@ -50,7 +51,9 @@ road = record {
 unfoldable pub start : State
 start = record {
   done = 0;
-  total = 0;
+  «gate_time» = 0;
+  «road_time» = 0;
+  «ramp_time» = 0;
   «gate_queue» = 3000;
   «gate_cumulative» = 0;
   held = 2000 ∷ 4000 ∷ past 62;
@@ -84,7 +87,9 @@ cell-line k i outflow held queue =
 unfoldable pub released : ℕ → ℕ → Answer
 released queue release = steppingOf road (record {
   done = 0;
-  total = 0;
+  «gate_time» = 0;
+  «road_time» = 0;
+  «ramp_time» = 0;
   «gate_queue» = 3000;
   «gate_cumulative» = 0;
   held = 2000 ∷ 4000 ∷ past 62;
@@ -129,7 +134,13 @@ run =
     ++ gate-line 2 1252 1890
     ++ cell-line 2 0 934 3309 0
     ++ cell-line 2 1 1000 4000 2100
-    ++ (edge (after 3 .total) 33098 ∷ edge (exitsOf road (after 3)) 3701 ∷ edge (after 3 .done) 3 ∷ [])
+    ++ (edge (totalOf (after 3)) 33098
+    ∷ edge (after 3 .«gate_time») 6532
+    ∷ edge (after 3 .«road_time») 20866
+    ∷ edge (after 3 .«ramp_time») 5700
+    ∷ edge (exitsOf road (after 3)) 3701
+    ∷ edge (after 3 .done) 3
+    ∷ [])
 
 pub record StarredEdges : Type 0 where
   -- the rules and the run with numbers

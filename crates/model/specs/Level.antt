@@ -13,7 +13,7 @@ use Rattle.road.specs.declared.State.{State}
 use Rattle.numbers.specs.Lists.{at}
 use Rattle.limits.specs.LimitsLaws.{RoadOk}
 use Rattle.model.specs.Places.{shareAt, cumulativeAt, onwardAt}
-use Rattle.model.specs.Move.{presentOf}
+use Rattle.model.specs.Move.{queueSum, presentOf}
 use Rattle.model.specs.Rules.{Sized}
 use Rattle.model.specs.RulesLaws.{share-gate, share-le, onward-last}
 use Rattle.model.specs.Roads.{Alike, onward-alike, sized-alike}
@@ -84,7 +84,7 @@ module _ (r : Road) (s t : State) (road : RoadOk r) (h : Level r s t) where
         sum-more k (t .held) (omega (arith, h .sizedT .held)),
       )
 
-  -- ramp queues together are equal
+  -- the first k ramp queues together are equal
   same-queues : (k : ℕ) → k ≤ r .n → sumOf (take k (s .queue)) ≡ sumOf (take k (t .queue))
   same-queues zero l = omega (arith, sum-start (s .queue), sum-start (t .queue))
   same-queues (suc k) l =
@@ -96,6 +96,9 @@ module _ (r : Road) (s t : State) (road : RoadOk r) (h : Level r s t) where
         sum-more k (t .queue) (omega (arith, h .sizedT .queue)),
       )
 
+  pub queue-same : queueSum r s ≡ queueSum r t
+  queue-same = same-queues (r .n) (le-refl (r .n))
+
   pub present-le : presentOf r s ≤ presentOf r t
   present-le =
-      omega (arith, prefix (r .n) (le-refl (r .n)), same-queues (r .n) (le-refl (r .n)), onward-last r road s, onward-last r road t)
+      omega (arith, prefix (r .n) (le-refl (r .n)), queue-same, onward-last r road s, onward-last r road t)

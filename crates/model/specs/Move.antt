@@ -1,4 +1,4 @@
--- docs/MODEL.md, 'One step': every place moved by a row of outflows, all quantities taken from the state before; present, total and exits.
+-- docs/MODEL.md, 'One step': every place moved by a row of outflows, all quantities taken from the state before; present, the three times and exits.
 -- Assumes nothing.
 use mathlib.Core.List.{List}
 use Prim.Native.Nat.{ℕ, _+_, _-_}
@@ -27,7 +27,9 @@ cumulativeOf s y i = at (s .cumulative) i + at y (i + 1)
 unfoldable pub movedTo : Road → State → List ℕ → List ℕ → ℕ → State
 movedTo r s row y n = record {
   done = s .done;
-  total = s .total;
+  «gate_time» = s .«gate_time»;
+  «road_time» = s .«road_time»;
+  «ramp_time» = s .«ramp_time»;
   «gate_queue» = s .«gate_queue» + gateArrivals row - at y 0;
   «gate_cumulative» = s .«gate_cumulative» + at y 0;
   held = fillOf (heldOf r s row y) n (s .held);
@@ -39,7 +41,7 @@ movedTo r s row y n = record {
 abbrev pub movedOf : Road → State → List ℕ → List ℕ → State
 movedOf r s row y = movedTo r s row y (r .n)
 
--- the vehicles on the road and at the ramps
+-- all held counts, and all ramp queues
 abbrev pub heldSum : Road → State → ℕ
 heldSum r s = sumOf (take (r .n) (s .held))
 
@@ -50,15 +52,13 @@ queueSum r s = sumOf (take (r .n) (s .queue))
 abbrev pub presentOf : Road → State → ℕ
 presentOf r s = s .«gate_queue» + heldSum r s + queueSum r s
 
--- total time spent
-abbrev pub totalOf : State → ℕ
-totalOf s = s .total
-
--- a step done, and present after it added to the total
+-- a step done: the gate queue after it goes into gate time, all held counts into road time, all ramp queues into ramp time
 unfoldable pub countedOf : Road → State → State
 countedOf r s = record {
   done = s .done + 1;
-  total = s .total + presentOf r s;
+  «gate_time» = s .«gate_time» + s .«gate_queue»;
+  «road_time» = s .«road_time» + heldSum r s;
+  «ramp_time» = s .«ramp_time» + queueSum r s;
   «gate_queue» = s .«gate_queue»;
   «gate_cumulative» = s .«gate_cumulative»;
   held = s .held;

@@ -10,8 +10,9 @@ use Rattle.rows.specs.RowsLaws.{fill-more, fill-at, fill-past, length-fill}
 use Rattle.road.specs.declared.Road.{Road}
 use Rattle.road.specs.declared.State.{State}
 use Rattle.numbers.specs.Lists.{at}
+use Rattle.road.specs.Road.{totalOf}
 use Rattle.model.specs.Places.{gateArrivals, arrivalsAt, releaseAt, shareAt, cumulativeAt, onwardAt, enteringAt}
-use Rattle.model.specs.Move.{heldOf, queueOf, cumulativeOf, movedTo, presentOf, totalOf, countedOf, nextOf}
+use Rattle.model.specs.Move.{heldOf, queueOf, cumulativeOf, movedTo, heldSum, queueSum, presentOf, countedOf, nextOf}
 use Rattle.model.specs.Rules.{Sized}
 
 module _ (r : Road) (s : State) (row y : List ℕ) where
@@ -20,10 +21,22 @@ module _ (r : Road) (s : State) (row y : List ℕ) where
   unfolding countedOf movedTo
   next-done = refl
 
-  -- the total grows by present after the step
-  pub next-total : totalOf (nextOf r s row y) ≡ totalOf s + presentOf r (nextOf r s row y)
+  -- each time grows by its part of present after the step
+  pub next-gate-time : nextOf r s row y .«gate_time» ≡ s .«gate_time» + nextOf r s row y .«gate_queue»
   unfolding countedOf movedTo
-  next-total = refl
+  next-gate-time = refl
+
+  pub next-road-time : nextOf r s row y .«road_time» ≡ s .«road_time» + heldSum r (nextOf r s row y)
+  unfolding countedOf movedTo
+  next-road-time = refl
+
+  pub next-ramp-time : nextOf r s row y .«ramp_time» ≡ s .«ramp_time» + queueSum r (nextOf r s row y)
+  unfolding countedOf movedTo
+  next-ramp-time = refl
+
+  -- and so the total by present
+  pub next-total : totalOf (nextOf r s row y) ≡ totalOf s + presentOf r (nextOf r s row y)
+  next-total = omega (arith, next-gate-time, next-road-time, next-ramp-time)
 
   -- the gate's queue grows by arrivals less outflow
   pub next-gate-queue : nextOf r s row y .«gate_queue» ≡ s .«gate_queue» + gateArrivals row - at y 0
@@ -78,12 +91,31 @@ pub counted-present : (r : Road) (s : State) → presentOf r (countedOf r s) ≡
 unfolding countedOf
 counted-present r s = refl
 
+-- a step counted, from the parts of present as they are found
+pub counted-is : (r : Road) (s : State) {gate held queues : ℕ} → gate ≡ s .«gate_queue» → held ≡ heldSum r s → queues ≡ queueSum r s
+    → _≡_ {A = State} (record {
+      done = s .done + 1;
+      «gate_time» = s .«gate_time» + gate;
+      «road_time» = s .«road_time» + held;
+      «ramp_time» = s .«ramp_time» + queues;
+      «gate_queue» = s .«gate_queue»;
+      «gate_cumulative» = s .«gate_cumulative»;
+      held = s .held;
+      queue = s .queue;
+      cumulative = s .cumulative;
+    })
+    (countedOf r s)
+unfolding countedOf
+counted-is r s g h q = rw (g, h, q)
+
 -- one more cell moved, as a loop over the cells does it
 pub moved-more : (r : Road) (s : State) (row y : List ℕ) (i : ℕ) (t : State) (enter : ℕ)
     → t ≡ movedTo r s row y i → enter ≡ enteringAt r s y i
     → _≡_ {A = State} (record {
       done = t .done;
-      total = t .total;
+      «gate_time» = t .«gate_time»;
+      «road_time» = t .«road_time»;
+      «ramp_time» = t .«ramp_time»;
       «gate_queue» = t .«gate_queue»;
       «gate_cumulative» = t .«gate_cumulative»;
       held = set (t .held) i (at (s .held) i + enter + releaseAt row i - at y (i + 1));

@@ -12,7 +12,7 @@ use Rattle.road.specs.declared.State.{State}
 use Rattle.numbers.specs.Lists.{at}
 use Rattle.limits.specs.LimitsLaws.{RoadOk, StateOk, RowOk}
 use Rattle.model.specs.Places.{capacityAt, shareAt, cumulativeAt, onwardAt}
-use Rattle.model.specs.Move.{presentOf}
+use Rattle.model.specs.Move.{heldSum, queueSum, presentOf}
 use Rattle.model.specs.Rules.{Sized}
 
 -- b has a's cells and onward shares
@@ -119,8 +119,14 @@ module _ (a b : Road) (h : Alike a b) where
   pub onward-alike : (s : State) (p : ℕ) → p ≤ a .n → onwardAt b s p ≡ onwardAt a s p
   onward-alike s p l = ap (λ (x : ℕ). onwardOf x (cumulativeAt s p)) (share-alike p l)
 
+  pub held-alike : (s : State) → heldSum b s ≡ heldSum a s
+  held-alike s = ap (λ (n : ℕ). sumOf (take n (s .held))) (h .n)
+
+  pub queue-alike : (s : State) → queueSum b s ≡ queueSum a s
+  queue-alike s = ap (λ (n : ℕ). sumOf (take n (s .queue))) (h .n)
+
   pub present-alike : (s : State) → presentOf b s ≡ presentOf a s
-  present-alike s = ap (λ (n : ℕ). s .«gate_queue» + sumOf (take n (s .held)) + sumOf (take n (s .queue))) (h .n)
+  present-alike s = omega (arith, held-alike s, queue-alike s)
 
   pub sized-alike : (s : State) → Sized a s → Sized b s
   sized-alike s z = record {

@@ -10,7 +10,7 @@ use Rattle.flow.specs.FlowLaws.{supply-capacity, room-supply}
 use Rattle.road.specs.declared.Road.{Road}
 use Rattle.road.specs.declared.State.{State}
 use Rattle.numbers.specs.Lists.{at}
-use Rattle.road.specs.Road.{mostCells, mostSteps, mostRate}
+use Rattle.road.specs.Road.{mostCells, mostSteps, mostRate, totalOf}
 use Rattle.rows.specs.Rows.{fillOf}
 use Rattle.limits.specs.Limits.{mostQueue, mostCumulative}
 use Rattle.limits.specs.LimitsLaws.{InputOk}
@@ -37,7 +37,7 @@ pub record Steppable (r : Road) (s : State) (row : List ℕ) : Type 0 where
 -- counting: another step and its present fit their numbers
 pub record Countable (r : Road) (s : State) : Type 0 where
   pub done : s .done < mostSteps
-  pub total : s .total < 2 ^ 63
+  pub total : totalOf s < 2 ^ 63
   pub present : presentOf r s < 2 ^ 63
 
 -- what holds when the loop over the cells has moved the first i of them
@@ -49,7 +49,9 @@ pub record Moved (r : Road) (s : State) (row y : List ℕ) (t : State) (entering
 pub moved-none : {r : Road} {s : State} {row y : List ℕ} {entering : ℕ} → entering ≡ enteringOf whole (s .«gate_cumulative») (at y 0)
     → Moved r s row y (record {
       done = s .done;
-      total = s .total;
+      «gate_time» = s .«gate_time»;
+      «road_time» = s .«road_time»;
+      «ramp_time» = s .«ramp_time»;
       «gate_queue» = s .«gate_queue» + gateArrivals row - at y 0;
       «gate_cumulative» = s .«gate_cumulative» + at y 0;
       held = s .held;
@@ -63,7 +65,9 @@ pub moved-cell : {r : Road} {s : State} {row y : List ℕ} {t : State} {entering
     → next ≡ enteringOf (at (r .share) i) (at (s .cumulative) i) (at y (i + 1))
     → Moved r s row y (record {
       done = t .done;
-      total = t .total;
+      «gate_time» = t .«gate_time»;
+      «road_time» = t .«road_time»;
+      «ramp_time» = t .«ramp_time»;
       «gate_queue» = t .«gate_queue»;
       «gate_cumulative» = t .«gate_cumulative»;
       held = set (t .held) i (at (s .held) i + entering + releaseAt row i - at y (i + 1));

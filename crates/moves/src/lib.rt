@@ -2,10 +2,11 @@
 use road::Road;
 use road::State;
 ghost use mathlib.Core.Path.{_≡_};
-ghost use Prim.Native.Nat.{_+_, _*_, _-_, min, _≤_, _<_};
-ghost use lib.ListN.{length};
+ghost use Prim.Native.Nat.{_+_, _*_, _-_, _^_, min, _≤_, _<_};
+ghost use lib.ListN.{length, take};
+ghost use Rattle.rows.specs.Sum.{sumOf};
 ghost use Rattle.flow.specs.Flow.{onwardOf};
-ghost use Rattle.model.specs.Move.{presentOf, exitsOf, movedOf, countedOf};
+ghost use Rattle.model.specs.Move.{heldSum, queueSum, presentOf, exitsOf, movedOf, countedOf};
 ghost use Rattle.model.specs.Rules.{outflowsOf};
 ghost use Rattle.moves.specs.Asked.{Movable, Countable};
 
@@ -22,16 +23,37 @@ fn cells(n: usize) -> usize
     if n <= Road::CELLS { n } else { Road::CELLS }
 }
 
-// The gate queue, all held counts and all ramp queues together; n above 64 counts as 64.
+// The counts of all cells together; n above 64 counts as 64.
+fn of_cells(counts: [u32; 64], n: usize) -> u64
+    ensures { λ p. ⌜ (p ≡ sumOf (take n counts)) × (p < 2 ^ 38) ⌝ }
+{
+    let k = cells(n);
+    rows::sum(&counts[..k])
+}
+
+// Present on the road: all held counts.
+pub fn on_road(r: Road, s: State) -> u64
+    ensures { λ p. ⌜ (p ≡ heldSum r s) × (p < 2 ^ 38) ⌝ }
+{
+    let held = s.held;
+    of_cells(held, r.n)
+}
+
+// Present at the ramps: all ramp queues.
+pub fn at_ramps(r: Road, s: State) -> u64
+    ensures { λ p. ⌜ (p ≡ queueSum r s) × (p < 2 ^ 38) ⌝ }
+{
+    let queue = s.queue;
+    of_cells(queue, r.n)
+}
+
+// The gate queue, all held counts and all ramp queues together.
 pub fn present(r: Road, s: State) -> u64
     ensures { λ p. ⌜ p ≡ presentOf r s ⌝ }
 {
-    let n = cells(r.n);
-    let held = s.held;
-    let queue = s.queue;
-    let on_road = rows::sum(&held[..n]);
-    let at_ramps = rows::sum(&queue[..n]);
-    wide(s.gate_queue) + on_road + at_ramps
+    let held = on_road(r, s);
+    let queues = at_ramps(r, s);
+    wide(s.gate_queue) + held + queues
 }
 
 // What has left a cell and did not go on; none where the share is above the whole.
@@ -106,14 +128,18 @@ pub fn moved(r: Road, s: State, row: &[u32], y: &[u32]) -> State
     t
 }
 
-// Counts a step that is done: present after it goes into the total.
+// Counts a step that is done: the three parts of present after it go into the three times.
 pub fn counted(r: Road, s: State) -> State
     requires { ⌜ Countable r s ⌝ }
     ensures { λ t. ⌜ t ≡ countedOf r s ⌝ }
 {
-    let sum = present(r, s);
+    let gate = wide(s.gate_queue);
+    let held = on_road(r, s);
+    let queues = at_ramps(r, s);
     let mut t = s;
     t.done = s.done + 1;
-    t.total = s.total + sum;
+    t.gate_time = s.gate_time + gate;
+    t.road_time = s.road_time + held;
+    t.ramp_time = s.ramp_time + queues;
     t
 }

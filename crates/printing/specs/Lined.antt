@@ -1,7 +1,7 @@
 -- What printing asks, and what its loop over the steps knows. Assumes nothing.
 use mathlib.Core.Path.{_≡_, refl, sym, _∙_}
 use mathlib.Core.List.{List, _++_}
-use Prim.Native.Nat.{ℕ, suc, _+_, _*_, _≤_, _<_}
+use Prim.Native.Nat.{ℕ, suc, _+_, _*_, min, _≤_, _<_}
 use native.Mathlib.Numerals.{add-one}
 use native.Mathlib.Omega.{arith}
 use lib.ListN.{length}
@@ -10,24 +10,26 @@ use borrow.Author.Tests.{eq-eqb, ne-eqb}
 use Rattle.rows.specs.TablesLaws.{row-ends, mul-more}
 use Rattle.road.specs.declared.Road.{Road}
 use Rattle.road.specs.declared.State.{State}
+use Rattle.road.specs.Road.{mostLong, totalOf}
 use Rattle.road.specs.Study.{Study, places, tableSize}
-use Rattle.model.specs.Move.{nextOf, totalOf, exitsOf}
+use Rattle.model.specs.Move.{nextOf, exitsOf}
 use Rattle.model.specs.Rules.{outflowsOf}
 use Rattle.model.specs.Step.{Fault, releasesOf}
 use Rattle.model.specs.Runs.{engineAfter, outflowsAt}
+use Rattle.model.specs.RunsLaws.{StudyOk}
 use Rattle.reading.specs.Reading.{ReadAnswer, readingOf, studyBy}
 use Rattle.reading.specs.Table.{mostOutflows}
 use Rattle.schedules.specs.Schedules.{EndAnswer, ended, runEnd}
 use Rattle.schedules.specs.Readable.{Readable}
-use Rattle.running.specs.Ran.{Ran, RanTurn, ran-none, ran-more, row-is, ends-ran, all-ran}
-use Rattle.listing.specs.Listing.{mostLine, headerLine, linesOf, totalLine, refusedLine}
+use Rattle.running.specs.Ran.{Ran, RanTurn, ran-reached, ran-none, ran-more, row-is, ends-ran, all-ran}
+use Rattle.listing.specs.Listing.{mostLine, mostLast, headerLine, linesOf, totalLine, refusedLine}
 use Rattle.rows.specs.Placed.{Puts, placed-none, puts-first, puts-more, Room, Holds}
 use Rattle.listing.specs.ListingLaws.{header-room, lines-room, total-room, refused-room}
-use Rattle.printing.specs.Printed.{stepsLines, printedEnd, printedRun, printedOf}
+use Rattle.printing.specs.Printed.{stepsLines, lastOf, printedEnd, printedRun, printedOf}
 
 -- how long a text may be: a line for each outflow, a header and a last line
 abbrev pub mostText : ℕ
-mostText = mostLine * mostOutflows + 2 * mostLine
+mostText = mostLine * mostOutflows + mostLine + mostLast
 
 -- a record that reads, and a buffer long enough
 pub record Printable (bytes : List ℕ) (a : Study) (buffer : List ℕ) : Type 0 where
@@ -62,11 +64,15 @@ module _ {a : Study} {before : List ℕ} {start : ℕ} where
     line-fits = omega (arith, h .room .same, h .enough)
 
     -- and after all steps for the last line
-    pub last-fits : tableSize a ≤ mostOutflows → a .steps ≤ k → end + mostLine ≤ length buffer
+    pub last-fits : tableSize a ≤ mostOutflows → a .steps ≤ k → end + mostLast ≤ length buffer
     last-fits m l =
         let e : k ≡ a .steps = all-ran (h .ran) l in
         let f : k * places a ≡ a .steps * places a = rw e in
         omega (arith, h .room .end, h .room .same, h .top, h .enough, f)
+
+    -- the total is within its limit, so it is given as it is
+    pub total-is : StudyOk a → {total : ℕ} → total ≡ min (totalOf u) mostLong → total ≡ totalOf u
+    total-is ok e = let z = ran-reached ok (h .ran) .state in omega (arith, e, z .total, z .done)
 
     module _ {q : Road} {row : List ℕ} (t : RanTurn a u k q row) {f : Fault} (e : f ≡ releasesOf q u row) (z : f .number ≡ 0) where
       -- one step more is made and put
@@ -109,18 +115,19 @@ module _ {a : Study} {before start-buffer : List ℕ} {start : ℕ} {buffer : Li
 
   -- the header, the steps and the last line, put one after the other
   pub holds-run : Puts before 0 headerLine start-buffer start → Lined a start-buffer start buffer u end k → a .steps ≤ k → tableSize a ≤ mostOutflows
-      → {exits : ℕ} {after : List ℕ} {m : ℕ} → exits ≡ exitsOf (a .road) u → Puts buffer end (totalLine (totalOf u) exits) after m
+      → {total exits : ℕ} {after : List ℕ} {m : ℕ} → total ≡ totalOf u → exits ≡ exitsOf (a .road) u
+      → Puts buffer end (totalLine total (u .«gate_time») (u .«road_time») (u .«ramp_time») exits) after m
       → Holds before (printedRun a) after m
   unfolding printedRun
-  holds-run p h l most {exits} {after} {m} ex q =
+  holds-run p h l most {after = after} {m} et ex q =
       let e : ended 0 0 0 (a .road) u ≡ runEnd a = ends-ran (h .ran) l refl in
       let i : k ≡ a .steps = all-ran (h .ran) l in
       let j : k * places a ≡ a .steps * places a = rw i in
-      let g : Puts buffer end (totalLine (totalOf u) (exitsOf (a .road) u)) after m = rw ex at q in
+      let g : Puts buffer end (lastOf (a .road) u) after m = rw (et, ex) at q in
       let lines : Puts start-buffer start (stepsLines a (a .steps)) buffer end = rw i at (h .puts) in
       let y = header-room before 0 start-buffer start p in
-      let w = total-room buffer end (totalOf u) (exitsOf (a .road) u) after m g in
-      let t : printedEnd a (runEnd a) ≡ headerLine ++ (stepsLines a (a .steps) ++ totalLine (totalOf u) (exitsOf (a .road) u)) = rw (← e) in
+      let w = total-room buffer end (totalOf u) (u .«gate_time») (u .«road_time») (u .«ramp_time») (exitsOf (a .road) u) after m g in
+      let t : printedEnd a (runEnd a) ≡ headerLine ++ (stepsLines a (a .steps) ++ lastOf (a .road) u) = rw (← e) in
       let all = puts-more before 0 headerLine start-buffer start _ after m p (puts-more start-buffer start (stepsLines a (a .steps)) buffer end _ after m lines g) in
       let v = holds before _ after m mostText all
       (record { end = omega (arith, w .end, h .room .end, h .top, most, j); same = w .same ∙ h .room .same ∙ y .same })

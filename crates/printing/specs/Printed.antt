@@ -3,8 +3,11 @@ use mathlib.Core.List.{List, [], _++_}
 use Prim.Native.Nat.{ℕ, zero, suc}
 use lib.Dec.{eqb}
 use Rattle.numbers.specs.First.{unless}
+use Rattle.road.specs.declared.Road.{Road}
+use Rattle.road.specs.declared.State.{State}
+use Rattle.road.specs.Road.{totalOf}
 use Rattle.road.specs.Study.{Study}
-use Rattle.model.specs.Move.{totalOf, exitsOf}
+use Rattle.model.specs.Move.{exitsOf}
 use Rattle.model.specs.Runs.{engineAfter, outflowsAt}
 use Rattle.reading.specs.Reading.{readingOf, studyOf}
 use Rattle.schedules.specs.Schedules.{EndAnswer, runEnd}
@@ -15,11 +18,15 @@ unfoldable pub stepsLines : Study → ℕ → List ℕ
 stepsLines a zero = []
 stepsLines a (suc k) = stepsLines a k ++ linesOf k (outflowsAt a k) (engineAfter a (suc k)) (a .road .n)
 
--- of a run that ended as e: a refusal's line alone; else the header, one line a place in each step, and the totals
+-- the last line of a road and its state: the total, its three parts and the exits
+abbrev pub lastOf : Road → State → List ℕ
+lastOf r s = totalLine (totalOf s) (s .«gate_time») (s .«road_time») (s .«ramp_time») (exitsOf r s)
+
+-- of a run that ended as e: a refusal's line alone; else the header, one line a place in each step, and the last line
 abbrev pub printedEnd : Study → EndAnswer → List ℕ
 printedEnd a e =
     unless (eqb (e .number) 0) (refusedLine (e .number) (e .step) (e .place))
-    (headerLine ++ (stepsLines a (a .steps) ++ totalLine (totalOf (e .state)) (exitsOf (e .road) (e .state))))
+    (headerLine ++ (stepsLines a (a .steps) ++ lastOf (e .road) (e .state)))
 
 unfoldable pub printedRun : Study → List ℕ
 printedRun a = printedEnd a (runEnd a)

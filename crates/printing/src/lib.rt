@@ -14,7 +14,7 @@ ghost use Rattle.printing.specs.Printed.{printedRun, printedOf};
 ghost use Rattle.printing.specs.Lined.{mostText, Printable};
 
 // The bytes of a text: no record that reads needs more.
-pub const TEXT: usize = 924105;
+pub const TEXT: usize = 924132;
 
 // A step that was made and put: the state after it, and the index after its lines.
 struct Put {
@@ -70,7 +70,17 @@ fn run_lines(bytes: &[u8], r: Road, s: State, steps: usize, buffer: &mut [u8]) -
         end = put.end;
         k += 1;
     }
-    listing::total(buffer, end, u.total, moves::exits(r, u))
+    let total = u.total();
+    let exits = moves::exits(r, u);
+    listing::total(
+        buffer,
+        end,
+        total,
+        u.gate_time,
+        u.road_time,
+        u.ramp_time,
+        exits,
+    )
 }
 
 // Puts all that is printed of a record at the start of the buffer, and gives its length.

@@ -27,9 +27,11 @@ pub record Numbers (s : List ℕ) (T : ℕ) (r : Road) (q : State) : Type 0 wher
   pub gateQueue : q .«gate_queue» ≡ numberOf s gateQueueOffset numberSize
   pub held : Column s heldOffset numberSize (r .n) (q .held)
   pub queue : Column s queueOffset numberSize (r .n) (q .queue)
-  -- the state before step 0, with every F, the total and the steps done 0
+  -- the state before step 0, with every F, every time and the steps done 0
   pub done : q .done ≡ 0
-  pub total : q .total ≡ 0
+  pub gateTime : q .«gate_time» ≡ 0
+  pub roadTime : q .«road_time» ≡ 0
+  pub rampTime : q .«ramp_time» ≡ 0
   pub gateCumulative : q .«gate_cumulative» ≡ 0
   pub cumulative : q .cumulative ≡ zeros
 
@@ -54,7 +56,9 @@ found-numbers s (Found.clear w) h =
       held = column s heldOffset numberSize n m;
       queue = column s queueOffset numberSize n m;
       done = refl;
-      total = refl;
+      gateTime = refl;
+      roadTime = refl;
+      rampTime = refl;
       gateCumulative = refl;
       cumulative = refl;
     }

@@ -61,11 +61,13 @@ roadOf s = record {
   capacity = columnOf s capacityOffset numberSize (cellsOf s);
 }
 
--- the state before step 0, with every F, the total and the steps done 0
+-- the state before step 0, with every F, every time and the steps done 0
 abbrev pub startOf : List ℕ → State
 startOf s = record {
   done = 0;
-  total = 0;
+  «gate_time» = 0;
+  «road_time» = 0;
+  «ramp_time» = 0;
   «gate_queue» = numberOf s gateQueueOffset numberSize;
   «gate_cumulative» = 0;
   held = columnOf s heldOffset numberSize (cellsOf s);

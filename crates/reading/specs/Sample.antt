@@ -55,7 +55,9 @@ road = record {
 start : State
 start = record {
   done = 0;
-  total = 0;
+  «gate_time» = 0;
+  «road_time» = 0;
+  «ramp_time» = 0;
   «gate_queue» = 3000;
   «gate_cumulative» = 0;
   held = cells 2000 4000;

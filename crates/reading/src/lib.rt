@@ -52,7 +52,9 @@ fn start_of(bytes: &[u8], n: usize) -> State
 {
     State {
         done: 0,
-        total: 0,
+        gate_time: 0,
+        road_time: 0,
+        ramp_time: 0,
         gate_queue: fields::number(bytes, fields::GATE_QUEUE_OFFSET, fields::NUMBER_SIZE),
         gate_cumulative: 0,
         held: fields::column(bytes, fields::HELD_OFFSET, n),

@@ -13,7 +13,7 @@ use Rattle.model.specs.Rules.{outflowsOf}
 use Rattle.model.specs.Step.{Fault, releasesOf}
 use Rattle.model.specs.StepLaws.{number-of, releases-fit}
 use Rattle.model.specs.Runs.{engineAfter, outflowsAt}
-use Rattle.model.specs.RunsLaws.{StudyOk, StepOf, step-input, step-sized, step-left}
+use Rattle.model.specs.RunsLaws.{StudyOk, Reached, StepOf, step-input, step-sized, step-left}
 use Rattle.moves.specs.Asked.{Steppable}
 use Rattle.schedules.specs.Schedules.{runSays, firstStep, EndAnswer, ended, runEnd}
 use Rattle.schedules.specs.SchedulesLaws.{step-at, step-none, ends-at, ends-all, run-reached}
@@ -33,6 +33,10 @@ pub record RanTurn (a : Study) (u : State) (k : ℕ) (q : Road) (row : List ℕ)
   pub numbers : row ≡ a .rows k
 
 module _ {a : Study} where
+  -- within the limits
+  pub ran-reached : {u : State} {k : ℕ} → StudyOk a → Ran a u k → Reached a u k
+  ran-reached {k = k} ok h = rw (h .state) (run-reached a ok k (h .within) (h .before))
+
   pub ran-none : Ran a (a .start) 0
   unfolding engineAfter
   ran-none = record { within = omega arith; state = refl; before = below-none _ }
@@ -55,7 +59,7 @@ module _ {a : Study} where
       left = t .left;
       road = t .road;
       numbers = t .numbers;
-      reached = rw (t .ran .state) (run-reached a (t .ok) k (t .ran .within) (t .ran .before));
+      reached = ran-reached (t .ok) (t .ran);
     }
 
     -- the engine's row of the step, as the code has it

@@ -1,4 +1,4 @@
--- What the states of a schedule add up to, for every record that reads: totals, cumulative outflows and conservation. Assumes nothing.
+-- What the states of a schedule add up to, for every record that reads: the three times, the total, cumulative outflows and conservation. Assumes nothing.
 use mathlib.Core.Path.{_≡_, refl, sym, _∙_}
 use mathlib.Core.List.{List}
 use Prim.Native.Nat.{ℕ, zero, suc, _+_, _≤_}
@@ -8,23 +8,28 @@ use Rattle.rows.specs.Sum.{sumOf}
 use Rattle.rows.specs.Rows.{listOf}
 use Rattle.rows.specs.RowsLaws.{sum-list-none, sum-list-more}
 use Rattle.road.specs.declared.State.{State}
+use Rattle.road.specs.Road.{totalOf}
 use Rattle.road.specs.RoadLaws.{zeros-at}
 use Rattle.road.specs.Study.{Study, roadAt}
 use Rattle.model.specs.Places.{cumulativeAt}
-use Rattle.model.specs.Move.{totalOf, presentOf, exitAt, exitsOf}
-use Rattle.model.specs.MoveLaws.{next-total, next-cumulative}
-use Rattle.model.specs.Roads.{step-alike, present-alike, sized-alike}
+use Rattle.model.specs.Move.{heldSum, queueSum, presentOf, exitAt, exitsOf}
+use Rattle.model.specs.MoveLaws.{next-gate-time, next-road-time, next-ramp-time, next-total, next-cumulative}
+use Rattle.model.specs.Roads.{step-alike, held-alike, queue-alike, present-alike, sized-alike}
 use Rattle.model.specs.Runs.{scheduleAfter, arrivalsTo}
 use Rattle.model.specs.RunsLaws.{StudyOk, schedule-sized, run-conserved}
 use Rattle.reading.specs.Reading.{readingOf, studyOf}
-use Rattle.reading.specs.Numbers.{read-numbers}
+use Rattle.reading.specs.Numbers.{Numbers, read-numbers}
 use Rattle.schedules.specs.Schedules.{proposedAt, scheduledAt}
 use Rattle.schedules.specs.Readable.{readable}
 use Rattle.schedules.specs.Demand.{Reaches}
 
 -- after k steps of a table of outflows
 pub record Accounts (a : Study) (zs : List ℕ) (k : ℕ) : Type 0 where
-  -- the total is the sum of present over the states after those steps
+  -- gate, road and ramp time are the sums of the gate queue, of all held counts and of all ramp queues over the states after those steps
+  pub gateTime : scheduledAt a zs k .«gate_time» ≡ sumOf (listOf (λ j. scheduledAt a zs (suc j) .«gate_queue») k)
+  pub roadTime : scheduledAt a zs k .«road_time» ≡ sumOf (listOf (λ j. heldSum (a .road) (scheduledAt a zs (suc j))) k)
+  pub rampTime : scheduledAt a zs k .«ramp_time» ≡ sumOf (listOf (λ j. queueSum (a .road) (scheduledAt a zs (suc j))) k)
+  -- and the total is the sum of present
   pub total : totalOf (scheduledAt a zs k) ≡ sumOf (listOf (λ j. presentOf (a .road) (scheduledAt a zs (suc j))) k)
   -- each F is the sum of its column of outflows
   pub cumulative : (p : ℕ) → p ≤ a .road .n → cumulativeAt (scheduledAt a zs k) p ≡ sumOf (listOf (λ j. at (proposedAt a zs j) p) k)
@@ -42,13 +47,16 @@ module _ (bytes zs : List ℕ) (reads : readingOf bytes .number ≡ 0) where
   ok : StudyOk (studyOf bytes)
   ok = readable bytes (readingOf bytes) refl reads .ok
 
+  start : Numbers bytes (a .steps) (a .road) (a .start)
+  start = read-numbers bytes (readingOf bytes) refl reads
+
   start-total : totalOf (a .start) ≡ 0
-  start-total = read-numbers bytes (readingOf bytes) refl reads .total
+  start-total = omega (arith, start .gateTime, start .roadTime, start .rampTime)
 
   start-cumulative : (p : ℕ) → cumulativeAt (a .start) p ≡ 0
   unfolding cumulativeAt
-  start-cumulative zero = read-numbers bytes (readingOf bytes) refl reads .gateCumulative
-  start-cumulative (suc i) = rw (read-numbers bytes (readingOf bytes) refl reads .cumulative) (zeros-at i)
+  start-cumulative zero = start .gateCumulative
+  start-cumulative (suc i) = rw (start .cumulative) (zeros-at i)
 
   -- before step 0 nothing has left
   no-exits : (k : ℕ) → sumOf (listOf (exitAt (a .road) (a .start)) k) ≡ 0
@@ -59,6 +67,41 @@ module _ (bytes zs : List ℕ) (reads : readingOf bytes .number ≡ 0) where
   start-exits : exitsOf (a .road) (a .start) ≡ 0
   unfolding exitsOf
   start-exits = no-exits (a .road .n)
+
+  gate-time-sum : (k : ℕ) → u k .«gate_time» ≡ sumOf (listOf (λ j. u (suc j) .«gate_queue») k)
+  unfolding scheduleAfter
+  gate-time-sum zero = start .gateTime ∙ sym (sum-list-none (λ j. u (suc j) .«gate_queue»))
+  gate-time-sum (suc k) =
+      omega (
+        arith,
+        next-gate-time (roadAt a k) (u k) (a .rows k) (proposedAt a zs k),
+        gate-time-sum k,
+        sum-list-more (λ j. u (suc j) .«gate_queue») k,
+      )
+
+  road-time-sum : (k : ℕ) → u k .«road_time» ≡ sumOf (listOf (λ j. heldSum (a .road) (u (suc j))) k)
+  unfolding scheduleAfter
+  road-time-sum zero = start .roadTime ∙ sym (sum-list-none (λ j. heldSum (a .road) (u (suc j))))
+  road-time-sum (suc k) =
+      omega (
+        arith,
+        next-road-time (roadAt a k) (u k) (a .rows k) (proposedAt a zs k),
+        held-alike (a .road) (roadAt a k) (step-alike (ok .roads k)) (u (suc k)),
+        road-time-sum k,
+        sum-list-more (λ j. heldSum (a .road) (u (suc j))) k,
+      )
+
+  ramp-time-sum : (k : ℕ) → u k .«ramp_time» ≡ sumOf (listOf (λ j. queueSum (a .road) (u (suc j))) k)
+  unfolding scheduleAfter
+  ramp-time-sum zero = start .rampTime ∙ sym (sum-list-none (λ j. queueSum (a .road) (u (suc j))))
+  ramp-time-sum (suc k) =
+      omega (
+        arith,
+        next-ramp-time (roadAt a k) (u k) (a .rows k) (proposedAt a zs k),
+        queue-alike (a .road) (roadAt a k) (step-alike (ok .roads k)) (u (suc k)),
+        ramp-time-sum k,
+        sum-list-more (λ j. queueSum (a .road) (u (suc j))) k,
+      )
 
   total-sum : (k : ℕ) → totalOf (u k) ≡ sumOf (listOf (λ j. presentOf (a .road) (u (suc j))) k)
   unfolding scheduleAfter
@@ -88,6 +131,9 @@ module _ (bytes zs : List ℕ) (reads : readingOf bytes .number ≡ 0) where
   -- of every step that a schedule reaches; running's written rows are one, and so is what judging goes through
   pub accounts : (k : ℕ) → Reaches (studyOf bytes) zs k → Accounts (studyOf bytes) zs k
   accounts k h = record {
+    gateTime = gate-time-sum k;
+    roadTime = road-time-sum k;
+    rampTime = ramp-time-sum k;
     total = total-sum k;
     cumulative = cumulative-sum k;
     conserved = omega (arith, start-exits, run-conserved a (proposedAt a zs) ok k (h .obeys));

@@ -2,24 +2,28 @@
 use mathlib.Core.Path.{_≡_}
 use mathlib.Core.Bool.{true, false}
 use mathlib.Core.List.{List}
-use Prim.Native.Nat.{ℕ, _≤_, _<_}
+use Prim.Native.Nat.{ℕ, _+_, _≤_, _<_}
 use lib.ListN.{length, take}
 use Rattle.numbers.specs.Lists.{at}
 use Rattle.road.specs.declared.Road.{Road}
 use Rattle.road.specs.declared.State.{State}
+use Rattle.road.specs.Road.{totalOf}
 use Rattle.road.specs.Refusals.{began}
 use Rattle.road.specs.Study.{Study, roadAt, tableSize}
-use Rattle.model.specs.Move.{totalOf}
 use Rattle.model.specs.Rules.{Greatest}
 use Rattle.model.specs.Runs.{Obeying}
 use Rattle.reading.specs.Reading.{studyOf}
 use Rattle.schedules.specs.Schedules.{proposedAt, scheduledAt, EndAnswer, stepsMade, judgingOf}
 
--- s is ahead of t: no cumulative outflow of t is larger, at the gate and at every cell, and no total of t is smaller
+-- s is ahead of t: no cumulative outflow of t is larger, at the gate and at every cell, and t's total is not smaller.
+-- Releases are agreed beforehand, so no holding plan changes what the town sees: ramp times are equal. What a plan adds to the
+-- total it adds at the gate and on the road
 pub record Ahead (r : Road) (s t : State) : Type 0 where
   pub gate : t .«gate_cumulative» ≤ s .«gate_cumulative»
   pub cell : (i : ℕ) → i < r .n → at (t .cumulative) i ≤ at (s .cumulative) i
   pub total : totalOf s ≤ totalOf t
+  pub rampTime : t .«ramp_time» ≡ s .«ramp_time»
+  pub gateRoad : s .«gate_time» + s .«road_time» ≤ t .«gate_time» + t .«road_time»
 
 -- a schedule reaches k steps: it obeys the rules in its own states in each of them; its later rows may be anything
 pub record Reaches (a : Study) (zs : List ℕ) (k : ℕ) : Type 0 where
@@ -35,7 +39,8 @@ GreatestIn a zs k = Greatest (roadAt a k) (scheduledAt a zs k) (a .rows k) (prop
 pub record Demand (bytes out : List ℕ) (e : EndAnswer) : Type 0 where
   -- each row of the run holds the greatest outflows in the run's own states
   pub greatest : (k : ℕ) → k < stepsMade (studyOf bytes) e → GreatestIn (studyOf bytes) out k
-  -- after every step that both reach, the schedule's cumulative outflow is at most the engine's and its total at least the engine's
+  -- after every step that both reach, the schedule's cumulative outflow is at most the engine's and its total at least the engine's;
+  -- its ramp time is the engine's, and so its gate and road time together are at least the engine's
   pub ahead : (zs : List ℕ) (k : ℕ) → k ≤ stepsMade (studyOf bytes) e → Reaches (studyOf bytes) zs k
       → Ahead (studyOf bytes .road) (scheduledAt (studyOf bytes) out k) (scheduledAt (studyOf bytes) zs k)
   -- where running and judging end after equally many steps, the same holds of the states that they return

@@ -23,6 +23,8 @@ behind-ahead r s t b = record {
   gate = b .level .cumulatives 0 (omega arith);
   cell = λ i l. b .level .cumulatives (suc i) l;
   total = b .total;
+  rampTime = sym (b .rampTime);
+  gateRoad = omega (arith, b .total, b .rampTime);
 }
 
 module _ (a : Study) (ok : StudyOk a) where

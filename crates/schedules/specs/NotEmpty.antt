@@ -9,11 +9,12 @@ use Rattle.flow.specs.Flow.{thousandthsOf, demandOf, gateDemandOf, supplyOf, ro
 use Rattle.rows.specs.Sum.{sumOf}
 use Rattle.rows.specs.Rows.{fillOf, listOf}
 use Rattle.rows.specs.Tables.{rowAt}
+use Rattle.road.specs.Road.{totalOf}
 use Rattle.road.specs.Study.{roadAt, tableSize}
 use Rattle.fields.specs.Fields.{numberOf}
 use Rattle.limits.specs.Limits.{placeOk, rowOk}
 use Rattle.model.specs.Places.{capacityAt, demandAt, mostReleaseAt, shareAt, cumulativeAt}
-use Rattle.model.specs.Move.{movedTo, countedOf, exitsOf, totalOf}
+use Rattle.model.specs.Move.{movedTo, countedOf, exitsOf}
 use Rattle.model.specs.Rules.{outflowsOf}
 use Rattle.model.specs.Step.{lowestOf}
 use Rattle.model.specs.Verdict.{outflowFaultAt, verdictOf}
@@ -36,6 +37,9 @@ pub record Both : Type 0 where
   pub judged : stepsMade (studyOf sample) (judgingOf sample still) ≡ 3
   pub fast : totalOf (runningOf sample still .state) ≡ 33098
   pub slow : totalOf (judgingOf sample still .state) ≡ 40500
+  -- of each, the ramp time
+  pub fastRamp : runningOf sample still .state .«ramp_time» ≡ 5700
+  pub slowRamp : judgingOf sample still .state .«ramp_time» ≡ 5700
   pub exits : exitsOf (studyOf sample .road) (judgingOf sample still .state) ≡ 0
 
 pub both : Both
@@ -44,7 +48,7 @@ unfolding sample header upstream downstream row readingOf numberOf
     sumOf fillOf listOf firstFrom firstOf firstFault placeOk rowOk
     capacityAt demandAt mostReleaseAt shareAt cumulativeAt movedTo countedOf exitsOf outflowsOf lowestOf outflowFaultAt verdictOf
     roadAt scheduleAfter engineAfter rowAt endOf runningOf judgingOf
-both = record { reads = refl; right = refl; run = refl; judged = refl; fast = refl; slow = refl; exits = refl }
+both = record { reads = refl; right = refl; run = refl; judged = refl; fast = refl; slow = refl; fastRamp = refl; slowRamp = refl; exits = refl }
 
 -- the schedule reaches all three steps
 pub still-reaches : Reaches (studyOf sample) still 3

@@ -15,11 +15,10 @@ use Rattle.numbers.specs.Tests.{order}
 use Rattle.numbers.specs.First.{oneOf}
 use Rattle.road.specs.declared.Road.{Road}
 use Rattle.road.specs.declared.State.{State}
-use Rattle.road.specs.Road.{emptyState}
+use Rattle.road.specs.Road.{emptyState, totalOf}
 use Rattle.road.specs.RoadLaws.{zeros-at}
 use Rattle.road.specs.Refusals.{began}
 use Rattle.road.specs.Study.{Study, tableSize}
-use Rattle.model.specs.Move.{totalOf}
 use Rattle.model.specs.Runs.{scheduleAfter, engineAfter, outflowsAt}
 use Rattle.model.specs.RunsLaws.{StudyOk}
 use Rattle.reading.specs.Reading.{readingOf, studyOf}
@@ -37,6 +36,7 @@ use Rattle.schedules.specs.DemandLaws.{own-state, own-obeys, own-greates
 record Fresh (r : Road) (u : State) : Type 0 where
   gate : u .«gate_cumulative» ≡ 0
   cell : (i : ℕ) → i < r .n → at (u .cumulative) i ≡ 0
+  rampTime : u .«ramp_time» ≡ 0
   total : totalOf u ≡ 0
 
 fresh-ahead : (r : Road) (u v : State) → Fresh r u → Fresh r v → Ahead r u v
@@ -44,10 +44,12 @@ fresh-ahead r u v a b = record {
   gate = omega (arith, a .gate, b .gate);
   cell = λ i l. omega (arith, a .cell i l, b .cell i l);
   total = omega (arith, a .total, b .total);
+  rampTime = omega (arith, a .rampTime, b .rampTime);
+  gateRoad = omega (arith, a .total, b .total);
 }
 
 fresh-empty : (r : Road) → Fresh r emptyState
-fresh-empty r = record { gate = refl; cell = λ i l. zeros-at i; total = refl }
+fresh-empty r = record { gate = refl; cell = λ i l. zeros-at i; rampTime = refl; total = refl }
 
 module _ (bytes : List ℕ) (reads : readingOf bytes .number ≡ 0) where
   abbrev a : Study
@@ -65,7 +67,12 @@ module _ (bytes : List ℕ) (reads : readingOf bytes .number ≡ 0) where
   fresh-start : Fresh (a .road) (a .start)
   fresh-start =
       let n = read-numbers bytes (readingOf bytes) refl reads in
-      record { gate = n .gateCumulative; cell = λ i l. rw (n .cumulative) (zeros-at i); total = n .total }
+      record {
+        gate = n .gateCumulative;
+        cell = λ i l. rw (n .cumulative) (zeros-at i);
+        rampTime = n .rampTime;
+        total = omega (arith, n .gateTime, n .roadTime, n .rampTime);
+      }
 
   -- a state of the run or of a schedule with no step done is the start
   run-fresh : runEnd a .state .done ≡ 0 → Fresh (a .road) (runEnd a .state)

@@ -31,7 +31,9 @@ cutRoad r = record {
 abbrev pub cutState : ℕ → State → State
 cutState n s = record {
   done = s .done;
-  total = s .total;
+  «gate_time» = s .«gate_time»;
+  «road_time» = s .«road_time»;
+  «ramp_time» = s .«ramp_time»;
   «gate_queue» = s .«gate_queue»;
   «gate_cumulative» = s .«gate_cumulative»;
   held = cutOf n (s .held);

@@ -82,19 +82,24 @@ module _ (road : Road) (T : ℕ) (start : Start) (rows target : List ℕ) where
   saved-rows k t l = rw (k .reads) (k .row t l)
 
 -- a state before step 0 is that of its start
-start-state : (q : State) → q .done ≡ 0 → q .total ≡ 0 → q .«gate_cumulative» ≡ 0 → q .cumulative ≡ zeros → startState (startIn q) ≡ q
-start-state q d t g c =
-    sym (ap (λ (x : ℕ). made x (q .total) (q .«gate_cumulative») (q .cumulative)) d
-    ∙ ap (λ (x : ℕ). made 0 x (q .«gate_cumulative») (q .cumulative)) t
-    ∙ ap (λ (x : ℕ). made 0 0 x (q .cumulative)) g
-    ∙ ap (λ (l : List ℕ). made 0 0 0 l) c)
+start-state : (q : State) → q .done ≡ 0 → q .«gate_time» ≡ 0 → q .«road_time» ≡ 0 → q .«ramp_time» ≡ 0 → q .«gate_cumulative» ≡ 0 → q .cumulative ≡ zeros
+    → startState (startIn q) ≡ q
+start-state q d u v w g c =
+    sym (ap (λ (x : ℕ). made x (q .«gate_time») (q .«road_time») (q .«ramp_time») (q .«gate_cumulative») (q .cumulative)) d
+    ∙ ap (λ (x : ℕ). made 0 x (q .«road_time») (q .«ramp_time») (q .«gate_cumulative») (q .cumulative)) u
+    ∙ ap (λ (x : ℕ). made 0 0 x (q .«ramp_time») (q .«gate_cumulative») (q .cumulative)) v
+    ∙ ap (λ (x : ℕ). made 0 0 0 x (q .«gate_cumulative») (q .cumulative)) w
+    ∙ ap (λ (x : ℕ). made 0 0 0 0 x (q .cumulative)) g
+    ∙ ap (λ (l : List ℕ). made 0 0 0 0 0 l) c)
   where
-    made : ℕ → ℕ → ℕ → List ℕ → State
-    made done total gate cumulative = record {
+    made : ℕ → ℕ → ℕ → ℕ → ℕ → List ℕ → State
+    made done gate road ramp out cumulative = record {
       done = done;
-      total = total;
+      «gate_time» = gate;
+      «road_time» = road;
+      «ramp_time» = ramp;
       «gate_queue» = q .«gate_queue»;
-      «gate_cumulative» = gate;
+      «gate_cumulative» = out;
       held = q .held;
       queue = q .queue;
       cumulative = cumulative;
@@ -119,7 +124,7 @@ module _ (s : List ℕ) (small : (i : ℕ) → at s i < 256) (reads : readingOf 
   again-answer =
       let w = read-within s (readingOf s) refl reads in
       let n = read-numbers s (readingOf s) refl reads in
-      let e = start-state (readingOf s .state) (n .done) (n .total) (n .gateCumulative) (n .cumulative) in
+      let e = start-state (readingOf s .state) (n .done) (n .gateTime) (n .roadTime) (n .rampTime) (n .gateCumulative) (n .cumulative) in
       let places : (p : ℕ) → p < road .n + 1 → placeOk road (startState start) p ≡ true = rw e (place-ok road (readingOf s .state) (w .road) (w .state)) in
       let fits : (t : ℕ) → t < T → givenOk (given road T start rows) t ≡ true =
       λ t l. (rw (same t l) (row-ok road (recordRow s (road .n) t) (w .road) (w .row t l))) in

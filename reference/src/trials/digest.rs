@@ -39,7 +39,9 @@ impl Digest {
 
     fn add_state(&mut self, state: &State) {
         self.add(state.steps as u32);
-        self.add_u64(state.total);
+        self.add_u64(state.gate_time);
+        self.add_u64(state.road_time);
+        self.add_u64(state.ramp_time);
         self.add(state.gate_queue);
         self.add(state.gate_f);
         for i in 0..Road::MAX_CELLS {

@@ -15,7 +15,7 @@
 //!      u32 Z, Z u32 of a schedule
 //!      u32 B, B bytes of a record
 //! 'S'  stepping
-//!      a road (1,032 bytes), a state (788 bytes)
+//!      a road (1,032 bytes), a state (804 bytes)
 //!      u32 K, K u32 of a row
 //! 'W'  writing
 //!      a road (1,032 bytes)
@@ -28,7 +28,8 @@
 //!      u32 B, B bytes of a record, whole or not
 //!
 //! road   u32 n, u32 gate capacity, 64 x (u16 v, w, b, ramp mark), 64 x (u32 J, C)
-//! state  u32 steps, u64 total, u32 gate queue, u32 gate F,
+//! state  u32 steps, u64 gate time, u64 road time, u64 ramp time,
+//!        u32 gate queue, u32 gate F,
 //!        64 x (u32 held, ramp queue, F)
 //! start  u32 gate queue, 64 x (u32 held, ramp queue)
 //! ```
@@ -153,7 +154,9 @@ fn put_road(out: &mut Vec<u8>, road: &Road) {
 
 fn put_state(out: &mut Vec<u8>, state: &State) {
     put(out, state.steps as u32);
-    out.extend(state.total.to_be_bytes());
+    for time in [state.gate_time, state.road_time, state.ramp_time] {
+        out.extend(time.to_be_bytes());
+    }
     put(out, state.gate_queue);
     put(out, state.gate_f);
     for i in 0..Road::MAX_CELLS {
@@ -295,7 +298,9 @@ impl<'a> Reader<'a> {
         let what = "the state";
         let mut state = State::empty();
         state.steps = self.u32(what)? as usize;
-        state.total = self.u64(what)?;
+        state.gate_time = self.u64(what)?;
+        state.road_time = self.u64(what)?;
+        state.ramp_time = self.u64(what)?;
         state.gate_queue = self.u32(what)?;
         state.gate_f = self.u32(what)?;
         for i in 0..Road::MAX_CELLS {

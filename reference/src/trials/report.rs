@@ -6,19 +6,20 @@
 //!
 //! ```text
 //! 'R'  read NUMBER PLACE steps T digest D
-//! 'U'  run NUMBER STEP PLACE SUMS list D again AGAIN
-//! 'J'  judge NUMBER STEP PLACE SUMS
+//! 'U'  run NUMBER STEP PLACE total T SUMS list D again AGAIN
+//! 'J'  judge NUMBER STEP PLACE total T SUMS
 //! 'S'  step NUMBER PLACE SUMS
 //! 'W'  write NUMBER PLACE COUNT target D
 //! 'N'  row digest D
 //!
-//! SUMS   total T exits E present P digest D
+//! SUMS   gate G road R ramp W exits E present P digest D
 //! AGAIN  NUMBER PLACE COUNT target D
 //! ```
 //!
 //! NUMBER is 0 or the refusal. SUMS are those of the road and the state that
 //! are returned; of stepping, of the road given and the state returned, where n
-//! above 64 counts as 64.
+//! above 64 counts as 64. G, R and W are its gate, road and ramp time, and T is
+//! their sum; stepping's line has none, since any state's sum may pass 64 bits.
 //!
 //! The list that running takes is lent with 7i + 3 at index i, and the target
 //! that writing takes with 7i + 3 modulo 256 at byte i. Both are digested at
@@ -36,8 +37,8 @@
 //! - of a list, the numbers in order; of a target, each byte as a number; of
 //!   'N', all 129 numbers;
 //! - of a road and a state: n, gate capacity; for each of the 64 cells v, w, b,
-//!   ramp mark, J, C; then steps, the total's upper 32 bits, its lower 32 bits,
-//!   gate queue, gate F; for each of the 64 cells held, ramp queue, F.
+//!   ramp mark, J, C; then steps; of gate, road and ramp time each the upper 32
+//!   bits and then the lower 32 bits; gate queue, gate F; for each of the 64 cells held, ramp queue, F.
 
 use super::digest;
 use super::frame::{Case, StepInput, WriteInput};
@@ -164,7 +165,9 @@ pub fn lent(length: usize) -> Vec<u32> {
 
 fn answer_words(answer: &Answer) -> String {
     let sums = sums(&answer.road, &answer.state);
-    format!("{} {} {} {sums}", answer.number, answer.step, answer.place)
+    let total = answer.state.total();
+    let (number, step, place) = (answer.number, answer.step, answer.place);
+    format!("{number} {step} {place} total {total} {sums}")
 }
 
 fn sums(road: &Road, state: &State) -> String {
@@ -174,8 +177,10 @@ fn sums(road: &Road, state: &State) -> String {
         ..*road
     };
     format!(
-        "total {} exits {} present {} digest {}",
-        state.total,
+        "gate {} road {} ramp {} exits {} present {} digest {}",
+        state.gate_time,
+        state.road_time,
+        state.ramp_time,
         exits(&counted, state),
         model::present(&counted, state),
         digest::of_road_and_state(road, state)

@@ -33,7 +33,9 @@ pub fn add(cases: &mut Cases) {
 fn sound(dice: &mut Dice) -> StepInput {
     let mut input = samples::first_step(&samples::three_cells());
     input.state.steps = 1;
-    input.state.total = 20_000;
+    input.state.gate_time = 4_000;
+    input.state.road_time = 14_600;
+    input.state.ramp_time = 1_400;
     input.state.gate_f = 1_400;
     input.state.f[..3].copy_from_slice(&[800, 520, 790]);
     fill_past_n(&mut input, dice);
@@ -211,16 +213,23 @@ const QUEUES: [Field; 3] = [
     |s, x| s.queue[2] = x as u32,
 ];
 
-/// Every F, queue and the total at its bound after so many steps, and one past.
+const TIMES: [Field; 3] = [
+    |s, x| s.gate_time = x,
+    |s, x| s.road_time = x,
+    |s, x| s.ramp_time = x,
+];
+
+/// Every F, every queue and each time alone at its bound after so many steps, and
+/// one past.
 fn bounds_after(cases: &mut Cases, steps: usize, dice: &mut Dice) {
     let s = steps as u64;
     let mut bounds: Vec<(Field, u64)> = Vec::new();
     bounds.extend(CUMULATIVE.map(|field| (field, 1_000_000 * s)));
     bounds.extend(QUEUES.map(|field| (field, limits::queue_bound(steps))));
-    bounds.push((|s, x| s.total = x, MAX_TOTAL_A_STEP * s));
+    bounds.extend(TIMES.map(|field| (field, MAX_TOTAL_A_STEP * s)));
     let mut start = sound(dice);
     start.state.steps = steps;
-    start.state.total = 0;
+    set_times(&mut start.state, [0; 3]);
     start.state.gate_f = 0;
     start.state.f[..3].fill(0);
     let mut all = start.clone();
@@ -232,10 +241,44 @@ fn bounds_after(cases: &mut Cases, steps: usize, dice: &mut Dice) {
         }
         field(&mut all.state, bound);
     }
+    // All at their bounds but for the times, of which one alone may be.
+    set_times(&mut all.state, [0, 0, MAX_TOTAL_A_STEP * s]);
     cases.step(&all);
-    // The greatest total of all.
-    start.state.total = u64::MAX;
-    cases.step(&start);
+    for times in time_sums(MAX_TOTAL_A_STEP * s) {
+        set_times(&mut start.state, times);
+        cases.step(&start);
+    }
+}
+
+/// Times whose sum is the bound or past it, though each alone is not, and sums
+/// that fit only after wrapping at 64 bits.
+fn time_sums(bound: u64) -> [[u64; 3]; 18] {
+    let (half, third, high) = (bound / 2, bound / 3, 1 << 63);
+    let low = u64::from(bound > 0);
+    [
+        [half, bound - half, 0],
+        [half, bound - half, 1],
+        [half, 0, bound - half + 1],
+        [0, half, bound - half],
+        [third, third, bound - 2 * third],
+        [third + 1, third, bound - 2 * third],
+        [third, third + 1, bound - 2 * third],
+        [bound - low, low, 0],
+        [1, bound, 0],
+        [0, 1, bound],
+        [bound, bound, bound],
+        [u64::MAX, 1, 0],
+        [0, u64::MAX, 1],
+        [1, 0, u64::MAX],
+        [high, high, 0],
+        [high, bound, high],
+        [u64::MAX - 1, 1, 1 + bound],
+        [u64::MAX, u64::MAX, u64::MAX],
+    ]
+}
+
+fn set_times(state: &mut State, times: [u64; 3]) {
+    [state.gate_time, state.road_time, state.ramp_time] = times;
 }
 
 /// Garbage past cell n, for several n; every step keeps it.
@@ -318,7 +361,10 @@ fn random_state(road: &Road, start: &State, steps: usize, dice: &mut Dice) -> St
     let s = steps as u64;
     let mut state = *start;
     state.steps = steps;
-    state.total = dice.any_size(MAX_TOTAL_A_STEP * s);
+    let total = dice.any_size(MAX_TOTAL_A_STEP * s);
+    let first = dice.upto(total);
+    let second = dice.upto(total - first);
+    set_times(&mut state, [first, second, total - first - second]);
     state.gate_f = dice.any_size(1_000_000 * s) as u32;
     if dice.one_in(2) {
         state.gate_queue = dice.any_size(limits::queue_bound(steps)) as u32;

@@ -156,7 +156,7 @@ fn a_release_above_queue_and_arrivals_stops_the_run() {
     );
     assert_eq!(verdict(&answer), (9, 1, 1));
     assert_eq!(list, [0, 0, LENT, LENT]);
-    assert_eq!((answer.state.steps, answer.state.total), (1, 4));
+    assert_eq!((answer.state.steps, answer.state.total()), (1, 4));
     assert_eq!((answer.state.queue[0], answer.state.held[0]), (1, 3));
 }
 
@@ -173,7 +173,7 @@ fn a_release_above_the_supply_stops_the_run() {
     );
     assert_eq!(verdict(&answer), (10, 1, 1));
     assert_eq!(list, [3, 0, LENT, LENT, LENT, LENT]);
-    assert_eq!((answer.state.held[0], answer.state.total), (7, 200));
+    assert_eq!((answer.state.held[0], answer.state.total()), (7, 200));
 }
 
 #[test]

@@ -18,7 +18,7 @@ step place outflow held queue
 2 0 1252 1890 0
 2 1 934 3309 0
 2 2 1000 4000 2100
-total 33098 exits 3701
+total 33098 gate 6532 road 20866 ramp 5700 exits 3701
 ";
 
 #[test]
@@ -81,7 +81,9 @@ fn the_three_steps_one_by_one() {
         assert_eq!(state.held[..2], held);
         assert_eq!(state.queue[..2], [0, queue]);
     }
-    assert_eq!((state.steps, state.total), (3, 33098));
+    assert_eq!((state.steps, state.total()), (3, 33098));
+    let times = (state.gate_time, state.road_time, state.ramp_time);
+    assert_eq!(times, (2500 + 2142 + 1890, 6566 + 6991 + 7309, 5700));
     assert_eq!((state.gate_f, &state.f[..2]), (4110, &[2801, 3000][..]));
 }
 
@@ -134,5 +136,6 @@ fn three_ways_to_spoil_a_study_would_show() {
     // Rounding each step's share alone: floor(0.75 * 934) = 700 fits.
     assert_eq!((list[4], 750 * 934 / 1000), (933, 700));
     // The ramp queues are 1700, 1900 and 2100 of the total.
-    assert_eq!(answer.state.total - (1700 + 1900 + 2100), 27398);
+    assert_eq!(answer.state.ramp_time, 1700 + 1900 + 2100);
+    assert_eq!(answer.state.gate_time + answer.state.road_time, 27398);
 }

@@ -132,13 +132,15 @@ fn start_and_arrivals_are_present_and_exits() {
         let reading = read(&draft.encode());
         let (road, mut state) = (reading.road, reading.state);
         let mut arrived = start_of(&draft);
-        let mut total = 0;
+        let mut times = [0; 3];
         for row in &draft.rows {
             state = step(road, state, row).state;
             arrived += arrivals_of(row);
             assert_eq!(arrived, present(&road, &state) + exits(&road, &state));
-            total += present(&road, &state);
-            assert_eq!(state.total, total);
+            times[0] += u64::from(state.gate_queue);
+            times[1] += all_held(&road, &state);
+            times[2] += all_queues(&road, &state);
+            assert_eq!([state.gate_time, state.road_time, state.ramp_time], times);
         }
     }
 }
@@ -257,7 +259,7 @@ fn spoil(dice: &mut Dice, road: &mut Road, state: &mut State, row: &mut Vec<u32>
         7 => state.held[i] = number,
         8 => state.queue[i] = number,
         9 => state.f[i] = number,
-        10 => state.total = u64::from(number) << dice.upto(32),
+        10 => state.road_time = u64::from(number) << dice.upto(32),
         11 => state.steps = dice.upto(1_500) as usize,
         12 => row.truncate(number as usize),
         13 => road.gate_capacity = number,

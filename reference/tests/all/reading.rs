@@ -43,7 +43,7 @@ fn the_example_is_read_whole() {
     );
     assert_eq!(road.jam[..3], [8000, 8000, 0]);
     assert_eq!(road.capacity[..3], [2000, 1000, 0]);
-    assert_eq!((state.steps, state.total, state.gate_f), (0, 0, 0));
+    assert_eq!((state.steps, state.total(), state.gate_f), (0, 0, 0));
     assert_eq!(state.gate_queue, 3000);
     assert_eq!(state.held[..3], [2000, 4000, 0]);
     assert_eq!(state.queue[..3], [0, 1500, 0]);

@@ -79,7 +79,7 @@ fn after_10_as_well() {
     assert_eq!(list[..6], TABLE[..6]);
     assert_eq!(list[6..], [LENT; 3]);
     // Present 2500 + 2566 + 4000 + 1700, then 2142 + 2991 + 4000 + 1900.
-    assert_eq!(answer.state.total, 10766 + 11033);
+    assert_eq!(answer.state.total(), 10766 + 11033);
 }
 
 #[test]
@@ -151,7 +151,7 @@ fn a_release_is_judged_in_the_schedule_s_own_states() {
     draft.rows[1][4] = 926;
     let answer = judge(&draft.encode(), &[0; 9]);
     assert_eq!(verdict(&answer), (10, 1, 2));
-    assert_eq!((answer.state.steps, answer.state.total), (1, 12000));
+    assert_eq!((answer.state.steps, answer.state.total()), (1, 12000));
     // The engine empties the cell, and there the same release fits.
     assert_eq!(run_whole(&draft.encode()).0.number, 0);
 }

@@ -39,6 +39,12 @@ fn with(change: impl Fn(&mut Input)) -> (u32, usize) {
 
 type Change = fn(&mut Input);
 
+/// Gate, road and ramp time.
+fn set_times(input: &mut Input, times: [u64; 3]) {
+    let state = &mut input.state;
+    [state.gate_time, state.road_time, state.ramp_time] = times;
+}
+
 #[test]
 fn at_the_bounds_a_step_passes() {
     let passing: [Change; 17] = [
@@ -57,7 +63,7 @@ fn at_the_bounds_a_step_passes() {
         |x| x.state.f[1] = 1_000_000,
         |x| x.state.gate_queue = 1_001_000_000,
         |x| x.state.queue[0] = 1_001_000_000,
-        |x| x.state.total = 200_000_000_000,
+        |x| set_times(x, [200_000_000_000, 0, 0]),
         |x| x.state.steps = 1_439,
     ];
     for (k, change) in passing.into_iter().enumerate() {
@@ -85,7 +91,7 @@ fn past_the_bounds_it_is_7() {
         |x| x.state.f[1] = 1_000_001,
         |x| x.state.gate_queue = 1_001_000_001,
         |x| x.state.queue[0] = 1_001_000_001,
-        |x| x.state.total = 200_000_000_001,
+        |x| set_times(x, [0, 200_000_000_001, 0]),
         |x| x.state.steps = 1_441,
         |x| x.state.steps = usize::MAX,
     ];
@@ -112,12 +118,13 @@ fn a_cell_without_a_ramp_has_no_queue_and_no_row() {
 fn the_bounds_grow_with_the_steps_done() {
     // Before the first step every F and the total must be 0.
     let start: Change = |x| {
-        (x.state.steps, x.state.total, x.state.gate_f) = (0, 0, 0);
+        (x.state.steps, x.state.gate_f) = (0, 0);
+        set_times(x, [0; 3]);
         x.state.f = [0; 64];
     };
     assert_eq!(with(start), (0, 0));
     let failing: [Change; 4] = [
-        |x| x.state.total = 1,
+        |x| set_times(x, [0, 0, 1]),
         |x| x.state.gate_f = 1,
         |x| x.state.f[1] = 1,
         |x| x.state.gate_queue = 1_000_000_001,
@@ -132,7 +139,7 @@ fn the_bounds_grow_with_the_steps_done() {
     // The greatest state that can still be stepped.
     let greatest: Change = |x| {
         x.state.steps = 1_439;
-        x.state.total = 200_000_000_000 * 1_439;
+        set_times(x, [200_000_000_000 * 1_400, 0, 200_000_000_000 * 39]);
         x.state.gate_f = 1_439_000_000;
         x.state.f = [1_439_000_000; 64];
         x.state.gate_queue = 2_439_000_000;
@@ -140,6 +147,33 @@ fn the_bounds_grow_with_the_steps_done() {
         x.row = vec![1_000_000, 1_000_000, 0, 1_000_000, 0];
     };
     assert_eq!(with(greatest), (0, 0));
+}
+
+#[test]
+fn the_three_times_are_bounded_together() {
+    // After one step; no sum wraps.
+    let bound = 200_000_000_000;
+    let with_times = |times: [u64; 3]| with(|x| set_times(x, times));
+    for times in [
+        [bound, 0, 0],
+        [0, bound, 0],
+        [0, 0, bound],
+        [1, 2, bound - 3],
+    ] {
+        assert_eq!(with_times(times), (0, 0));
+    }
+    for times in [
+        [1, 2, bound - 2],
+        [bound, 1, 0],
+        [0, bound, 1],
+        [bound, bound, bound],
+        [u64::MAX, 1, 0],
+        [1 << 63, 1 << 63, 0],
+        [u64::MAX, u64::MAX, 2],
+        [u64::MAX; 3],
+    ] {
+        assert_eq!(with_times(times), (7, 0), "{times:?}");
+    }
 }
 
 #[test]
@@ -178,13 +212,13 @@ fn refusal_8_after_7_and_before_9() {
     assert_eq!(with(|x| (x.state.steps, x.row[2]) = (1_440, 11)), (8, 0));
     let greatest: Change = |x| {
         x.state.steps = 1_440;
-        x.state.total = 288_000_000_000_000;
+        set_times(x, [287_000_000_000_000, 0, 1_000_000_000_000]);
         x.state.gate_f = 1_440_000_000;
         x.state.gate_queue = 2_440_000_000;
     };
     assert_eq!(with(greatest), (8, 0));
     let past: [Change; 3] = [
-        |x| x.state.total = 288_000_000_000_001,
+        |x| x.state.road_time = 1,
         |x| x.state.gate_f = 1_440_000_001,
         |x| x.state.gate_queue = 2_440_000_001,
     ];
@@ -255,7 +289,9 @@ fn all_ones_everywhere_is_7() {
     };
     let state = State {
         steps: 1_440,
-        total: u64::MAX,
+        gate_time: u64::MAX,
+        road_time: u64::MAX,
+        ramp_time: u64::MAX,
         gate_queue: u32::MAX,
         gate_f: u32::MAX,
         held: [u32::MAX; 64],

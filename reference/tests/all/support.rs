@@ -42,7 +42,8 @@ pub fn verdict(answer: &Answer) -> (u32, usize, usize) {
 
 /// Total and exits of an answer.
 pub fn sums(answer: &Answer) -> (u64, u64) {
-    (answer.state.total, exits(&answer.road, &answer.state))
+    let total = u64::try_from(answer.state.total()).unwrap();
+    (total, exits(&answer.road, &answer.state))
 }
 
 /// The document's input in values.

@@ -49,7 +49,8 @@ fn cells_and_rows_can_be_repeated() {
         cell v 1 w 2 b 0 jam 4 capacity 5
         repeat 1440 row";
     assert_eq!(record_of(text).len(), 16 + 24 * 5 + 1440 * 44);
-    assert!(printed_run(&record_of(text)).ends_with("1439 5 0 0 0\ntotal 0 exits 0\n"));
+    assert!(printed_run(&record_of(text))
+        .ends_with("1439 5 0 0 0\ntotal 0 gate 0 road 0 ramp 0 exits 0\n"));
 }
 
 #[test]

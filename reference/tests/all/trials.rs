@@ -106,13 +106,14 @@ fn a_long_number_is_fed_high_half_first() {
 fn road_and_state_are_fed_in_order() {
     let reading = read(&record_of(EXAMPLE));
     let mut state = reading.state;
-    (state.steps, state.total, state.gate_f) = (3, (2 << 32) + 1, 77);
+    (state.steps, state.gate_f) = (3, 77);
+    (state.gate_time, state.road_time, state.ramp_time) = ((2 << 32) + 1, 6, 5 << 32);
     (state.f[0], state.held[63]) = (88, 99);
     let mut numbers = vec![2, 2000];
     numbers.extend([500, 250, 750, 0, 8000, 2000]);
     numbers.extend([500, 250, 0, 1, 8000, 1000]);
     numbers.extend([0; 62 * 6]);
-    numbers.extend([3, 2, 1, 3000, 77]);
+    numbers.extend([3, 2, 1, 0, 6, 5, 0, 3000, 77]);
     numbers.extend([2000, 0, 88, 4000, 1500, 0]);
     numbers.extend([0; 61 * 3]);
     numbers.extend([99, 0, 0]);
@@ -126,20 +127,20 @@ fn small_frames_byte_by_byte() {
     assert_eq!(run, [b'U', 0, 0, 0, 9, 0, 0, 0, 2, 0xAA, 0xBB]);
     let numbers = [0, 0, 0, 2, 0, 0, 0, 5, 255, 255, 255, 255];
     assert_eq!(judge, [&b"J"[..], &numbers, &[0, 0, 0, 1, 0xAA]].concat());
-    // 1, n and capacity 8, 64 * 8, 64 * 8, 20, 64 * 12, then the row.
-    assert_eq!(step.len(), 1 + 8 + 512 + 512 + 20 + 768 + 4 + 12);
+    // 1, n and capacity 8, 64 * 8, 64 * 8, 36, 64 * 12, then the row.
+    assert_eq!(step.len(), 1 + 8 + 512 + 512 + 36 + 768 + 4 + 12);
     assert_eq!(step[..9], [b'S', 0, 0, 0, 2, 0, 0, 0x07, 0xD0]);
     // v 500, w 250, b 750, no ramp; then cell 2.
     assert_eq!(step[9..19], [1, 0xF4, 0, 250, 2, 0xEE, 0, 0, 1, 0xF4]);
-    // J 8000, C 2000; steps 0; total 0, gate queue 3000, gate F 0.
+    // J 8000, C 2000; steps 0; times 0, gate queue 3000, gate F 0.
     assert_eq!(step[521..529], [0, 0, 0x1F, 0x40, 0, 0, 0x07, 0xD0]);
-    assert_eq!(step[1033..1045], [0; 12]);
-    assert_eq!(step[1045..1053], [0, 0, 0x0B, 0xB8, 0, 0, 0, 0]);
+    assert_eq!(step[1033..1061], [0; 28]);
+    assert_eq!(step[1061..1069], [0, 0, 0x0B, 0xB8, 0, 0, 0, 0]);
     // Held 2000, queue 0, F 0; held 4000, queue 1500.
-    assert_eq!(step[1053..1061], [0, 0, 0x07, 0xD0, 0, 0, 0, 0]);
-    assert_eq!(step[1065..1073], [0, 0, 0x0F, 0xA0, 0, 0, 0x05, 0xDC]);
+    assert_eq!(step[1069..1077], [0, 0, 0x07, 0xD0, 0, 0, 0, 0]);
+    assert_eq!(step[1081..1089], [0, 0, 0x0F, 0xA0, 0, 0, 0x05, 0xDC]);
     assert_eq!(
-        step[1821..],
+        step[1837..],
         [0, 0, 0, 3, 0, 0, 0, 1, 0, 0, 0, 2, 0, 0, 0, 3]
     );
 }
@@ -243,7 +244,7 @@ fn frames_beyond_their_limits_are_rejected() {
     assert!(error(&[b'U', 0, 0, 0x23, 0x29]).ends_with("9001 is more than 9000"));
     assert!(error(&[b'J', 0, 0, 0x23, 0x29]).ends_with("9001 is more than 9000"));
     let mut step = encoded(&small_cases()[3]);
-    step[1824] = 201;
+    step[1840] = 201;
     assert!(error(&step).ends_with("the row: 201 is more than 200"));
     // 16,513 numbers of rows; a target of 65,601 bytes.
     let mut write = encoded(&small_cases()[4]);
@@ -269,20 +270,24 @@ fn the_first_lines_are_those_of_the_printed_run() {
     let (_, lines, complete) = made();
     // Present 1890 + 3309 + 4000 + 2100. The gate and cell 1 are held in all
     // three steps; 900 is released.
-    let start = "run 0 0 0 total 33098 exits 3701 present 11299 digest ";
+    let sums = "total 33098 gate 6532 road 20866 ramp 5700 exits 3701 present 11299";
+    let start = format!("run 0 0 0 {sums} digest ");
     assert!(lines[0].starts_with("read 0 0 steps 3 digest "));
-    assert!(lines[1].starts_with(start));
+    assert!(lines[1].starts_with(&start));
     assert!(lines[1].contains(" again 0 0 124 target "));
     assert!(complete[1]);
-    assert!(lines[2].starts_with("run 11 0 0 total 0 exits 0 present 0 digest "));
+    assert!(
+        lines[2].starts_with("run 11 0 0 total 0 gate 0 road 0 ramp 0 exits 0 present 0 digest ")
+    );
     assert!(lines[2].contains(" again 0 0 124 target "));
     assert!(!complete[2]);
     // An empty list has digest 0.
     assert_eq!(after(&lines[3], "list"), 0);
-    assert!(lines[4].starts_with(start));
-    assert_eq!(&lines[5][5..60], &lines[1][3..58]);
+    assert!(lines[4].starts_with(&start));
+    assert!(lines[5].starts_with(&format!("judge 0 0 0 {sums} digest ")));
     assert!(lines[6].starts_with("judge 14 1 1 "));
-    assert!(lines[7].starts_with("judge 0 0 0 total 40500 exits 0 present 15000 digest "));
+    let zeros = "total 40500 gate 15000 road 19800 ramp 5700 exits 0 present 15000";
+    assert!(lines[7].starts_with(&format!("judge 0 0 0 {zeros} digest ")));
     assert!(lines[8].starts_with("judge 12 0 0 total 0 "));
     assert!(lines[9].starts_with("judge 12 0 0 total 0 "));
 }

@@ -19,6 +19,12 @@ fed-requires c κs = search needs
 fed-long-requires : tie.Need-fed-long-requires Inv-loop μ-loop
 fed-long-requires c κs = search needs
 
+fed-long-requires-2 : tie.Need-fed-long-requires-2 Inv-loop μ-loop
+fed-long-requires-2 c κs = search needs
+
+fed-long-requires-3 : tie.Need-fed-long-requires-3 Inv-loop μ-loop
+fed-long-requires-3 c κs = search needs
+
 fed-requires-2 : tie.Need-fed-requires-2 Inv-loop μ-loop
 fed-requires-2 c κs = search needs
 
@@ -76,6 +82,8 @@ fed-state-spec =
     low-requires
     fed-requires
     fed-long-requires
+    fed-long-requires-2
+    fed-long-requires-3
     fed-requires-2
     fed-requires-3
     loop-holds

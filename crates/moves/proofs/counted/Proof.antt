@@ -1,41 +1,43 @@
 -- `moves::counted` meets its contract. Assumes nothing.
-use mathlib.Core.Path.{ap}
-use Prim.Native.Nat.{ℕ, _+_}
-use Rattle.road.specs.declared.State.{State}
-use Rattle.model.specs.Move.{countedOf}
+use Rattle.model.specs.MoveLaws.{counted-is}
 use native.Mathlib.Omega.{arith}
 use borrow.Author.Needs.{needs}
 use Rattle.moves.proofs.counted.Statement.{statement}
 use Rattle.moves.proofs.counted.Tie as tie
 
--- the sum's place, from the stores'
-abbrev Sum : tie.After-struct-known2 → tie.After-present
-Sum c = c .before .before
+-- the parts of present, from the stores, and the arguments from these
+abbrev Found : tie.After-struct-known4 → tie.After-at-ramps
+Found c = c .before .before .before .before
 
-present-requires : tie.Need-present-requires
-present-requires c κs = search needs
+abbrev A : tie.After-at-ramps → tie.Start
+A c = c .before .before .before
+
+on-road-requires : tie.Need-on-road-requires
+on-road-requires c κs = search needs
+
+at-ramps-requires : tie.Need-at-ramps-requires
+at-ramps-requires c κs = search needs
 
 add-t : tie.Need-add-t
 add-t c = search needs
 
-add-t-2 : tie.Need-add-t-2
-add-t-2 c = omega (arith, Sum c .present .ensures, Sum c .before .pre)
+wide-requires : tie.Need-wide-requires
+wide-requires c κs = search needs
 
--- a state with one step more, and a sum added to its total
-abbrev added : State → ℕ → State
-added s sum = record {
-  done = s .done + 1;
-  total = s .total + sum;
-  «gate_queue» = s .«gate_queue»;
-  «gate_cumulative» = s .«gate_cumulative»;
-  held = s .held;
-  queue = s .queue;
-  cumulative = s .cumulative;
-}
+add-t-2 : tie.Need-add-t-2
+add-t-2 c = search needs
+
+add-t-3 : tie.Need-add-t-3
+add-t-3 c = search needs
+
+add-t-4 : tie.Need-add-t-4
+add-t-4 c = search needs
 
 returns : tie.Need-returns
-unfolding countedOf
-returns c = ap (added (Sum c .before .args .s)) (Sum c .present .ensures)
+returns c =
+    let f = Found c in
+    let a = A f .args in
+    counted-is (a .r) (a .s) (f .before .before .wide .ensures) (f .before .on-road .ensures .0) (f .at-ramps .ensures .0)
 
 pub counted-spec : {M : Type 1} → statement M
-counted-spec = tie.close (tie.spec present-requires add-t add-t-2 returns)
+counted-spec = tie.close (tie.spec wide-requires on-road-requires at-ramps-requires add-t add-t-2 add-t-3 add-t-4 returns)

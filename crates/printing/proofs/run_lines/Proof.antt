@@ -11,7 +11,7 @@ use Rattle.reading.specs.Reading.{studyBy}
 use Rattle.running.specs.Ran.{RanTurn, ends-fault, steps-on}
 use lib.Seq.{length-take-le}
 use Rattle.listing.specs.ListingLaws.{header-room}
-use Rattle.printing.specs.Lined.{Lined, lined-none, lined-more, lines-fit, line-fits, last-fits, holds-fault, holds-run}
+use Rattle.printing.specs.Lined.{Lined, lined-none, lined-more, lines-fit, line-fits, last-fits, total-is, holds-fault, holds-run}
 use borrow.Author.Needs.{needs}
 use native.Mathlib.Omega.{arith}
 use Rattle.printing.proofs.run_lines.Statement.{statement}
@@ -23,12 +23,15 @@ Inv-loop bytes r steps buffer₀ n numbers places u₀ end₀ k₀ buffer u end 
 abbrev μ-loop : tie.MeasureT-loop
 μ-loop bytes r steps buffer₀ n numbers places u₀ end₀ k₀ buffer u end k = steps - k
 
--- places of the code: the header from the loop's place, the arguments from the header, the row of a turn from the fault, the fault from the move
+-- places of the code: the header from the loop's place, the arguments from the header, the loop's place from the exits, the row of a turn from the fault, the fault from the move
 abbrev to-header : tie.At-loop Inv-loop μ-loop → tie.After-header Inv-loop μ-loop
 to-header c = c .before .before .before
 
 abbrev A : tie.After-header Inv-loop μ-loop → tie.Start Inv-loop μ-loop
 A c = c .before .before .before .before
+
+abbrev to-loop : tie.After-exits Inv-loop μ-loop → tie.At-loop Inv-loop μ-loop
+to-loop c = c .before .before .before
 
 abbrev to-row : tie.After-number Inv-loop μ-loop → tie.After-row Inv-loop μ-loop
 to-row c = c .before .before .before
@@ -146,11 +149,14 @@ loop-again c =
     let f = to-fault (m .before .before .before) in
     lined-more (to-row f .before .before .loop .inv) (turn (to-row f)) (f .before .releases .ensures) (search needs) (m .step-lines .ensures .0) refl (m .step-lines .ensures .1)
 
+total-requires : tie.Need-total-requires Inv-loop μ-loop
+total-requires c κs = search needs
+
 exits-requires : tie.Need-exits-requires Inv-loop μ-loop
 exits-requires c κs = search needs
 
-total-requires : tie.Need-total-requires Inv-loop μ-loop
-total-requires c κs = last-fits (c .before .before .before .loop .inv) (A (to-header (c .before .before .before)) .pre .readable .outflows) (search needs)
+total-requires-2 : tie.Need-total-requires-2 Inv-loop μ-loop
+total-requires-2 c κs = let l = to-loop (c .before) in last-fits (l .loop .inv) (A (to-header l) .pre .readable .outflows) (search needs)
 
 same-length-2 : tie.Need-same-length-2 Inv-loop μ-loop
 same-length-2 c = search needs
@@ -158,9 +164,11 @@ same-length-2 c = search needs
 returns-2 : tie.Need-returns-2 Inv-loop μ-loop
 returns-2 c =
     let x = c .before .before in
-    let l = x .before .before .before .before in
+    let e = x .before .before in
+    let l = to-loop e in
     let a = A (to-header l) in
-    holds-run (to-header l .header .ensures) (l .loop .inv) (search needs) (a .pre .readable .outflows) (x .before .exits .ensures) (x .total .ensures)
+    holds-run (to-header l .header .ensures) (l .loop .inv) (search needs) (a .pre .readable .outflows)
+    (total-is (l .loop .inv) (a .pre .readable .ok) (e .before .total .ensures)) (e .exits .ensures) (x .total2 .ensures)
 
 pub run-lines-spec : {M : Type 1} → statement M
 run-lines-spec =
@@ -189,7 +197,8 @@ run-lines-spec =
     add-k
     loop-less
     loop-again
-    exits-requires
     total-requires
+    exits-requires
+    total-requires-2
     same-length-2
     returns-2)
