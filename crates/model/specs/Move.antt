@@ -11,11 +11,11 @@ use Rattle.road.specs.declared.State.{State}
 use Rattle.numbers.specs.Lists.{at}
 use Rattle.model.specs.Places.{gateArrivals, arrivalsAt, releaseAt, enteringAt}
 
--- a cell's next count is held + entering + release − outflow
+-- a cell's next count is held + entering + release − outflow; 0 where an outflow is above these three together, which no demand within the limits is
 abbrev pub heldOf : Road → State → List ℕ → List ℕ → ℕ → ℕ
 heldOf r s row y i = at (s .held) i + enteringAt r s y i + releaseAt row i - at y (i + 1)
 
--- a ramp's queue grows by arrivals less release
+-- a ramp's queue grows by arrivals less release; 0 where the release is above both together, which is refusal 9
 abbrev pub queueOf : State → List ℕ → ℕ → ℕ
 queueOf s row i = at (s .queue) i + arrivalsAt row i - releaseAt row i
 
@@ -23,7 +23,7 @@ queueOf s row i = at (s .queue) i + arrivalsAt row i - releaseAt row i
 abbrev pub cumulativeOf : State → List ℕ → ℕ → ℕ
 cumulativeOf s y i = at (s .cumulative) i + at y (i + 1)
 
--- the gate and the first n cells moved; the gate's queue grows by arrivals less outflow
+-- the gate and the first n cells moved; the gate's queue grows by arrivals less outflow, 0 where an outflow is above both together, which no demand within the limits is
 unfoldable pub movedTo : Road → State → List ℕ → List ℕ → ℕ → State
 movedTo r s row y n = record {
   done = s .done;
@@ -70,7 +70,7 @@ countedOf r s = record {
 abbrev pub nextOf : Road → State → List ℕ → List ℕ → State
 nextOf r s row y = countedOf r (movedOf r s row y)
 
--- exits: the sum over cells of F less the onward total
+-- exits: the sum over cells of F less the onward total; 0 where a share above 1,000, which is refused, sends more on than F
 abbrev pub exitAt : Road → State → ℕ → ℕ
 exitAt r s i = at (s .cumulative) i - onwardOf (at (r .share) i) (at (s .cumulative) i)
 

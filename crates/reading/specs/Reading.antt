@@ -75,7 +75,7 @@ startOf s = record {
   cumulative = zeros;
 }
 
--- 1: 16 to 65,536 bytes, and the first field is the count of bytes after it
+-- 1: 16 to 65,536 bytes, and the first field is the count of bytes after it (of 16 or more, so the difference cuts nothing off)
 abbrev pub lengthOk : List ℕ → Bool
 lengthOk s = leb headerSize (length s) && (leb (length s) mostBytes && eqb (numberOf s 0 countSize) (length s - countSize))
 
