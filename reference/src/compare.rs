@@ -1,5 +1,6 @@
 //! A program held to what the reference prints, record by record.
 
+use crate::fill;
 use crate::model::Road;
 use crate::print;
 use crate::trials::{self, frame::Case};
@@ -20,7 +21,7 @@ pub struct Named {
 pub fn records() -> Vec<Named> {
     let mut seen = BTreeSet::new();
     let mut list = Vec::new();
-    let records = trials::all_cases().into_iter().filter_map(record_of);
+    let records = trials::all_cases().into_iter().flat_map(records_of);
     for record in records.chain(too_long()) {
         if seen.insert(record.clone()) {
             let name = format!("trial-{:04}", list.len());
@@ -30,13 +31,18 @@ pub fn records() -> Vec<Named> {
     list
 }
 
-/// The record that a case takes, if it takes one.
-fn record_of(case: Case) -> Option<Vec<u8>> {
+/// The record that a case takes, if it takes one, and what filling makes of it.
+fn records_of(case: Case) -> Vec<Vec<u8>> {
     match case {
         Case::Read { record } | Case::Run { record, .. } | Case::Judge { record, .. } => {
-            Some(record)
+            vec![record]
         }
-        Case::Step(_) | Case::Write(_) | Case::Row { .. } => None,
+        Case::Fill(input) => {
+            let mut filled = input.record.clone();
+            fill::fill(&mut filled, &input.laws(), &mut vec![0; input.length]);
+            vec![input.record, filled]
+        }
+        Case::Step(_) | Case::Write(_) | Case::Row { .. } | Case::Leaf(_) => vec![],
     }
 }
 

@@ -6,13 +6,14 @@
 //!     reference run < RECORD                a run printed whole
 //!     reference judge RECORD SCHEDULE       a schedule's numbers judged
 //!     reference schedule < RECORD           a run's own rows as a schedule
+//!     reference fill RECORD LAWS            the record filled by meter laws
 //!     reference trials-input > FRAMES       cases for any implementation
 //!     reference trials-output < FRAMES      what it must print for them
 //!     reference compare PROGRAM RECORD...   a program's print beside its own,
 //!                                           on these and on the trials' records
 //!     reference ctm-records DIR             those records and their prints
 
-use reference::{as_text, compare, judge, print, text, trials};
+use reference::{as_text, compare, fill, judge, laws, print, record, text, trials};
 use std::fs;
 use std::io::{self, Read, Write};
 use std::path::Path;
@@ -24,6 +25,7 @@ const USAGE: &str = "usage:
   reference run < RECORD
   reference judge RECORD SCHEDULE
   reference schedule < RECORD
+  reference fill RECORD LAWS
   reference trials-input > FRAMES
   reference trials-output < FRAMES
   reference compare PROGRAM RECORD...
@@ -42,6 +44,7 @@ fn main() -> ExitCode {
         ["run"] => convert(&[], |record| Ok(print::printed_run(record).into_bytes())),
         ["judge", record, schedule] => judge_files(record, schedule).and_then(print_out),
         ["schedule"] => convert(&[], print_schedule),
+        ["fill", record, laws] => fill_files(record, laws).and_then(print_out),
         ["trials-input"] => print_out(trials::input()),
         ["trials-output"] => convert(&[], |frames| trials::output(frames).map(String::into_bytes)),
         ["compare", program, ref records @ ..] => compare_program(program, records),
@@ -98,6 +101,21 @@ fn print_schedule(record: &[u8]) -> Made {
     let text = print::printed_schedule(record);
     text.map(String::into_bytes)
         .map_err(|refusal| refusal.trim_end().to_string())
+}
+
+/// The record with its releases filled; a refusal is an error here.
+fn fill_files(name: &str, laws_name: &str) -> Made {
+    let bytes = read_file(laws_name)?;
+    let laws = text::decoded(&bytes).and_then(laws::laws_of);
+    let laws = laws.map_err(|e| format!("{laws_name}: {e}"))?;
+    let mut filled = read_file(name)?;
+    let reading = record::read(&filled);
+    let mut list = vec![0; reading.steps * (reading.road.n + 1)];
+    let answer = fill::fill(&mut filled, &laws, &mut list);
+    match answer.number {
+        0 => Ok(filled),
+        _ => Err(print::refusal_line(&answer).trim_end().to_string()),
+    }
 }
 
 /// Compares on the named files and on the trials' records.

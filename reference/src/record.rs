@@ -84,6 +84,15 @@ pub fn row_numbers(bytes: &[u8], n: usize, step: usize) -> [u32; Road::MAX_ROW] 
     numbers
 }
 
+/// Puts a step's row of 1 + 2n numbers into a record of the right size.
+pub fn put_row(record: &mut [u8], n: usize, step: usize, row: &[u32]) {
+    let start = size(n, step);
+    for (k, number) in row.iter().enumerate() {
+        let at = start + 4 * k;
+        record[at..at + 4].copy_from_slice(&number.to_be_bytes());
+    }
+}
+
 /// Refusals 1 to 4: the record's frame.
 fn frame_fault(record: &[u8]) -> Option<u32> {
     if record.len() < HEAD_BYTES || record.len() > Road::MAX_BYTES {

@@ -99,6 +99,13 @@ pub fn greatest_outflows(road: &Road, state: &State, row: &[u32]) -> Vec<u32> {
         .collect()
 }
 
+/// What enters a cell from upstream in a step with these outflows.
+pub fn entering(road: &Road, before: &State, outflows: &[u32], cell: usize) -> u64 {
+    let upstream = cell - 1;
+    let outflow = u64::from(outflows[upstream]);
+    model::entering(road.share(upstream), before.cumulative(upstream), outflow)
+}
+
 /// The state after a step with these outflows, which obey the rules.
 /// Everything is taken from the state before; entries past cell n are kept.
 pub fn advance(road: &Road, state: &State, row: &[u32], outflows: &[u32]) -> State {
@@ -108,12 +115,7 @@ pub fn advance(road: &Road, state: &State, row: &[u32], outflows: &[u32]) -> Sta
     next.gate_f += outflows[0];
     for cell in 1..=road.n {
         let i = cell - 1;
-        let upstream = cell - 1;
-        let entering = model::entering(
-            road.share(upstream),
-            state.cumulative(upstream),
-            u64::from(outflows[upstream]),
-        );
+        let entering = entering(road, state, outflows, cell);
         let release = model::release(row, cell);
         let held = u64::from(state.held[i]);
         next.held[i] = narrow(held + entering + release - u64::from(outflows[cell]));

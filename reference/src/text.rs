@@ -82,7 +82,7 @@ fn without_mark(text: &str) -> &str {
 }
 
 /// The lines that say something, without their comments.
-fn lines(text: &str) -> impl Iterator<Item = Words<'_>> {
+pub(crate) fn lines(text: &str) -> impl Iterator<Item = Words<'_>> {
     let text = without_mark(text);
     text.lines().enumerate().filter_map(|(i, line)| {
         let said = line.split('#').next().unwrap_or("");
@@ -96,14 +96,14 @@ fn lines(text: &str) -> impl Iterator<Item = Words<'_>> {
 }
 
 /// The words of one line, taken one after another.
-struct Words<'a> {
+pub(crate) struct Words<'a> {
     line: usize,
     words: Vec<&'a str>,
     at: usize,
 }
 
 impl<'a> Words<'a> {
-    fn error<T>(&self, message: String) -> Result<T, TextError> {
+    pub(crate) fn error<T>(&self, message: String) -> Result<T, TextError> {
         let line = self.line;
         Err(TextError { line, message })
     }
@@ -117,7 +117,7 @@ impl<'a> Words<'a> {
     }
 
     /// The next word, which must be there.
-    fn word(&mut self, wanted: &str) -> Result<&'a str, TextError> {
+    pub(crate) fn word(&mut self, wanted: &str) -> Result<&'a str, TextError> {
         match self.peek() {
             Some(word) => {
                 self.at += 1;
@@ -128,7 +128,7 @@ impl<'a> Words<'a> {
     }
 
     /// The next word as a number from 0 to `most`.
-    fn number(&mut self, wanted: &str, most: u64) -> Result<u64, TextError> {
+    pub(crate) fn number(&mut self, wanted: &str, most: u64) -> Result<u64, TextError> {
         let word = self.word(wanted)?;
         if !is_number(word) {
             return self.error(format!("{wanted} should be a number, not '{word}'"));
@@ -139,10 +139,28 @@ impl<'a> Words<'a> {
         }
     }
 
-    fn end(&self) -> Result<(), TextError> {
+    pub(crate) fn end(&self) -> Result<(), TextError> {
         match self.peek() {
             None => Ok(()),
             Some(word) => self.error(format!("'{word}' is too much on this line")),
+        }
+    }
+
+    /// The next word, which must be this one.
+    pub(crate) fn keyword(&mut self, wanted: &str) -> Result<(), TextError> {
+        let quoted = format!("'{wanted}'");
+        match self.word(&quoted)? {
+            word if word == wanted => Ok(()),
+            word => self.error(format!("{quoted} should stand here, not '{word}'")),
+        }
+    }
+
+    /// The next word as a 64-bit float.
+    pub(crate) fn float(&mut self, wanted: &str) -> Result<f64, TextError> {
+        let word = self.word(wanted)?;
+        match word.parse() {
+            Ok(number) => Ok(number),
+            Err(_) => self.error(format!("{wanted} should be a number, not '{word}'")),
         }
     }
 

@@ -38,6 +38,22 @@ pub fn of_run(out: &mut [u8], at: usize, run: Ended, list: &[u32]) -> usize {
     text::word(out, next, b" list ", digest::of_list(list) as u64)
 }
 
+// A filling's line has the digests of the list that was lent and of the record that was filled.
+pub fn of_filling(out: &mut [u8], at: usize, filling: Ended, list: &[u32], bytes: &[u8]) -> usize {
+    let mut next = text::put(out, at, b"fill");
+    next = answer(out, next, filling);
+    next = text::word(out, next, b" list ", digest::of_list(list) as u64);
+    next = text::word(out, next, b" record ", digest::of_bytes(bytes) as u64);
+    ended(out, next)
+}
+
+// A wish by its bits, and its release.
+pub fn of_wish(out: &mut [u8], at: usize, bits: u64, release: u32) -> usize {
+    let mut next = text::word(out, at, b"wish ", bits);
+    next = text::word(out, next, b" release ", release as u64);
+    ended(out, next)
+}
+
 // Number, place and count of an answer, and the digest of the target that was lent.
 fn written(out: &mut [u8], at: usize, written: Written, target: &[u8]) -> usize {
     let refusal = written.refusal;

@@ -4,8 +4,9 @@ use frames::case;
 use frames::case::Case;
 use frames::field;
 use frames::input;
+use frames::lent;
 
-// The kinds of frames: R, U, J, S, W and N.
+// The kinds of frames: R, U, J, S, W, N, F and L.
 const READ: u32 = 82;
 
 const RUN: u32 = 85;
@@ -17,6 +18,10 @@ const STEP: u32 = 83;
 const WRITE: u32 = 87;
 
 const NUMBERS: u32 = 78;
+
+const FILL: u32 = 70;
+
+const LEAVES: u32 = 76;
 
 // The most numbers of a step's row.
 const ROW: usize = 200;
@@ -35,21 +40,9 @@ fn read(record: &mut [u8], out: &mut [u8], at: usize) -> Case {
     read_line(&record[..size], out, at)
 }
 
-// Fills the list as it is lent: 7i + 3 at i.
-fn lend(list: &mut [u32]) {
-    if field::NUMBERS < list.len() {
-        return;
-    }
-    let mut i = 0;
-    while i < list.len() {
-        list[i] = (7 * i + 3) as u32;
-        i += 1;
-    }
-}
-
 // A run's words, with the list that it was lent.
 fn ran(bytes: &[u8], list: &mut [u32], out: &mut [u8], at: usize) -> usize {
-    lend(list);
+    lent::list(list);
     let ended = freeway::run(bytes, list);
     line::of_run(out, at, ended, list)
 }
@@ -135,6 +128,12 @@ pub fn shown(
     }
     if kind == NUMBERS {
         return writes::row(record, out, at);
+    }
+    if kind == FILL {
+        return meters::filled(record, list, out, at);
+    }
+    if kind == LEAVES {
+        return meters::wished(out, at);
     }
     case::cut()
 }

@@ -38,7 +38,7 @@ fn short(bytes: &[u8], at: usize) -> u16 {
 }
 
 // The number in the eight bytes from `at`.
-fn long(bytes: &[u8], at: usize) -> u64
+pub fn long(bytes: &[u8], at: usize) -> u64
     requires { ⌜ at ≤ 2000 ⌝ }
 {
     let high = number(bytes, at) as u64;

@@ -1,4 +1,5 @@
 // What a buyer may call: types, leaves and operations whose contracts hold for all input.
+pub use filling::fill;
 pub use flow::demand;
 pub use flow::entering;
 pub use flow::gate_demand;
@@ -8,6 +9,11 @@ pub use flow::outflow_by_halves;
 pub use flow::room;
 pub use flow::supply;
 pub use judging::judge;
+pub use meter::Alinea;
+pub use meter::DemandCapacity;
+pub use meter::Law;
+pub use meter::release;
+pub use meter::wish;
 pub use moves::at_ramps;
 pub use moves::exits;
 pub use moves::on_road;

@@ -109,6 +109,16 @@ module _ {r q : Road} (h : StepRoad r q) where
     noRelease = λ i l e. k .noRelease i (omega (arith, h .n)) (rw (h .ramp) at e);
   }
 
+  pub row-back : (row : List ℕ) → RowOk q row → RowOk r row
+  row-back row k = record {
+    numbers = omega (arith, k .numbers, h .n);
+    gate = k .gate;
+    arrivals = λ i l. k .arrivals i (omega (arith, h .n));
+    release = λ i l. k .release i (omega (arith, h .n));
+    noArrivals = λ i l e. k .noArrivals i (omega (arith, h .n)) (rw (h .ramp) e);
+    noRelease = λ i l e. k .noRelease i (omega (arith, h .n)) (rw (h .ramp) e);
+  }
+
 -- what is alike on alike roads
 module _ (a b : Road) (h : Alike a b) where
   pub share-alike : (p : ℕ) → p ≤ a .n → shareAt b p ≡ shareAt a p

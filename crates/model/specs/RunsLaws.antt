@@ -142,6 +142,26 @@ module _ (a : Study) where
   engine-reached ok k l fits =
       subst⁻¹ (λ (u : State). Reached a u k) (engine-schedule k) (reached a (outflowsAt a) ok k l (engine-obeys k fits))
 
+-- two studies that share start, roads and rows in their first k steps
+pub record Shared (a b : Study) (k : ℕ) : Type 0 where
+  pub start : a .start ≡ b .start
+  pub roads : (j : ℕ) → j < k → roadAt a j ≡ roadAt b j
+  pub rows : (j : ℕ) → j < k → a .rows j ≡ b .rows j
+
+pub shared-less : {a b : Study} {k : ℕ} → Shared a b k → (j : ℕ) → j ≤ k → Shared a b j
+shared-less h j l = record { start = h .start; roads = λ i m. h .roads i (omega arith); rows = λ i m. h .rows i (omega arith) }
+
+-- the engine's state after k steps depends on those steps alone, and so do its outflows in a step
+pub engine-shared : {a b : Study} (k : ℕ) → Shared a b k → engineAfter a k ≡ engineAfter b k
+unfolding engineAfter
+engine-shared zero h = h .start
+engine-shared (suc k) h =
+    rw (engine-shared k (shared-less h k (omega arith)), h .roads k (le-refl (suc k)), h .rows k (le-refl (suc k)))
+
+pub outflows-shared : {a b : Study} (k : ℕ) → Shared a b (suc k) → outflowsAt a k ≡ outflowsAt b k
+outflows-shared k h =
+    rw (engine-shared k (shared-less h k (omega arith)), h .roads k (le-refl (suc k)), h .rows k (le-refl (suc k)))
+
 -- two studies with the same start and rows, one for the rival and one, nowhere worse, for the engine
 pub record Rivals (rival engine : Study) (k : ℕ) : Type 0 where
   pub sized : Sized (rival .road) (rival .start)

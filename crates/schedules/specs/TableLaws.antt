@@ -1,5 +1,5 @@
 -- Laws of the table that running writes. Assumes nothing.
-use mathlib.Core.Path.{_≡_, sym, ap, _∙_}
+use mathlib.Core.Path.{_≡_, refl, sym, ap, _∙_}
 use mathlib.Core.Logic.{⊎-elim}
 use mathlib.Core.List.{List, [], _++_, append-assoc, append-nil}
 use Prim.Native.Nat.{ℕ, zero, suc, _+_, _-_, _*_, _≤_, _<_}
@@ -13,7 +13,7 @@ use Rattle.rows.specs.TablesLaws.{mul-more}
 use Rattle.road.specs.Study.{Study, roadAt, places, tableSize}
 use Rattle.model.specs.Runs.{engineAfter, outflowsAt}
 use Rattle.model.specs.RulesLaws.{length-outflows}
-use Rattle.model.specs.RunsLaws.{StudyOk}
+use Rattle.model.specs.RunsLaws.{StudyOk, Shared, shared-less, outflows-shared}
 use Rattle.schedules.specs.Schedules.{proposedAt, flowsOf, tableOf}
 
 module _ (a : Study) (ok : StudyOk a) where
@@ -81,3 +81,14 @@ module _ (a : Study) (ok : StudyOk a) where
 pub table-none : (a : Study) (list : List ℕ) → tableOf a list 0 ≡ list
 unfolding tableOf flowsOf
 table-none a list = let e : 0 * places a ≡ 0 = omega arith in rw e
+
+-- the rows written depend on the steps written alone
+module _ {a b : Study} (cells : a .road .n ≡ b .road .n) where
+  flows-shared : (k : ℕ) → Shared a b k → flowsOf a k ≡ flowsOf b k
+  unfolding flowsOf
+  flows-shared zero h = refl
+  flows-shared (suc k) h = rw (flows-shared k (shared-less h k (omega arith)), outflows-shared k h)
+
+  pub table-shared : (list : List ℕ) (k : ℕ) → Shared a b k → tableOf a list k ≡ tableOf b list k
+  unfolding tableOf
+  table-shared list k h = rw (flows-shared k h, cells)

@@ -8,7 +8,7 @@ use Prim.Native.Nat.{ℕ, _≤_, _<_}
 use native.Mathlib.Nat.{le-refl}
 use native.Mathlib.Omega.{arith}
 use lib.Dec.{eqb}
-use borrow.Author.Tests.{eqb-true, eqb-false}
+use borrow.Author.Tests.{eqb-true, eqb-false, ne-eqb}
 use lib.ListN.{length, take}
 use Rattle.numbers.specs.Lists.{at}
 use Rattle.numbers.specs.Tests.{order}
@@ -133,34 +133,47 @@ module _ (bytes : List ℕ) (reads : readingOf bytes .number ≡ 0) where
       (fresh-ahead (a .road) u emptyState (fresh (h ∙ ap (λ (e : EndAnswer). e .state .done) j)) (fresh-empty (a .road))))
       (sized zs)
 
-  -- a list too short: nothing is written, and no step is made
-  module _ (list : List ℕ) (short : length list < tableSize (studyOf bytes)) where
-    short-demand : Demand bytes list (noState 11 0)
+  -- a refusal that names no state: nothing is written, and no step is made
+  module _ (list : List ℕ) (number place : ℕ) (refused : number ≡ 0 → ⊥) (early : began number ≡ false) where
+    none : stepsMade a (noState number place) ≡ 0
+    none = rw (ne-eqb number 0 refused) refl
+
+    contrary : {P : Type 0} → began number ≡ true → P
+    contrary h = absurd (let z : _≡_ {A = ℕ} 0 1 = cc in omega arith)
+
+    unbegun-demand : Demand bytes list (noState number place)
     unfolding scheduleAfter
-    short-demand = record {
-      greatest = λ k l. absurd (omega arith);
+    unbegun-demand = record {
+      greatest = λ k l. absurd (omega (arith, none));
       ahead = λ zs k l h.
-          let z : k ≡ 0 = omega arith in
+          let z : k ≡ 0 = omega (arith, none) in
           subst⁻¹ (λ (j : ℕ). Ahead (a .road) (scheduledAt a list j) (scheduledAt a zs j)) z (fresh-ahead (a .road) (a .start) (a .start) fresh-start fresh-start);
       returned = λ zs e. against emptyState zs e
           (λ l q. fresh-ahead (a .road) emptyState (judgeEnd a zs .state) (fresh-empty (a .road)) (judge-fresh zs (sym q)))
           (λ _. fresh-empty (a .road));
     }
 
-    short-grounds : Grounds bytes list (noState 11 0)
-    unfolding began oneOf
-    short-grounds = record {
-      own = λ k l. record { within = omega arith; obeys = λ j m. absurd (omega arith) };
-      ownState = λ h. absurd (let z : _≡_ {A = ℕ} 0 1 = cc in omega arith);
-      ownRoad = λ h. absurd (let z : _≡_ {A = ℕ} 0 1 = cc in omega arith);
-      ownJudged = λ e. absurd (omega arith);
-      allRows = λ e. absurd (omega arith);
-      noRows = λ e. refl;
+    unbegun-grounds : Grounds bytes list (noState number place)
+    unbegun-grounds = record {
+      own = λ k l. record { within = omega (arith, none); obeys = λ j m. absurd (omega (arith, none)) };
+      ownState = contrary;
+      ownRoad = contrary;
+      ownJudged = λ e. absurd (refused e);
+      allRows = λ e. absurd (refused e);
+      noRows = λ e. none;
       reaches = judge-reaches;
       reached = judge-reached;
       judgedState = judged-state;
       judgedRoad = judged-road;
     }
+
+    pub unbegun : Promised bytes list (noState number place)
+    unbegun = record { demand = unbegun-demand; grounds = unbegun-grounds }
+
+  -- as of a list too short
+  short : (list : List ℕ) → Promised bytes list (noState 11 0)
+  unfolding began oneOf
+  short list = unbegun list 11 0 (λ e. omega arith) refl
 
   -- a list long enough: the engine's rows of the steps before the first fault
   module _ (list : List ℕ) (long : tableSize (studyOf bytes) ≤ length list) where
@@ -212,5 +225,5 @@ module _ (bytes : List ℕ) (reads : readingOf bytes .number ≡ 0) where
       (λ (l : tableSize a ≤ length list).
       rw (writes-long bytes reads list l, runs-long bytes reads list l) (record { demand = long-demand list l; grounds = long-grounds list l }))
       (λ (l : length list < tableSize a).
-      rw (writes-short bytes reads list l, runs-short bytes reads list l) (record { demand = short-demand list l; grounds = short-grounds list l }))
+      rw (writes-short bytes reads list l, runs-short bytes reads list l) (short list))
       (order (tableSize a) (length list))

@@ -1,7 +1,8 @@
 //! The cases in their order, as the groups add them.
 
 use super::frame::{
-    Case, StepInput, WriteInput, MAX_LIST, MAX_RECORD, MAX_ROW, MAX_ROWS, MAX_TARGET,
+    Case, FillInput, LeafInput, StepInput, WriteInput, MAX_LIST, MAX_RECORD, MAX_ROW, MAX_ROWS,
+    MAX_TARGET,
 };
 use crate::draft::Draft;
 use crate::run;
@@ -46,6 +47,15 @@ impl Cases {
         assert!(bytes.len() <= MAX_RECORD);
         let bytes = bytes.to_vec();
         self.list.push(Case::Row { n, t, bytes });
+    }
+
+    pub fn fill(&mut self, input: &FillInput) {
+        assert!(input.record.len() <= MAX_RECORD && input.length <= MAX_LIST);
+        self.list.push(Case::Fill(Box::new(input.clone())));
+    }
+
+    pub fn leaf(&mut self, input: LeafInput) {
+        self.list.push(Case::Leaf(input));
     }
 
     /// These bytes read, run with a list of this length, and judged with a

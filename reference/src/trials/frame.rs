@@ -26,19 +26,33 @@
 //! 'N'  the numbers of a row
 //!      u32 n, u32 t, the step
 //!      u32 B, B bytes of a record, whole or not
+//! 'F'  filling
+//!      64 laws (1,792 bytes)
+//!      u32 L, the lent list's length
+//!      u32 B, B bytes of a record
+//! 'L'  leaves of a meter
+//!      a law (28 bytes)
+//!      u32 last release, u32 entered, u32 held, u32 cap
 //!
 //! road   u32 n, u32 gate capacity, 64 x (u16 v, w, b, ramp mark), 64 x (u32 J, C)
 //! state  u32 steps, u64 gate time, u64 road time, u64 ramp time,
 //!        u32 gate queue, u32 gate F,
 //!        64 x (u32 held, ramp queue, F)
 //! start  u32 gate queue, 64 x (u32 held, ramp queue)
+//! law    u32 kind, 3 x u64 bits of a 64-bit float
 //! ```
 //!
-//! Counts are within these limits: B at most 65,540; L of 'U' and Z at most
-//! 9,000; K of 'S' at most 200; K of 'W' at most 16,512; L of 'W' at most
+//! Kind 0 is the fixed law with the numbers rate, -, -; 1 ALINEA with gain,
+//! target, -; 2 demand-capacity with capacity, critical, least. Any other kind
+//! is read as 0. A number marked - is not looked at, whatever its bits.
+//!
+//! Counts are within these limits: B at most 65,540; L of 'U' and 'F' and Z at
+//! most 9,000; K of 'S' at most 200; K of 'W' at most 16,512; L of 'W' at most
 //! 65,600. No frame has more than 101,549 bytes. `report` says what each frame
 //! must print.
 
+use crate::fill::Laws;
+use crate::meter::Law;
 use crate::model::{Road, Start, State};
 
 /// Most bytes of a record in a frame.
@@ -61,6 +75,8 @@ pub enum Case {
     Step(Box<StepInput>),
     Write(Box<WriteInput>),
     Row { n: u32, t: u32, bytes: Vec<u8> },
+    Fill(Box<FillInput>),
+    Leaf(LeafInput),
 }
 
 /// What stepping takes.
@@ -79,6 +95,74 @@ pub struct WriteInput {
     pub start: Start,
     pub rows: Vec<u32>,
     pub length: usize,
+}
+
+/// A law as a frame has it. Bits compare, also those of no number.
+#[derive(Clone, Copy, Debug, Default, PartialEq, Eq)]
+pub struct LawInput {
+    pub kind: u32,
+    pub bits: [u64; 3],
+}
+
+/// What filling takes; the list is lent with `length` numbers.
+#[derive(Clone, Debug, PartialEq, Eq)]
+pub struct FillInput {
+    pub laws: [LawInput; Road::MAX_CELLS],
+    pub length: usize,
+    pub record: Vec<u8>,
+}
+
+/// What a meter's wish and its release take.
+#[derive(Clone, Copy, Debug, PartialEq, Eq)]
+pub struct LeafInput {
+    pub law: LawInput,
+    pub last: u32,
+    pub entered: u32,
+    pub held: u32,
+    pub cap: u32,
+}
+
+impl LawInput {
+    pub fn new(kind: u32, numbers: [f64; 3]) -> LawInput {
+        let bits = numbers.map(f64::to_bits);
+        LawInput { kind, bits }
+    }
+
+    pub fn law(&self) -> Law {
+        let [first, second, third] = self.bits.map(f64::from_bits);
+        match self.kind {
+            1 => Law::Alinea {
+                gain: first,
+                target: second,
+            },
+            2 => Law::DemandCapacity {
+                capacity: first,
+                critical: second,
+                least: third,
+            },
+            _ => Law::Fixed { rate: first },
+        }
+    }
+}
+
+impl From<Law> for LawInput {
+    fn from(law: Law) -> LawInput {
+        match law {
+            Law::Fixed { rate } => LawInput::new(0, [rate, 0.0, 0.0]),
+            Law::Alinea { gain, target } => LawInput::new(1, [gain, target, 0.0]),
+            Law::DemandCapacity {
+                capacity,
+                critical,
+                least,
+            } => LawInput::new(2, [capacity, critical, least]),
+        }
+    }
+}
+
+impl FillInput {
+    pub fn laws(&self) -> Laws {
+        self.laws.map(|law| law.law())
+    }
 }
 
 impl Case {
@@ -118,6 +202,19 @@ impl Case {
                 put(out, *t);
                 put_bytes(out, bytes);
             }
+            Case::Fill(input) => {
+                out.push(b'F');
+                input.laws.iter().for_each(|law| put_law(out, law));
+                put(out, input.length as u32);
+                put_bytes(out, &input.record);
+            }
+            Case::Leaf(input) => {
+                out.push(b'L');
+                put_law(out, &input.law);
+                for number in [input.last, input.entered, input.held, input.cap] {
+                    put(out, number);
+                }
+            }
         }
     }
 }
@@ -135,6 +232,13 @@ fn put_numbers(out: &mut Vec<u8>, numbers: &[u32]) {
     put(out, numbers.len() as u32);
     for &number in numbers {
         put(out, number);
+    }
+}
+
+fn put_law(out: &mut Vec<u8>, law: &LawInput) {
+    put(out, law.kind);
+    for bits in law.bits {
+        out.extend(bits.to_be_bytes());
     }
 }
 
@@ -225,6 +329,18 @@ impl<'a> Reader<'a> {
                 t: self.u32("the step")?,
                 bytes: self.record()?,
             }),
+            b'F' => Ok(Case::Fill(Box::new(FillInput {
+                laws: self.laws()?,
+                length: self.count("the list's length", MAX_LIST)?,
+                record: self.record()?,
+            }))),
+            b'L' => Ok(Case::Leaf(LeafInput {
+                law: self.law()?,
+                last: self.u32("the last release")?,
+                entered: self.u32("the entry")?,
+                held: self.u32("the held count")?,
+                cap: self.u32("the cap")?,
+            })),
             kind => Err(format!("{kind} is not a kind of frame")),
         }
     }
@@ -274,6 +390,22 @@ impl<'a> Reader<'a> {
     fn numbers(&mut self, what: &str, most: usize) -> Result<Vec<u32>, String> {
         let count = self.count(what, most)?;
         (0..count).map(|_| self.u32(what)).collect()
+    }
+
+    fn law(&mut self) -> Result<LawInput, String> {
+        let what = "the law";
+        Ok(LawInput {
+            kind: self.u32(what)?,
+            bits: [self.u64(what)?, self.u64(what)?, self.u64(what)?],
+        })
+    }
+
+    fn laws(&mut self) -> Result<[LawInput; Road::MAX_CELLS], String> {
+        let mut laws = [LawInput::default(); Road::MAX_CELLS];
+        for law in &mut laws {
+            *law = self.law()?;
+        }
+        Ok(laws)
     }
 
     fn road(&mut self) -> Result<Road, String> {

@@ -12,6 +12,8 @@ pub mod report;
 mod cells;
 mod edges;
 mod judged;
+mod leaves;
+mod meters;
 mod refusals;
 mod roads;
 mod samples;
@@ -39,6 +41,9 @@ pub fn all_cases() -> Vec<Case> {
     judged::add(&mut cases, &trials);
     // Group 6: records written, and the numbers of rows.
     writes::add(&mut cases);
+    // Group 7: meter laws, alone and filling records.
+    leaves::add(&mut cases);
+    meters::add(&mut cases);
     cases.list
 }
 

@@ -11,6 +11,8 @@
 //! 'S'  step NUMBER PLACE SUMS
 //! 'W'  write NUMBER PLACE COUNT target D
 //! 'N'  row digest D
+//! 'F'  fill NUMBER STEP PLACE total T SUMS list D record D
+//! 'L'  wish BITS release RELEASE
 //!
 //! SUMS   gate G road R ramp W exits E present P digest D
 //! AGAIN  NUMBER PLACE COUNT target D
@@ -25,6 +27,10 @@
 //! that writing takes with 7i + 3 modulo 256 at byte i. Both are digested at
 //! their whole lent length as the operation leaves them.
 //!
+//! Filling's list is lent as running's, and its record is digested as filling
+//! leaves it. BITS is the wish's 64 bits as one number, 9221120237041090560 for
+//! every wish that isn't a number; RELEASE is its release under the cap.
+//!
 //! AGAIN: the record is read; its rows are taken step by step, for each t below
 //! the T that reading gives the first 1 + 2n numbers of its row; the road, T,
 //! the start and these rows are written into a target of B + 3 bytes. All this
@@ -34,17 +40,19 @@
 //! A digest starts at 0, and each number x makes it
 //! (d * 1000003 + x + 1) modulo 4294967291. It takes
 //!
-//! - of a list, the numbers in order; of a target, each byte as a number; of
-//!   'N', all 129 numbers;
+//! - of a list, the numbers in order; of a target or a record, each byte as a
+//!   number; of 'N', all 129 numbers;
 //! - of a road and a state: n, gate capacity; for each of the 64 cells v, w, b,
 //!   ramp mark, J, C; then steps; of gate, road and ramp time each the upper 32
 //!   bits and then the lower 32 bits; gate queue, gate F; for each of the 64 cells held, ramp queue, F.
 
 use super::digest;
-use super::frame::{Case, StepInput, WriteInput};
+use super::frame::{Case, FillInput, LeafInput, StepInput, WriteInput};
 use super::walk::Walk;
 use crate::answer::Answer;
+use crate::fill;
 use crate::judge;
+use crate::meter;
 use crate::model::{self, Road, State};
 use crate::record;
 use crate::run;
@@ -69,6 +77,8 @@ pub fn line(case: &Case) -> Line {
         Case::Step(input) => step_line(input),
         Case::Write(input) => write_line(input),
         Case::Row { n, t, bytes } => row_line(*n as usize, *t as usize, bytes),
+        Case::Fill(input) => fill_line(input),
+        Case::Leaf(input) => leaf_line(input),
     };
     Line {
         text,
@@ -128,6 +138,29 @@ fn write_line(input: &WriteInput) -> String {
 fn row_line(n: usize, t: usize, bytes: &[u8]) -> String {
     let numbers = record::row_numbers(bytes, n, t);
     format!("row digest {}", digest::of_list(&numbers))
+}
+
+fn fill_line(input: &FillInput) -> String {
+    let mut record = input.record.clone();
+    let mut list = lent(input.length);
+    let answer = fill::fill(&mut record, &input.laws(), &mut list);
+    let words = answer_words(&answer);
+    let (list, record) = (digest::of_list(&list), digest::of_bytes(&record));
+    format!("fill {words} list {list} record {record}")
+}
+
+fn leaf_line(input: &LeafInput) -> String {
+    let wish = input.law.law().wish(input.last, input.entered, input.held);
+    let release = meter::release(wish, input.cap);
+    format!("wish {} release {release}", bits_of(wish))
+}
+
+/// The bits of a float; those of all that aren't numbers are the same.
+fn bits_of(float: f64) -> u64 {
+    match float.is_nan() {
+        true => 0x7ff8_0000_0000_0000,
+        false => float.to_bits(),
+    }
 }
 
 /// The record read and written again, into a target three bytes longer.

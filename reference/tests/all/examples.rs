@@ -2,7 +2,9 @@
 
 use crate::support::*;
 use reference::as_text::text_of;
+use reference::fill::fill;
 use reference::judge::judge;
+use reference::laws::laws_of;
 use reference::print::{judgement_line, printed_run};
 use reference::text::schedule_of;
 use std::collections::BTreeSet;
@@ -34,12 +36,13 @@ fn named(ending: &str) -> BTreeSet<String> {
         .collect()
 }
 
-/// The rows of the tables whose first column has this head, without backquotes.
-fn table_rows(head: &str) -> Vec<Vec<String>> {
-    let readme = text_in("README.md");
+/// The rows of a page's tables whose first column has this head, without
+/// backquotes.
+fn table_rows(page: &str, head: &str) -> Vec<Vec<String>> {
+    let text = text_in(page);
     let mut rows = Vec::new();
     let mut inside = false;
-    for line in readme.lines() {
+    for line in text.lines() {
         let cells: Vec<String> = line
             .split('|')
             .map(|cell| cell.trim().trim_matches('`').to_string())
@@ -58,7 +61,7 @@ fn table_rows(head: &str) -> Vec<Vec<String>> {
 
 #[test]
 fn the_tables_of_records_say_what_is_printed() {
-    let rows = table_rows("file");
+    let rows = table_rows("README.md", "file");
     for row in &rows {
         let [file, _, command, said] = &row[..] else {
             panic!("four columns: {row:?}");
@@ -74,7 +77,7 @@ fn the_tables_of_records_say_what_is_printed() {
 
 #[test]
 fn the_table_of_schedules_says_what_judging_prints() {
-    let rows = table_rows("schedule");
+    let rows = table_rows("README.md", "schedule");
     for row in &rows {
         let [schedule, record, _, said] = &row[..] else {
             panic!("four columns: {row:?}");
@@ -86,6 +89,70 @@ fn the_table_of_schedules_says_what_judging_prints() {
     let files: BTreeSet<String> = rows.iter().map(|row| row[0].clone()).collect();
     assert_eq!(files, named(".schedule.txt"));
     assert_eq!(files.len(), rows.len());
+}
+
+/// A number with a comma before each three digits.
+fn with_commas(number: u64) -> String {
+    match number {
+        0..=999 => number.to_string(),
+        _ => format!("{},{:03}", with_commas(number / 1_000), number % 1_000),
+    }
+}
+
+/// Part-steps of 20 s in vehicle-hours with two decimals.
+fn hours(time: u64) -> String {
+    let hundredths = (100 * time + 90_000) / 180_000;
+    format!("{}.{:02}", with_commas(hundredths / 100), hundredths % 100)
+}
+
+/// Parts in vehicles.
+fn vehicles(parts: u32) -> String {
+    format!("{}.{:03}", parts / 1_000, parts % 1_000)
+}
+
+/// The longest queue at one ramp after any step of a printed run.
+fn longest_queue(printed: &str) -> u32 {
+    let lines = printed.lines().skip(1);
+    let queues = lines.filter_map(|line| match line.split(' ').collect::<Vec<_>>()[..] {
+        [_, _, _, _, queue] => queue.parse().ok(),
+        _ => None,
+    });
+    queues.max().unwrap()
+}
+
+/// A record's times in hours and its longest queue, as the page has them.
+fn who_waits_where(record: &[u8]) -> [String; 5] {
+    let state = run_whole(record).0.state;
+    let total = state.gate_time + state.road_time + state.ramp_time;
+    [
+        hours(total),
+        hours(state.gate_time),
+        hours(state.road_time),
+        hours(state.ramp_time),
+        vehicles(longest_queue(&printed_run(record))),
+    ]
+}
+
+#[test]
+fn the_page_of_rocade_sud_says_who_waits_where() {
+    let rows = table_rows("rocade-sud.md", "record");
+    for row in &rows {
+        let record = bytes_of(&format!("{}.rec", row[0]));
+        assert_eq!(row[1..], who_waits_where(&record), "{}", row[0]);
+    }
+    let filled = rows.iter().map(|row| row[0].clone()).skip(1);
+    assert_eq!(filled.collect::<BTreeSet<_>>(), named(".laws.txt"));
+}
+
+#[test]
+fn laws_fill_the_records_of_their_names() {
+    for name in named(".laws.txt") {
+        let laws = laws_of(&text_in(&format!("{name}.laws.txt"))).unwrap();
+        let mut record = bytes_of("rocade-sud.rec");
+        let mut list = vec![0; 378 * 22];
+        assert_eq!(fill(&mut record, &laws, &mut list).number, 0);
+        assert!(record == bytes_of(&format!("{name}.rec")), "{name}");
+    }
 }
 
 #[test]

@@ -5,6 +5,8 @@ mod by_hand;
 mod compare;
 mod edges;
 mod examples;
+mod filling;
+mod laws_text;
 mod order;
 mod program;
 mod random;

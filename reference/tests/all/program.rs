@@ -79,3 +79,21 @@ fn after_an_error_there_is_no_output_file() {
         Some(2)
     );
 }
+
+#[test]
+fn a_record_filled_by_the_laws_of_a_file() {
+    let folder = Folder::new("fill");
+    folder.file("road.rec", &record_of(EXAMPLE));
+    folder.file("laws.txt", b"ramp 2 alinea gain 0.1 target 4500\n");
+    folder.file("spoilt.txt", b"ramp 2 fixed nan\n");
+    let filled = folder.reference(&["fill", "road.rec", "laws.txt"]);
+    // The releases 50, 120 and 190 in place of 300.
+    let mut draft = example_draft();
+    for (row, release) in draft.rows.iter_mut().zip([50, 120, 190]) {
+        row[4] = release;
+    }
+    assert_eq!(filled.stdout, draft.encode());
+    let refused = folder.reference(&["fill", "road.rec", "spoilt.txt"]);
+    assert_eq!(said(&refused), "reference: refused 16 0 2\n");
+    assert!(refused.stdout.is_empty());
+}

@@ -7,7 +7,9 @@ use reference::record::read;
 use reference::run::run;
 use reference::text::schedule_of;
 use reference::trials::digest::{of_bytes, of_list, of_road_and_state, Digest};
-use reference::trials::frame::{decode, Case, StepInput, WriteInput};
+use reference::trials::frame::{
+    decode, Case, FillInput, LawInput, LeafInput, StepInput, WriteInput,
+};
 use reference::trials::report::{lent, lent_bytes, line};
 use reference::trials::{all_cases, input, output};
 use std::collections::BTreeSet;
@@ -50,7 +52,7 @@ fn roads_start(cases: &[Case]) -> usize {
 }
 
 /// One small case of each kind.
-fn small_cases() -> [Case; 6] {
+fn small_cases() -> [Case; 8] {
     let reading = read(&record_of(EXAMPLE));
     [
         Case::Read {
@@ -81,6 +83,18 @@ fn small_cases() -> [Case; 6] {
             t: 1,
             bytes: vec![0xAA],
         },
+        Case::Fill(Box::new(FillInput {
+            laws: [LawInput::new(2, [1.0, -2.0, 0.5]); 64],
+            length: 9,
+            record: vec![0xAA],
+        })),
+        Case::Leaf(LeafInput {
+            law: LawInput::new(1, [1.0, -2.0, 0.5]),
+            last: 1,
+            entered: 2,
+            held: 3,
+            cap: 4,
+        }),
     ]
 }
 
@@ -147,7 +161,7 @@ fn small_frames_byte_by_byte() {
 
 #[test]
 fn frames_of_writing_byte_by_byte() {
-    let [.., write, row] = small_cases().map(|case| encoded(&case));
+    let [_, _, _, _, write, row, ..] = small_cases().map(|case| encoded(&case));
     // The road as in a step; T; gate queue, held and queues; rows; length.
     assert_eq!(write.len(), 1 + 1032 + 4 + 516 + 12 + 4);
     let step = encoded(&small_cases()[3]);
@@ -158,6 +172,48 @@ fn frames_of_writing_byte_by_byte() {
     let rest = [0, 0, 0, 2, 0, 0, 0, 6, 0, 0, 0, 7, 0, 0, 0, 130];
     assert_eq!(write[1553..], rest);
     assert_eq!(row, [b'N', 0, 0, 0, 2, 0, 0, 0, 1, 0, 0, 0, 1, 0xAA]);
+}
+
+#[test]
+fn frames_of_meters_byte_by_byte() {
+    let [.., fill, leaf] = small_cases().map(|case| encoded(&case));
+    // 1 is 3ff0..., -2 is c000..., a half 3fe0....
+    let number = |high: [u8; 2]| [&high[..], &[0; 6]].concat();
+    let numbers = [
+        number([0x3F, 0xF0]),
+        number([0xC0, 0]),
+        number([0x3F, 0xE0]),
+    ];
+    let law = [vec![0, 0, 0, 2], numbers.concat()].concat();
+    let rest = [0, 0, 0, 9, 0, 0, 0, 1, 0xAA];
+    assert_eq!(fill, [&b"F"[..], &law.repeat(64), &rest].concat());
+    let counts = [0, 0, 0, 1, 0, 0, 0, 2, 0, 0, 0, 3, 0, 0, 0, 4];
+    assert_eq!(leaf[..5], [b'L', 0, 0, 0, 1]);
+    assert_eq!(leaf[5..], [&law[4..], &counts].concat());
+}
+
+#[test]
+fn lines_of_meters() {
+    // 1 + 1 x (-2 - 3) is -4: sign, exponent 1025, no fraction.
+    let [.., fill, leaf] = small_cases();
+    let bits = (1_u64 << 63) + (1_025 << 52);
+    assert_eq!(line(&leaf).text, format!("wish {bits} release 0"));
+    let law = LawInput::new(0, [f64::from_bits(u64::MAX), 0.0, 0.0]);
+    let (last, entered, held, cap) = (0, 0, 0, 5);
+    let none = LeafInput {
+        law,
+        last,
+        entered,
+        held,
+        cap,
+    };
+    let wanted = "wish 9221120237041090560 release 0";
+    assert_eq!(line(&Case::Leaf(none)).text, wanted);
+    let zeros = "total 0 gate 0 road 0 ramp 0 exits 0 present 0 digest ";
+    let said = line(&fill).text;
+    assert!(said.starts_with(&format!("fill 1 0 0 {zeros}")));
+    let (list, record) = (of_list(&lent(9)), of_bytes(&[0xAA]));
+    assert!(said.ends_with(&format!(" list {list} record {record}")));
 }
 
 #[test]
@@ -260,9 +316,9 @@ fn every_case_comes_back_from_its_frame() {
     let (cases, ..) = made();
     let bytes: Vec<u8> = cases.iter().flat_map(encoded).collect();
     assert_eq!(&decode(&bytes).unwrap(), cases);
-    // The same each time, and below 6 MB.
+    // The same each time, and below 8 MB.
     assert!(bytes == input());
-    assert!(bytes.len() < 6_000_000, "{}", bytes.len());
+    assert!(bytes.len() < 8_000_000, "{}", bytes.len());
 }
 
 #[test]
@@ -325,6 +381,8 @@ fn there_are_enough_cases_of_each_kind() {
     assert!(count(0, "step 0 ") >= 200);
     assert!(count(0, "write ") >= 300 && count(0, "write 0 ") >= 150);
     assert!(count(0, "row ") >= 80);
+    assert!(count(0, "wish ") >= 1_000);
+    assert!(count(0, "fill 0 ") >= 400);
     // On the random roads alone.
     assert!(complete[roads..].iter().filter(|&&c| c).count() >= 250);
     assert!(count(roads, "run 9 ") >= 10 && count(roads, "run 10 ") >= 10);
@@ -347,6 +405,7 @@ fn every_refusal_of_every_operation_occurs() {
     assert_eq!(found("judge "), judge);
     assert_eq!(found("step "), [0, 7, 8, 9, 10].into());
     assert_eq!(found("write "), [0, 1, 3, 4, 5, 6, 15].into());
+    assert_eq!(found("fill "), (0..=6).chain([11, 16]).collect());
 }
 
 #[test]

@@ -1,0 +1,131 @@
+-- `filling::fill_rows` meets its contract. The invariant: k steps are filled, their outflows written, and m is what the next goes by.
+-- Assumes nothing.
+use mathlib.Core.Path.{_≡_, sym, ap, _∙_}
+use Prim.Native.Nat.{ℕ, _+_, _-_, _*_, _≤_}
+use lib.ListN.{length}
+use Rattle.rows.specs.TablesLaws.{part-length}
+use Rattle.road.specs.Study.{Study, places}
+use Rattle.model.specs.RunsLaws.{same-road}
+use Rattle.reading.specs.Reading.{studyBy}
+use Rattle.reading.specs.Table.{mostOutflows}
+use Rattle.metering.specs.declared.Metered.{Metered}
+use Rattle.metering.specs.Metering.{unmetered}
+use Rattle.filling.specs.Filled.{Filled, filled-none, same-bytes, same-list, row-ends-by, row-fits, fills, filled-more, filled-bytes, filled-list, filled-state}
+use borrow.Author.Needs.{needs}
+use native.Mathlib.Omega.{arith}
+use Rattle.filling.proofs.fill_rows.Statement.{statement}
+use Rattle.filling.proofs.fill_rows.Tie as tie
+
+abbrev Inv-loop : tie.InvT-loop
+Inv-loop bytes₀ laws r steps out₀ places m₀ k₀ to₀ bytes out m k to = Filled laws bytes₀ (studyBy bytes₀ r (m₀ .state) steps) out₀ bytes out m k to
+
+abbrev μ-loop : tie.MeasureT-loop
+μ-loop bytes₀ laws r steps out₀ places m₀ k₀ to₀ bytes out m k to = steps - k
+
+-- the arguments, from the loop's place, and the start of a turn
+abbrev A : tie.At-loop Inv-loop μ-loop → tie.Start Inv-loop μ-loop
+A c = c .before .before .before .before .before
+
+abbrev Turn : tie.After-fill-row Inv-loop μ-loop → tie.In-loop Inv-loop μ-loop
+Turn c = c .before .before .before
+
+-- the study
+abbrev Of : tie.Start Inv-loop μ-loop → Study
+Of c = studyBy (c .args .bytes .now) (c .args .r) (c .args .s) (c .args .steps)
+
+-- the loop began with the state given
+began-with : (c : tie.At-loop Inv-loop μ-loop) → c .before .unmetered .result .state ≡ A c .args .s
+began-with c = ap (λ (x : Metered). x .state) (c .before .unmetered .ensures)
+
+-- the invariant, of the study
+inv : (c : tie.At-loop Inv-loop μ-loop) →
+    let a = A c .args in
+    Filled (a .laws) (a .bytes .now) (Of (A c)) (a .out .now) (c .loop .bytes) (c .loop .out) (c .loop .m) (c .loop .k) (c .loop .to)
+inv c = rw (began-with c) at (c .loop .inv)
+
+-- the part of the list that a turn lends
+part : (c : tie.In-loop Inv-loop μ-loop) → c .before .loop .to + places (Of (A (c .before))) ≤ length (c .before .loop .out)
+part c = row-fits (A (c .before) .pre) (inv (c .before)) (c .loop-test .taken)
+
+small : (c : tie.In-loop Inv-loop μ-loop) → c .before .loop .to + places (Of (A (c .before))) ≤ mostOutflows
+small c = let s = A (c .before) in row-ends-by (s .pre) (inv (c .before)) mostOutflows (s .pre .readable .outflows) (c .loop-test .taken)
+
+add-places : tie.Need-add-places Inv-loop μ-loop
+add-places c = omega (arith, c .before .before .before .pre .readable .ok .road .cells)
+
+unmetered-requires : tie.Need-unmetered-requires Inv-loop μ-loop
+unmetered-requires c κs = search needs
+
+loop-holds : tie.Need-loop-holds Inv-loop μ-loop
+loop-holds c = let e = ap (λ (x : Metered). x .state) (c .unmetered .ensures) in filled-none (c .unmetered .ensures ∙ ap unmetered (sym e))
+
+add-end : tie.Need-add-end Inv-loop μ-loop
+add-end c = omega (arith, small c)
+
+mul-fill-row : tie.Need-mul-fill-row Inv-loop μ-loop
+mul-fill-row c = omega (arith, small (c .before))
+
+sub-fill-row : tie.Need-sub-fill-row Inv-loop μ-loop
+sub-fill-row c = search needs
+
+part-fill-row-start : tie.Need-part-fill-row-start Inv-loop μ-loop
+part-fill-row-start c = search needs
+
+part-fill-row-end : tie.Need-part-fill-row-end Inv-loop μ-loop
+part-fill-row-end c = part (c .before)
+
+fill-row-requires : tie.Need-fill-row-requires Inv-loop μ-loop
+fill-row-requires c κs =
+    let t = c .before .before in
+    let s = A (t .before) in
+    let l = t .before .loop in
+    fills (s .pre) (inv (t .before)) (t .loop-test .taken) (same-road (Of s) (l .k)) (part-length (l .out) (l .to) (places (Of s)) (part t))
+
+add-k : tie.Need-add-k Inv-loop μ-loop
+add-k c = search needs
+
+loop-less : tie.Need-loop-less Inv-loop μ-loop
+loop-less c = search needs
+
+loop-again : tie.Need-loop-again Inv-loop μ-loop
+loop-again c =
+    let f = c .before .before .before .before in
+    let t = Turn f in
+    let s = A (t .before) in
+    rw (began-with (t .before))
+    (filled-more (s .pre) (inv (t .before)) (t .loop-test .taken) (same-road (Of s) (t .before .loop .k))
+    (f .fill-row .ensures .0) (f .fill-row .ensures .1 .0) (f .fill-row .ensures .1 .1))
+
+same-length : tie.Need-same-length Inv-loop μ-loop
+same-length c = let l = c .before .before in same-bytes (A l .pre) (inv l)
+
+same-length-2 : tie.Need-same-length-2 Inv-loop μ-loop
+same-length-2 c = let l = c .before .before in same-list (A l .pre) (inv l)
+
+returns : tie.Need-returns Inv-loop μ-loop
+returns c =
+    let l = c .before .before in
+    let end = c .before .loop-test .left in
+    (filled-bytes (A l .pre) (inv l) end, (filled-list (A l .pre) (inv l) end, filled-state (A l .pre) (inv l) end))
+
+pub fill-rows-spec : {M : Type 1} → statement M
+fill-rows-spec =
+    tie.close
+    (tie.spec
+    Inv-loop
+    μ-loop
+    add-places
+    unmetered-requires
+    loop-holds
+    add-end
+    mul-fill-row
+    sub-fill-row
+    part-fill-row-start
+    part-fill-row-end
+    fill-row-requires
+    add-k
+    loop-less
+    loop-again
+    same-length
+    same-length-2
+    returns)

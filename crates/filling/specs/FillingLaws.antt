@@ -1,0 +1,66 @@
+-- Laws of filling: the engine's run over the filled rows goes through the same states without a fault. Assumes nothing.
+use mathlib.Core.Path.{_≡_, refl, sym, ap, _∙_}
+use mathlib.Core.List.{List}
+use Prim.Native.Nat.{ℕ, zero, suc, _+_, _*_, _^_, _≤_, _<_}
+use native.Mathlib.Omega.{arith}
+use lib.ListN.{length}
+use Rattle.road.specs.declared.State.{State}
+use Rattle.road.specs.Study.{Study, roadAt}
+use Rattle.limits.specs.LimitsLaws.{RowOk}
+use Rattle.meter.specs.declared.Law.{Law}
+use Rattle.model.specs.Rules.{Released}
+use Rattle.model.specs.Step.{Fault, fault}
+use Rattle.model.specs.StepLaws.{number-of, fit-releases}
+use Rattle.model.specs.Runs.{engineAfter}
+use Rattle.model.specs.Roads.{step-row, row-back}
+use Rattle.model.specs.RunsLaws.{StudyOk, Reached}
+use Rattle.schedules.specs.Schedules.{runSays}
+use Rattle.schedules.specs.SchedulesLaws.{run-reached}
+use Rattle.metering.specs.declared.Metered.{Metered}
+use Rattle.metering.specs.Metering.{filledRow, meteredOf}
+use Rattle.metering.specs.MeteringLaws.{granted-small, filled-fits, filled-row}
+use Rattle.filling.specs.Filling.{meteredAfter, grantedIn, filledRows, filledStudy}
+
+module _ (laws : List Law) (a : Study) where
+  -- the road of a step stays
+  pub filled-road : (k : ℕ) → roadAt (filledStudy laws a) k ≡ roadAt a k
+  unfolding roadAt
+  filled-road k = refl
+
+  -- the engine's run over the filled rows goes through the states of filling
+  pub filled-run : (k : ℕ) → engineAfter (filledStudy laws a) k ≡ meteredAfter laws a k .state
+  unfolding engineAfter meteredAfter meteredOf
+  filled-run zero = refl
+  filled-run (suc k) = rw (filled-run k, filled-road k)
+
+  pub releases-small : (t i : ℕ) → grantedIn laws a t i < 2 ^ 32
+  releases-small t i = granted-small laws (roadAt a t) (meteredAfter laws a t) (a .rows t) i
+
+  module _ (ok : StudyOk a) where
+    row-of : (k : ℕ) → k < a .steps → RowOk (roadAt a k) (a .rows k)
+    row-of k l = step-row (ok .roads k) (a .rows k) (ok .row k l)
+
+    -- the filled study is within the limits
+    pub filled-ok : StudyOk (filledStudy laws a)
+    filled-ok = record {
+      road = ok .road;
+      roads = λ k. rw (filled-road k) (ok .roads k);
+      start = ok .start;
+      sized = ok .sized;
+      zero = ok .zero;
+      steps = ok .steps;
+      row = λ k l. row-back (ok .roads k) (filledRows laws a k) (filled-row laws (roadAt a k) (meteredAfter laws a k) (a .rows k) (row-of k l));
+    }
+
+    -- each filled release fits in the state of filling, and its run has no fault
+    pub filled-released : (k : ℕ) → k < a .steps → Released (roadAt a k) (meteredAfter laws a k .state) (filledRows laws a k)
+    filled-released k l = filled-fits laws (roadAt a k) (meteredAfter laws a k) (a .rows k) (row-of k l .numbers)
+
+    pub filled-passes : (k : ℕ) → k < a .steps → runSays (filledStudy laws a) k ≡ fault 0 0
+    filled-passes k l =
+        rw (filled-run k, filled-road k)
+        (fit-releases (roadAt a k) (meteredAfter laws a k .state) (filledRows laws a k) (filled-released k l))
+
+    -- so its states are within the limits
+    pub filled-reached : (k : ℕ) → k ≤ a .steps → Reached (filledStudy laws a) (engineAfter (filledStudy laws a) k) k
+    filled-reached k l = run-reached (filledStudy laws a) filled-ok k l (λ j m. number-of (filled-passes j (omega arith)))

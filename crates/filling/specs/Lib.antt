@@ -1,0 +1,9 @@
+pub mod Filling
+pub mod FillingLaws
+pub mod Turn
+pub mod Filled
+pub mod Rerun
+pub mod Cases
+pub mod ByLaw
+pub mod Theorems
+pub mod Promise

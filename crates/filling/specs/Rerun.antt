@@ -1,0 +1,104 @@
+-- Theorems: the filled record reads as the record did, running it is refused nothing, and it gives filling's list, road and state. Assumes nothing.
+use mathlib.Core.Path.{_≡_, refl, sym, ap, _∙_, subst⁻¹}
+use mathlib.Core.Bool.{true}
+use mathlib.Core.List.{List}
+use Prim.Native.Nat.{ℕ, _+_, _*_, _≤_, _<_}
+use native.Mathlib.Omega.{arith}
+use lib.ListN.{length}
+use Rattle.numbers.specs.Lists.{at}
+use Rattle.road.specs.Study.{Study, roadAt, tableSize}
+use Rattle.limits.specs.Limits.{rowOk}
+use Rattle.limits.specs.LimitsLaws.{row-ok}
+use Rattle.fields.specs.Fields.{rowStart, recordRow}
+use Rattle.meter.specs.declared.Law.{Law}
+use Rattle.reading.specs.Reading.{ReadAnswer, readingOf, studyBy, studyOf}
+use Rattle.releasing.specs.Releases.{releasedRow}
+use Rattle.releasing.specs.ReleasesLaws.{PutTable, put-table, table-head}
+use Rattle.releasing.specs.Same.{rows-replaced}
+use Rattle.model.specs.Step.{Fault}
+use Rattle.model.specs.StepLaws.{number-of}
+use Rattle.model.specs.Runs.{engineAfter}
+use Rattle.model.specs.RunsLaws.{StudyOk, Shared, shared-less, engine-shared}
+use Rattle.schedules.specs.Schedules.{runSays, firstStep, ended, runEnd, runningOf, tableOf, runTable, listAfter}
+use Rattle.schedules.specs.SchedulesLaws.{step-none, end-all}
+use Rattle.schedules.specs.TableLaws.{table-shared}
+use Rattle.schedules.specs.Ends.{runs-long, writes-long}
+use Rattle.schedules.specs.Readable.{readable}
+use Rattle.metering.specs.Metering.{filledRow}
+use Rattle.filling.specs.Filling.{meteredAfter, grantedIn, filledRows, filledStudy, filledBytes}
+use Rattle.filling.specs.FillingLaws.{filled-road, filled-run, releases-small, filled-ok, filled-passes}
+
+module _ (laws : List Law) (bytes : List ℕ) (reads : readingOf bytes .number ≡ 0) where
+  abbrev a : Study
+  a = studyOf bytes
+
+  abbrev b : Study
+  b = filledStudy laws (studyOf bytes)
+
+  abbrev filled : List ℕ
+  filled = filledBytes laws bytes
+
+  ok : StudyOk (studyOf bytes)
+  ok = readable bytes (readingOf bytes) refl reads .ok
+
+  -- only the releases of its rows are changed
+  pub filled-table : PutTable bytes (filledBytes laws bytes) (studyOf bytes .road .n) (grantedIn laws (studyOf bytes)) (studyOf bytes .steps)
+  unfolding filledBytes
+  filled-table =
+      put-table bytes (a .road .n) (grantedIn laws a) (a .steps) (readable bytes (readingOf bytes) refl reads .row) (λ t i l m. releases-small laws a t i)
+
+  -- its rows are the filled ones
+  pub filled-rows : (k : ℕ) → k < studyOf bytes .steps → recordRow (filledBytes laws bytes) (studyOf bytes .road .n) k ≡ filledRows laws (studyOf bytes) k
+  unfolding filledRow
+  filled-rows k l =
+      filled-table .row k l ∙ ap (λ (n : ℕ). releasedRow (grantedIn laws a k) n (recordRow bytes (a .road .n) k)) (sym (ok .roads k .n))
+
+  -- and it reads as the record did
+  pub filled-reads : readingOf (filledBytes laws bytes) ≡ readingOf bytes
+  filled-reads =
+      rows-replaced bytes filled (filled-table .size) reads (table-head filled-table)
+      (λ t l. rw (filled-rows t l) (row-ok (a .road) (filledRows laws a t) (ok .road) (filled-ok laws a ok .row t l)))
+
+  same-study : studyOf filled ≡ studyBy filled (a .road) (a .start) (a .steps)
+  same-study = ap (λ (x : ReadAnswer). studyBy filled (x .road) (x .state) (x .steps)) filled-reads
+
+  -- so its study is the filled one, up to its last step
+  pub filled-shared : Shared (studyBy (filledBytes laws bytes) (studyOf bytes .road) (studyOf bytes .start) (studyOf bytes .steps))
+      (filledStudy laws (studyOf bytes)) (studyOf bytes .steps)
+  unfolding roadAt
+  filled-shared = record { start = refl; roads = λ j l. refl; rows = filled-rows }
+
+  filled-says : (k : ℕ) → k < a .steps → runSays (studyBy filled (a .road) (a .start) (a .steps)) k .number ≡ 0
+  filled-says k l =
+      let e : runSays (studyBy filled (a .road) (a .start) (a .steps)) k ≡ runSays b k =
+      rw (engine-shared k (shared-less filled-shared k (omega arith)), filled-shared .roads k l, filled-shared .rows k l) in
+      number-of (e ∙ filled-passes laws a ok k l)
+
+  none : firstStep (runSays (studyBy filled (a .road) (a .start) (a .steps))) (a .steps) ≡ a .steps
+  none = step-none (runSays (studyBy filled (a .road) (a .start) (a .steps))) (a .steps) filled-says
+
+  -- running it, with a list that is long enough, is refused nothing and ends in the state of filling
+  module _ (list : List ℕ) (long : tableSize (studyOf bytes) ≤ length list) where
+    abbrev c : Study
+    c = studyBy filled (a .road) (a .start) (a .steps)
+
+    reads-on : readingOf filled .number ≡ 0
+    reads-on = ap (λ (x : ReadAnswer). x .number) filled-reads ∙ reads
+
+    long-on : tableSize (studyOf filled) ≤ length list
+    long-on = subst⁻¹ (λ (x : Study). tableSize x ≤ length list) same-study long
+
+    pub filled-runs : runningOf (filledBytes laws bytes) list ≡ ended 0 0 0 (studyOf bytes .road) (meteredAfter laws (studyOf bytes) (studyOf bytes .steps) .state)
+    filled-runs =
+        runs-long filled reads-on list long-on
+        ∙ ap runEnd same-study
+        ∙ end-all c (runSays c) (engineAfter c) none
+        ∙ ap (ended 0 0 0 (a .road)) (engine-shared (a .steps) filled-shared ∙ filled-run laws a (a .steps))
+
+    -- and writes the outflows of all filled steps
+    pub filled-writes : listAfter (filledBytes laws bytes) list ≡ tableOf (filledStudy laws (studyOf bytes)) list (studyOf bytes .steps)
+    filled-writes =
+        writes-long filled reads-on list long-on
+        ∙ ap (λ (x : Study). runTable x list) same-study
+        ∙ ap (tableOf c list) none
+        ∙ table-shared refl list (a .steps) filled-shared

@@ -1,0 +1,64 @@
+-- One step of filling, from what its code finds. Assumes nothing.
+use mathlib.Core.Path.{_≡_, ap, _∙_}
+use mathlib.Core.List.{List}
+use Prim.Native.Nat.{ℕ, _+_, _≤_, _<_}
+use native.Mathlib.Nat.{le-refl}
+use native.Mathlib.Omega.{arith}
+use lib.ListN.{length}
+use Rattle.numbers.specs.Lists.{at}
+use Rattle.rows.specs.Rows.{fillOf}
+use Rattle.rows.specs.RowsLaws.{fill-at}
+use Rattle.road.specs.declared.Road.{Road}
+use Rattle.fields.specs.Fields.{recordRow, HoldsRow}
+use Rattle.meter.specs.declared.Law.{Law}
+use Rattle.model.specs.Rules.{outflowsOf}
+use Rattle.moves.specs.Asked.{Steppable}
+use Rattle.releasing.specs.Releases.{putReleases}
+use Rattle.releasing.specs.ReleasesLaws.{put-releases, put-same}
+use Rattle.metering.specs.declared.Metered.{Metered}
+use Rattle.metering.specs.Metering.{grantedAt, filledRow, nextMetered, meteredOf}
+use Rattle.metering.specs.MeteringLaws.{granted-small}
+
+-- what filling a step asks: the bytes hold its row, a step by the filled row asks nothing more, and y has room for its outflows
+pub record FillsRow (bytes : List ℕ) (laws : List Law) (r : Road) (m : Metered) (k : ℕ) (y : List ℕ) : Type 0 where
+  pub held : HoldsRow bytes (r .n) k
+  pub step : Steppable r (m .state) (filledRow laws r m (recordRow bytes (r .n) k))
+  pub places : length y ≡ r .n + 1
+
+-- what its code has found: the releases granted by the row that was read, put into the bytes
+pub record Given (bytes : List ℕ) (laws : List Law) (r : Road) (m : Metered) (k : ℕ) (given put : List ℕ) : Type 0 where
+  pub held : HoldsRow bytes (r .n) k
+  pub cells : r .n ≤ length (m .releases)
+  pub grants : given ≡ fillOf (grantedAt laws r m (recordRow bytes (r .n) k)) (r .n) (m .releases)
+  pub puts : put ≡ putReleases bytes (r .n) k (at given) (r .n)
+
+module _ {bytes : List ℕ} {laws : List Law} {r : Road} {m : Metered} {k : ℕ} {given put : List ℕ} (g : Given bytes laws r m k given put) where
+  abbrev row : List ℕ
+  row = recordRow bytes (r .n) k
+
+  same : (i : ℕ) → i < r .n → at given i ≡ grantedAt laws r m row i
+  same i l = rw (g .grants) (fill-at (grantedAt laws r m row) (r .n) (m .releases) i l (g .cells))
+
+  -- the releases put are those granted
+  pub given-put : put ≡ putReleases bytes (r .n) k (grantedAt laws r m (recordRow bytes (r .n) k)) (r .n)
+  given-put = g .puts ∙ put-same bytes (r .n) k (at given) (grantedAt laws r m row) (r .n) same
+
+  module _ {filled : List ℕ} (again : filled ≡ recordRow put (r .n) k) where
+    -- the row read again is the filled one
+    pub given-row : filled ≡ filledRow laws r m (recordRow bytes (r .n) k)
+    unfolding filledRow
+    given-row =
+        again
+        ∙ ap (λ (x : List ℕ). recordRow x (r .n) k) given-put
+        ∙ put-releases bytes (r .n) k (grantedAt laws r m row) (r .n) (le-refl (r .n)) (g .held) (λ i l. granted-small laws r m row i) .row
+
+    -- what the step by it leaves is what the next step's wishes go by
+    pub given-next : {next : Metered} → next ≡ nextMetered r m filled given → next ≡ meteredOf laws r m (recordRow bytes (r .n) k)
+    unfolding meteredOf
+    given-next e = e ∙ rw (given-row, g .grants)
+
+    pub given-steps : Steppable r (m .state) (filledRow laws r m (recordRow bytes (r .n) k)) → Steppable r (m .state) filled
+    given-steps h = rw given-row h
+
+    pub given-outflows : {y : List ℕ} → y ≡ outflowsOf r (m .state) filled → y ≡ outflowsOf r (m .state) (filledRow laws r m (recordRow bytes (r .n) k))
+    given-outflows e = e ∙ ap (outflowsOf r (m .state)) given-row

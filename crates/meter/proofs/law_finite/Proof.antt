@@ -1,0 +1,75 @@
+-- `meter::law_finite` meets its contract: in each case of the law. Assumes nothing.
+use Rattle.meter.specs.Meter.{lawFinite}
+use Rattle.meter.specs.MeterLaws.{both-are}
+use borrow.Author.Needs.{needs}
+use Rattle.meter.proofs.law_finite.Statement.{statement}
+use Rattle.meter.proofs.law_finite.Tie as tie
+
+-- where the law's case is known, from the end of each case
+abbrev Fixed : tie.After-is-finite → tie.After-law
+Fixed c = c .before .before
+
+abbrev Alinea : tie.After-is-finite3 → tie.After-law2
+Alinea c = c .before .before .before
+
+abbrev DemandCapacity : tie.After-is-finite6 → tie.After-law3
+DemandCapacity c = c .before .before .before .before
+
+enum-known-law : tie.Need-enum-known-law
+enum-known-law c = search needs
+
+is-finite-requires : tie.Need-is-finite-requires
+is-finite-requires c κs = search needs
+
+enum-known-law-2 : tie.Need-enum-known-law-2
+enum-known-law-2 c = search needs
+
+is-finite-requires-2 : tie.Need-is-finite-requires-2
+is-finite-requires-2 c κs = search needs
+
+is-finite-requires-3 : tie.Need-is-finite-requires-3
+is-finite-requires-3 c κs = search needs
+
+enum-known-law-3 : tie.Need-enum-known-law-3
+enum-known-law-3 c = search needs
+
+is-finite-requires-4 : tie.Need-is-finite-requires-4
+is-finite-requires-4 c κs = search needs
+
+is-finite-requires-5 : tie.Need-is-finite-requires-5
+is-finite-requires-5 c κs = search needs
+
+is-finite-requires-6 : tie.Need-is-finite-requires-6
+is-finite-requires-6 c κs = search needs
+
+returns : tie.Need-returns
+unfolding lawFinite
+returns c = rw (Fixed c .law .given .1) (c .is-finite .ensures)
+
+returns-2 : tie.Need-returns-2
+unfolding lawFinite
+returns-2 c = rw (Alinea c .law2 .given .1) (both-are (c .before .is-finite2 .ensures) (c .is-finite3 .ensures))
+
+returns-3 : tie.Need-returns-3
+unfolding lawFinite
+returns-3 c =
+    let critical = c .before in
+    let capacity = critical .before in
+    rw (DemandCapacity c .law3 .given .1) (both-are (capacity .is-finite4 .ensures) (both-are (critical .is-finite5 .ensures) (c .is-finite6 .ensures)))
+
+pub law-finite-spec : {M : Type 1} → statement M
+law-finite-spec =
+    tie.close
+    (tie.spec
+    enum-known-law
+    is-finite-requires
+    enum-known-law-2
+    is-finite-requires-2
+    is-finite-requires-3
+    enum-known-law-3
+    is-finite-requires-4
+    is-finite-requires-5
+    is-finite-requires-6
+    returns
+    returns-2
+    returns-3)

@@ -1,0 +1,56 @@
+-- `meter::wish` meets its contract: in each case of the law. Assumes nothing.
+use mathlib.Core.Path.{refl}
+use Rattle.meter.specs.Meter.{wishOf}
+use borrow.Author.Needs.{needs}
+use Rattle.meter.proofs.wish.Statement.{statement}
+use Rattle.meter.proofs.wish.Tie as tie
+
+-- where the law's case is known, from the end of each case
+abbrev Fixed : tie.After-known-told → tie.After-law
+Fixed c = c .before
+
+abbrev Alinea : tie.After-wish → tie.After-law2
+Alinea c = c .before .before
+
+abbrev DemandCapacity : tie.After-wish2 → tie.After-law3
+DemandCapacity c = c .before .before
+
+enum-known-law : tie.Need-enum-known-law
+enum-known-law c = search needs
+
+enum-known-law-2 : tie.Need-enum-known-law-2
+enum-known-law-2 c = search needs
+
+wish-requires : tie.Need-wish-requires
+wish-requires c κs = search needs
+
+enum-known-law-3 : tie.Need-enum-known-law-3
+enum-known-law-3 c = search needs
+
+wish-requires-2 : tie.Need-wish-requires-2
+wish-requires-2 c κs = search needs
+
+returns : tie.Need-returns
+unfolding wishOf
+returns c = rw (Fixed c .law .given .1) refl
+
+returns-2 : tie.Need-returns-2
+unfolding wishOf
+returns-2 c = rw (Alinea c .law2 .given .1) (c .wish .ensures)
+
+returns-3 : tie.Need-returns-3
+unfolding wishOf
+returns-3 c = rw (DemandCapacity c .law3 .given .1) (c .wish2 .ensures)
+
+pub wish-spec : {M : Type 1} → statement M
+wish-spec =
+    tie.close
+    (tie.spec
+    enum-known-law
+    enum-known-law-2
+    wish-requires
+    enum-known-law-3
+    wish-requires-2
+    returns
+    returns-2
+    returns-3)

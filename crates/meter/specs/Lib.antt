@@ -1,0 +1,3 @@
+pub mod Meter
+pub mod Wishes
+pub mod MeterLaws

@@ -1,0 +1,311 @@
+-- Laws of wishes, of the releases that they give and of refusal 16: callers use these and leave the definitions shut. Assumes nothing.
+use mathlib.Core.Path.{_≡_, refl, sym, ap, subst, _∙_}
+use mathlib.Core.Bool.{Bool, true, false, not, cond, _&&_, _||_, true≢false}
+use mathlib.Core.List.{List, [], _∷_}
+use Prim.Native.Nat.{ℕ, zero, suc, _+_, _-_, _*_, _^_, _≤_, _<_, min}
+use native.Mathlib.Nat.{le-refl, le-div-iff-mul-le, mul-pos, sub-self, zero-mul, le-of-suc-le-suc}
+use native.Mathlib.Omega.{arith}
+use borrow.Author.Tests.{leb-true, leb-false, ltb-true, le-leb, le-ltb, eqb-true, eqb-false, eq-eqb, ne-eqb}
+use borrow.Author.Count.{below-more, below-none}
+use lib.Dec.{T, leb, ltb, eqb, le→leb, leb→le, lit<}
+use lib.IntN.{pos, negsuc}
+use lib.ListN.{getD, length}
+use lib.Ieee.{Float, nan, inf, fin, binary64, up, down, round, sub, eq, lt, le, ofInt, ofBits}
+use lib.Ieee.Fits.{down-pos}
+use lib.Ieee.Exact.{HasValue}
+use lib.Ieee.Back.{round-whole}
+use lib.Ieee.Order.{le-of-values}
+use lib.Ieee.Positive.{above, positive as positive-float, positive-of-value, above-of-le, values-of-le}
+use lib.Ieee.Scale.{finite, round-same}
+use Rattle.numbers.specs.Lists.{at}
+use Rattle.numbers.specs.First.{unless, firstOf, allOf}
+use Rattle.numbers.specs.FirstLaws.{First, first, first-is, first-stop, all-at, all-true, all-fails}
+use Rattle.meter.specs.declared.DemandCapacity.{DemandCapacity}
+use Rattle.meter.specs.declared.Law.{Law}
+use Rattle.meter.specs.Meter.{count, demandCapacityOf, wholeBelow, lawFinite, lawAt, lawOk, lawFaultOf}
+
+-- the wish of demand-capacity, up to the critical count and above it
+module _ (p : DemandCapacity) (entered held : ℕ) where
+  pub up-to-critical : le (count held) (p .critical) ≡ true → sub binary64 (p .capacity) (count entered) ≡ demandCapacityOf p entered held
+  unfolding demandCapacityOf
+  up-to-critical h = rw h
+
+  pub above-critical : le (count held) (p .critical) ≡ false → p .least ≡ demandCapacityOf p entered held
+  unfolding demandCapacityOf
+  above-critical h = rw h
+
+-- the release
+
+-- of 2.5, 3, −2.5 and an infinite wish
+on-paper : (wholeBelow (fin false 5 (negsuc 0)) 9 ≡ 2)
+    × ((wholeBelow (fin false 3 (pos 0)) 9 ≡ 3) × ((wholeBelow (fin true 5 (negsuc 0)) 9 ≡ 0) × (wholeBelow (inf false) 9 ≡ 9)))
+unfolding wholeBelow
+on-paper = (refl, (refl, (refl, refl)))
+
+-- it is at most the cap
+pub whole-most : (x : Float) (cap : ℕ) → wholeBelow x cap ≤ cap
+unfolding wholeBelow
+whole-most nan cap = omega arith
+whole-most (inf true) cap = omega arith
+whole-most (inf false) cap = omega arith
+whole-most (fin true m e) cap = omega arith
+whole-most (fin false m e) cap = omega arith
+
+-- with a smaller cap it is the smaller of the two
+pub whole-cap : (x : Float) (most cap : ℕ) → cap ≤ most → wholeBelow x cap ≡ min (wholeBelow x most) cap
+unfolding wholeBelow
+whole-cap nan most cap h = omega arith
+whole-cap (inf true) most cap h = omega arith
+whole-cap (inf false) most cap h = omega arith
+whole-cap (fin true m e) most cap h = omega arith
+whole-cap (fin false m e) most cap h = omega arith
+
+-- it is 0 for a wish that is not a number or negative, and an infinite wish above takes the cap
+pub whole-nan : (cap : ℕ) → wholeBelow nan cap ≡ 0
+unfolding wholeBelow
+whole-nan cap = refl
+
+pub whole-negative : (x : Float) (cap : ℕ) → lt x (count 0) ≡ true → wholeBelow x cap ≡ 0
+unfolding wholeBelow lt ofInt
+whole-negative nan cap h = refl
+whole-negative (inf true) cap h = refl
+whole-negative (inf false) cap h = absurd (true≢false (sym h))
+whole-negative (fin true m e) cap h = refl
+whole-negative (fin false m e) cap h = absurd (omega (arith, ltb-true (m * up e * 1) (0 * down e) h, zero-mul (down e)))
+
+pub whole-infinite : (cap : ℕ) → wholeBelow (inf false) cap ≡ cap
+unfolding wholeBelow
+whole-infinite cap = refl
+
+-- a 64-bit float holds each count of 32 bits
+pub count-value : (k : ℕ) → k < 2 ^ 32 → HasValue (count k) false k 1
+unfolding ofInt
+count-value k h = round-whole binary64 false k (omega arith)
+
+below-infinity : (y : Float) (k : ℕ) → HasValue y false k 1 → T (le y (inf false))
+unfolding le
+below-infinity nan k h = absurd h
+below-infinity (inf s) k h = absurd h
+below-infinity (fin s m e) k h = tt
+
+module _ (cap k : ℕ) (some : 0 < k) (within : k ≤ cap) (short : k < 2 ^ 32) where
+  -- a count up to the cap that is not above the wish is at most the release
+  at-most : (x : Float) → T (le (count k) x) → k ≤ wholeBelow x cap
+  unfolding wholeBelow
+  at-most x t = go x t (above-of-le (count k) x positive t)
+    where
+      positive : T (positive-float (count k))
+      positive = positive-of-value (count k) k 1 (count-value k short) some
+
+      go : (x : Float) → T (le (count k) x) → T (above x) → k ≤ wholeBelow x cap
+      go nan t a = absurd a
+      go (inf true) t a = absurd a
+      go (inf false) t a = within
+      go (fin true m e) t a = absurd a
+      go (fin false m e) t a =
+          let h = values-of-le (count k) (fin false m e) k 1 (m * up e) (down e) positive a (count-value k short) (refl, refl) t in
+          omega (arith, le-div-iff-mul-le {k = down e} {x = k} {y = m * up e} (down-pos e) .1 (omega arith))
+
+  -- and one that is at most the release is not above the wish
+  not-above : (x : Float) → k ≤ wholeBelow x cap → T (le (count k) x)
+  unfolding wholeBelow
+  not-above nan h = absurd (omega arith)
+  not-above (inf true) h = absurd (omega arith)
+  not-above (inf false) h = below-infinity (count k) k (count-value k short)
+  not-above (fin true m e) h = absurd (omega arith)
+  not-above (fin false m e) h =
+      let l : k * down e ≤ m * up e = le-div-iff-mul-le {k = down e} {x = k} {y = m * up e} (down-pos e) .0 (omega arith) in
+      le-of-values (count k) (fin false m e) k 1 (m * up e) (down e) (lit< tt) (down-pos e) (count-value k short) (refl, refl) (omega arith)
+
+-- two tests that imply each other are one
+same : (a b : Bool) → (T a → T b) → (T b → T a) → a ≡ b
+same true true f g = refl
+same false false f g = refl
+same true false f g = absurd (f tt)
+same false true f g = absurd (g tt)
+
+-- so the release is the greatest whole number up to the cap that is not above the wish
+pub whole-agrees : (x : Float) (cap k : ℕ) → 0 < k → k ≤ cap → k < 2 ^ 32 → le (count k) x ≡ leb k (wholeBelow x cap)
+whole-agrees x cap k some within short =
+    same (le (count k) x) (leb k (wholeBelow x cap))
+    (λ t. le→leb k (wholeBelow x cap) (at-most cap k some within short x t))
+    (λ t. not-above cap k some within short x (leb→le k (wholeBelow x cap) t))
+
+pub whole-not-above : (x : Float) (cap : ℕ) → 0 < wholeBelow x cap → cap < 2 ^ 32 → le (count (wholeBelow x cap)) x ≡ true
+whole-not-above x cap some short =
+    let most = whole-most x cap in
+    whole-agrees x cap (wholeBelow x cap) some most (omega arith) ∙ le-leb (wholeBelow x cap) (wholeBelow x cap) (le-refl (wholeBelow x cap))
+
+pub whole-greatest : (x : Float) (cap k : ℕ) → 0 < k → k ≤ cap → cap < 2 ^ 32 → le (count k) x ≡ true → k ≤ wholeBelow x cap
+whole-greatest x cap k some within short h = leb-true k (wholeBelow x cap) (sym (whole-agrees x cap k some within (omega arith)) ∙ h)
+
+pub whole-under : (x : Float) (cap k : ℕ) → 0 < k → k ≤ cap → cap < 2 ^ 32 → le (count k) x ≡ false → wholeBelow x cap < k
+whole-under x cap k some within short h = leb-false k (wholeBelow x cap) (sym (whole-agrees x cap k some within (omega arith)) ∙ h)
+
+-- narrowing by halves: the release lies between two numbers
+pub record Between (x : Float) (cap low high : ℕ) : Type 0 where
+  pub least : low ≤ wholeBelow x cap
+  pub most : wholeBelow x cap ≤ high
+  pub within : high ≤ cap
+
+pub between-none : {x : Float} {cap : ℕ} → Between x cap 0 cap
+between-none {x} {cap} = record { least = omega arith; most = whole-most x cap; within = le-refl cap }
+
+-- a number between them that is not above the wish is the lower one
+pub between-fits : {x : Float} {cap low high middle : ℕ} → Between x cap low high → low < middle → middle ≤ high → cap < 2 ^ 32
+    → le (count middle) x ≡ true → Between x cap middle high
+between-fits {x} {cap} {middle = middle} b l m short h = record {
+  least = whole-greatest x cap middle (omega arith) (omega (arith, b .within)) short h;
+  most = b .most;
+  within = b .within;
+}
+
+-- the one before a number that is above it is the higher one
+pub between-above : {x : Float} {cap low high middle : ℕ} → Between x cap low high → low < middle → middle ≤ high → cap < 2 ^ 32
+    → le (count middle) x ≡ false → Between x cap low (middle - 1)
+between-above {x} {cap} {middle = middle} b l m short h = record {
+  least = b .least;
+  most = omega (arith, whole-under x cap middle (omega arith) (omega (arith, b .within)) short h);
+  within = omega (arith, b .within);
+}
+
+pub between-end : {x : Float} {cap low high : ℕ} → Between x cap low high → high ≤ low → low ≡ wholeBelow x cap
+between-end b l = omega (arith, b .least, b .most)
+
+-- finite numbers
+
+-- a zero over any c rounds to 0
+zero-rounds : (sign : Bool) (c : ℕ) → sign ≡ false → 0 < c → eq (round binary64 sign 0 c) (ofBits binary64 0) ≡ true
+unfolding eq ofBits round
+zero-rounds sign c p h = rw (p, round-same binary64 false 0 c 0 1 h (lit< tt) (sym (zero-mul c)))
+
+-- a finite number less itself is 0
+less-itself : (a c : ℕ) (s : Bool) → 0 < c
+    → eq (cond (ltb a a) (round binary64 (not s) (a - a) c) (round binary64 (s && ltb a a) (a - a) c)) (ofBits binary64 0) ≡ true
+less-itself a c s h = rw (le-ltb a a (le-refl a), sub-self a) (zero-rounds (s && false) c (none s) h)
+  where
+    none : (s : Bool) → (s && false) ≡ false
+    none true = refl
+    none false = refl
+
+-- a number less itself is 0 exactly where it is finite
+pub finite-test : (x : Float) → eq (sub binary64 x x) (ofBits binary64 0) ≡ finite x
+unfolding sub eq ofBits
+finite-test nan = refl
+finite-test (inf true) = refl
+finite-test (inf false) = refl
+finite-test (fin true m e) = less-itself (m * up e * down e) (down e * down e) true (mul-pos (down-pos e) (down-pos e))
+finite-test (fin false m e) = less-itself (m * up e * down e) (down e * down e) false (mul-pos (down-pos e) (down-pos e))
+
+-- two tests and what each is
+pub both-are : {s t u v : Bool} → s ≡ u → t ≡ v → s && t ≡ u && v
+both-are p q = rw (p, q)
+
+-- 16
+
+-- the cell at i passes without a ramp; with one, where its law has finite numbers alone
+pub ok-no-ramp : (laws : List Law) (ramp : List ℕ) (i : ℕ) → at ramp i ≡ 0 → lawOk laws ramp i ≡ true
+unfolding lawOk
+ok-no-ramp laws ramp i e = rw (eq-eqb (at ramp i) 0 e)
+
+pub ok-ramp : (laws : List Law) (ramp : List ℕ) (i : ℕ) → (at ramp i ≡ 0 → ⊥) → lawOk laws ramp i ≡ lawFinite (lawAt laws i)
+unfolding lawOk
+ok-ramp laws ramp i ne = rw (ne-eqb (at ramp i) 0 ne)
+
+-- within a list its entry is the same whatever stands for an entry past its end
+any-default : (l : List Law) (i : ℕ) (d e : Law) → i < length l → getD l i d ≡ getD l i e
+any-default [] i d e h = absurd (omega arith)
+any-default (x ∷ l) zero d e h = refl
+any-default (x ∷ l) (suc i) d e h = any-default l i d e (le-of-suc-le-suc h)
+
+pub law-at : (laws : List Law) (i : ℕ) (d : Law) → i < length laws → getD laws i d ≡ lawAt laws i
+law-at laws i d h = any-default laws i d (lawAt [] 0) h
+
+-- what the code finds of the cell at i is this test
+pub ok-is : (laws : List Law) (ramp : List ℕ) (i : ℕ) (d : Law) {t : Bool} → i < length laws → t ≡ lawFinite (getD laws i d)
+    → lawOk laws ramp i ≡ eqb (at ramp i) 0 || t
+unfolding lawOk
+ok-is laws ramp i d h e = rw (e, law-at laws i d h)
+
+-- what holds when the loop over the cells has passed the first i of them
+pub record Passed (laws : List Law) (ramp : List ℕ) (n i : ℕ) : Type 0 where
+  pub within : i ≤ n
+  pub passed : (j : ℕ) → j < i → lawOk laws ramp j ≡ true
+
+pub passed-none : {laws : List Law} {ramp : List ℕ} {n : ℕ} → Passed laws ramp n 0
+passed-none = record { within = omega arith; passed = below-none _ }
+
+pub passed-more : {laws : List Law} {ramp : List ℕ} {n i : ℕ} → Passed laws ramp n i → i < n → lawOk laws ramp i ≡ true
+    → Passed laws ramp n (i + 1)
+passed-more p l e = record { within = omega arith; passed = below-more _ _ (p .passed) e }
+
+pub passed-stop : {laws : List Law} {ramp : List ℕ} {n i : ℕ} → Passed laws ramp n i → i < n → lawOk laws ramp i ≡ false
+    → i + 1 ≡ lawFaultOf laws ramp n
+unfolding lawFaultOf
+passed-stop {laws} {ramp} {n} {i} p l e =
+    rw (all-fails (lawOk laws ramp) n i l e, ← first-stop (lawOk laws ramp) n i l (p .passed) e)
+
+pub passed-end : {laws : List Law} {ramp : List ℕ} {n i : ℕ} → Passed laws ramp n i → n ≤ i → 0 ≡ lawFaultOf laws ramp n
+unfolding lawFaultOf
+passed-end {laws} {ramp} {n} p l = rw (all-true (lawOk laws ramp) n (λ j h. p .passed j (omega arith)))
+
+-- 16's place: 0 where every ramp's law has finite numbers alone
+pub fault-none : (laws : List Law) (ramp : List ℕ) (n : ℕ) → lawFaultOf laws ramp n ≡ 0
+    → (i : ℕ) → i < n → (at ramp i ≡ 0 → ⊥) → lawFinite (lawAt laws i) ≡ true
+unfolding lawFaultOf
+fault-none laws ramp n h i l ne = sym (ok-ramp laws ramp i ne) ∙ go (allOf (lawOk laws ramp) n) refl h
+  where
+    go : (t : Bool) → allOf (lawOk laws ramp) n ≡ t → unless t (firstOf (lawOk laws ramp) n + 1) 0 ≡ 0 → lawOk laws ramp i ≡ true
+    go true e z = all-at (lawOk laws ramp) n e i l
+    go false e z = absurd (omega arith)
+
+-- and else, counted from 1, the lowest cell with a ramp and a law with a number that isn't finite
+pub record LowestFault (laws : List Law) (ramp : List ℕ) (n i : ℕ) : Type 0 where
+  pub cell : i < n
+  pub marked : at ramp i ≡ 0 → ⊥
+  pub broken : lawFinite (lawAt laws i) ≡ false
+  pub before : (j : ℕ) → j < i → (at ramp j ≡ 0 → ⊥) → lawFinite (lawAt laws j) ≡ true
+
+pub fault-lowest : (laws : List Law) (ramp : List ℕ) (n i : ℕ) → lawFaultOf laws ramp n ≡ i + 1 → LowestFault laws ramp n i
+unfolding lawFaultOf
+fault-lowest laws ramp n i h = go (allOf (lawOk laws ramp) n) refl h
+  where
+    go : (t : Bool) → allOf (lawOk laws ramp) n ≡ t → unless t (firstOf (lawOk laws ramp) n + 1) 0 ≡ i + 1 → LowestFault laws ramp n i
+    go true e q = absurd (omega arith)
+    go false e q =
+        let f = lawOk laws ramp in
+        let there : firstOf f n ≡ i = omega arith in
+        let lowest : First f n i = subst (First f n) there (first f n) in
+        let cell : i < n = omega (arith, lowest .within, eqb-false (firstOf f n) n e) in
+        let stops = lowest .stops cell in
+        let marked : at ramp i ≡ 0 → ⊥ = λ z. true≢false (sym (ok-no-ramp laws ramp i z) ∙ stops) in
+        record {
+          cell = cell;
+          marked = marked;
+          broken = sym (ok-ramp laws ramp i marked) ∙ stops;
+          before = λ j l ne. sym (ok-ramp laws ramp j ne) ∙ lowest .before j l;
+        }
+
+-- cells without a ramp and entries past n are not looked at
+pub fault-unread : (laws laws′ : List Law) (ramp : List ℕ) (n : ℕ)
+    → ((i : ℕ) → i < n → (at ramp i ≡ 0 → ⊥) → lawAt laws i ≡ lawAt laws′ i) → lawFaultOf laws ramp n ≡ lawFaultOf laws′ ramp n
+unfolding lawFaultOf
+fault-unread laws laws′ ramp n h = ap (λ (p : ℕ). unless (eqb p n) (p + 1) 0) (sym (first-is (lawOk laws′ ramp) n (firstOf (lawOk laws ramp) n) found))
+  where
+    alike : (i : ℕ) → i < n → lawOk laws′ ramp i ≡ lawOk laws ramp i
+    alike i l = go (eqb (at ramp i) 0) refl
+      where
+        go : (t : Bool) → eqb (at ramp i) 0 ≡ t → lawOk laws′ ramp i ≡ lawOk laws ramp i
+        go true e = let z = eqb-true (at ramp i) 0 e in ok-no-ramp laws′ ramp i z ∙ sym (ok-no-ramp laws ramp i z)
+        go false e =
+            let ne = eqb-false (at ramp i) 0 e in
+            ok-ramp laws′ ramp i ne ∙ ap lawFinite (sym (h i l ne)) ∙ sym (ok-ramp laws ramp i ne)
+
+    found : First (lawOk laws′ ramp) n (firstOf (lawOk laws ramp) n)
+    found =
+        let f = first (lawOk laws ramp) n in
+        record {
+          within = f .within;
+          before = λ j l. alike j (omega (arith, f .within)) ∙ f .before j l;
+          stops = λ l. alike (firstOf (lawOk laws ramp) n) l ∙ f .stops l;
+        }

@@ -1,0 +1,26 @@
+-- `metering::granted` meets its contract: without a ramp, and with one. Assumes nothing.
+use mathlib.Core.Path.{_≡_, ap, _∙_}
+use lib.Ieee.{Float}
+use Rattle.meter.specs.Meter.{wholeBelow}
+use Rattle.metering.specs.Granting.{no-ramp, with-ramp}
+use borrow.Author.Needs.{needs}
+use native.Mathlib.Omega.{arith}
+use Rattle.metering.proofs.granted.Statement.{statement}
+use Rattle.metering.proofs.granted.Tie as tie
+
+returns : tie.Need-returns
+returns c = no-ramp _ _ _ (omega arith)
+
+wish-requires : tie.Need-wish-requires
+wish-requires c κs = search needs
+
+release-requires : tie.Need-release-requires
+release-requires c κs = search needs
+
+returns-2 : tie.Need-returns-2
+returns-2 c =
+    let a = c .before .before .before .args in
+    c .release .ensures ∙ ap (λ (w : Float). wholeBelow w (a .cap)) (c .before .wish .ensures) ∙ with-ramp _ _ _ (λ z. c .before .before .if1 .left z)
+
+pub granted-spec : {M : Type 1} → statement M
+granted-spec = tie.close (tie.spec returns wish-requires release-requires returns-2)

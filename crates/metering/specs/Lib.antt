@@ -1,0 +1,4 @@
+pub mod Metering
+pub mod MeteringLaws
+pub mod Granting
+pub mod Entries

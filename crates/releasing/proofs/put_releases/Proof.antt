@@ -1,0 +1,90 @@
+-- `releasing::put_releases` meets its contract. The invariant: the releases of the first i cells are put. Assumes nothing.
+use mathlib.Core.Path.{_≡_}
+use Prim.Native.Nat.{_-_}
+use Rattle.fields.specs.Fields.{rowStart}
+use Rattle.releasing.specs.Putting.{Put, put-none, room, put-more, put-end}
+use native.Mathlib.Omega.{arith}
+use borrow.Author.Needs.{needs}
+use Rattle.releasing.proofs.put_releases.Statement.{statement}
+use Rattle.releasing.proofs.put_releases.Tie as tie
+
+abbrev Inv-loop : tie.InvT-loop
+Inv-loop bytes₀ n t releases start i₀ bytes i = (start ≡ rowStart n t) × Put bytes₀ n t releases bytes i
+
+abbrev μ-loop : tie.MeasureT-loop
+μ-loop bytes₀ n t releases start i₀ bytes i = n - i
+
+-- the arguments, from the loop's place; the turn, from the places before and after its call
+abbrev A : tie.At-loop Inv-loop μ-loop → tie.Start Inv-loop μ-loop
+A c = c .before .before .before
+
+abbrev In : tie.After-put-number-arg2 Inv-loop μ-loop → tie.In-loop Inv-loop μ-loop
+In c = c .before .before
+
+abbrev Put-in : tie.After-slice-known2 Inv-loop μ-loop → tie.In-loop Inv-loop μ-loop
+Put-in c = In (c .before .before .before)
+
+row-start-requires : tie.Need-row-start-requires Inv-loop μ-loop
+row-start-requires c κs = search needs
+
+loop-holds : tie.Need-loop-holds Inv-loop μ-loop
+loop-holds c = (c .row-start .ensures, put-none _ _ _ _)
+
+mul-put-number : tie.Need-mul-put-number Inv-loop μ-loop
+mul-put-number c = search needs
+
+add-put-number : tie.Need-add-put-number Inv-loop μ-loop
+add-put-number c = search needs
+
+mul-put-number-2 : tie.Need-mul-put-number-2 Inv-loop μ-loop
+mul-put-number-2 c = search needs
+
+add-put-number-2 : tie.Need-add-put-number-2 Inv-loop μ-loop
+add-put-number-2 c = search needs
+
+mul-put-number-3 : tie.Need-mul-put-number-3 Inv-loop μ-loop
+mul-put-number-3 c = search needs
+
+element-copy-out-put-number : tie.Need-element-copy-out-put-number Inv-loop μ-loop
+element-copy-out-put-number c = search needs
+
+put-number-requires : tie.Need-put-number-requires Inv-loop μ-loop
+put-number-requires c κs = let l = In c in room (l .before .loop .inv .1) (A (l .before) .pre) (l .before .loop .inv .0) (l .loop-test .taken)
+
+add-i : tie.Need-add-i Inv-loop μ-loop
+add-i c = search needs
+
+loop-less : tie.Need-loop-less Inv-loop μ-loop
+loop-less c = search needs
+
+loop-again : tie.Need-loop-again Inv-loop μ-loop
+loop-again c =
+    let l = Put-in c in
+    (l .before .loop .inv .0, put-more (l .before .loop .inv .1) (l .loop-test .taken) (l .before .loop .inv .0) (c .before .before .put-number .ensures))
+
+same-length : tie.Need-same-length Inv-loop μ-loop
+same-length c = c .before .loop .inv .1 .length
+
+returns : tie.Need-returns Inv-loop μ-loop
+returns c = put-end (c .before .loop .inv .1) (omega arith)
+
+pub put-releases-spec : {M : Type 1} → statement M
+put-releases-spec =
+    tie.close
+    (tie.spec
+    Inv-loop
+    μ-loop
+    row-start-requires
+    loop-holds
+    mul-put-number
+    add-put-number
+    mul-put-number-2
+    add-put-number-2
+    mul-put-number-3
+    element-copy-out-put-number
+    put-number-requires
+    add-i
+    loop-less
+    loop-again
+    same-length
+    returns)

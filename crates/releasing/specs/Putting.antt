@@ -1,0 +1,38 @@
+-- What the loop that puts the releases of a step carries. Assumes nothing.
+use mathlib.Core.Path.{_≡_, refl, ap, _∙_}
+use mathlib.Core.List.{List}
+use Prim.Native.Nat.{ℕ, zero, suc, _+_, _*_, _≤_, _<_}
+use native.Mathlib.Numerals.{add-one}
+use native.Mathlib.Omega.{arith}
+use lib.ListN.{length}
+use Rattle.numbers.specs.Lists.{at}
+use Rattle.fields.specs.Fields.{numberSize, rowStart, HoldsRow}
+use Rattle.fields.specs.Stored.{Stored}
+use Rattle.releasing.specs.Releases.{releaseNumber, putReleases}
+
+-- the releases of the first i cells are put
+pub record Put (old : List ℕ) (n t : ℕ) (releases bytes : List ℕ) (i : ℕ) : Type 0 where
+  pub within : i ≤ n
+  pub length : length bytes ≡ length old
+  pub whole : bytes ≡ putReleases old n t (at releases) i
+
+pub put-none : (old : List ℕ) (n t : ℕ) (releases : List ℕ) → Put old n t releases old 0
+unfolding putReleases
+put-none old n t releases = record { within = omega arith; length = refl; whole = refl }
+
+module _ {old : List ℕ} {n t : ℕ} {releases bytes : List ℕ} {i : ℕ} (h : Put old n t releases bytes i) where
+  -- the row's start, as the code found it, leaves room for the next
+  pub room : {start : ℕ} → HoldsRow old n t → start ≡ rowStart n t → i < n → start + numberSize * releaseNumber i + numberSize ≤ length bytes
+  room held e l = omega (arith, held .row, e, h .length)
+
+  pub put-more : {start : ℕ} {next : List ℕ} {end : ℕ} → i < n → start ≡ rowStart n t
+      → Stored bytes (start + numberSize * releaseNumber i) numberSize (at releases i) next end → Put old n t releases next (i + 1)
+  unfolding putReleases
+  put-more l e p = record {
+    within = omega arith;
+    length = p .same ∙ h .length;
+    whole = rw (add-one i) (p .bytes ∙ rw (e, h .whole));
+  }
+
+  pub put-end : n ≤ i → bytes ≡ putReleases old n t (at releases) n
+  put-end l = let e : i ≡ n = omega (arith, h .within) in h .whole ∙ ap (putReleases old n t (at releases)) e

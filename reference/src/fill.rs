@@ -1,0 +1,85 @@
+//! Filling a record's releases by meter laws: refusals 1 to 6, 16 and 11.
+
+use crate::answer::Answer;
+use crate::meter::{self, Law};
+use crate::model::{self, Road, State};
+use crate::record;
+use crate::step;
+
+/// A law for every cell; those of cells without a ramp or past n are ignored.
+pub type Laws = [Law; Road::MAX_CELLS];
+
+/// What the laws remember of the last step, cell by cell; 0 before the first.
+struct Last {
+    release: [u32; Road::MAX_CELLS],
+    /// What entered from upstream.
+    entered: [u32; Road::MAX_CELLS],
+}
+
+/// Puts the laws' releases into the record and runs it, in one pass.
+///
+/// The list takes the outflows as running's does. After a refusal record and
+/// list are as they were.
+pub fn fill(record: &mut [u8], laws: &Laws, list: &mut [u32]) -> Answer {
+    let reading = record::read(record);
+    if reading.number != 0 {
+        return Answer::without_state(reading.number, reading.place);
+    }
+    let road = reading.road;
+    if let Some(cell) = first_not_finite(&road, laws) {
+        return Answer::without_state(16, cell);
+    }
+    let width = road.n + 1;
+    if list.len() < reading.steps * width {
+        return Answer::without_state(11, 0);
+    }
+    let mut state = reading.state;
+    let mut last = Last {
+        release: [0; Road::MAX_CELLS],
+        entered: [0; Road::MAX_CELLS],
+    };
+    for t in 0..reading.steps {
+        let mut row = record::row(record, road.n, t);
+        for cell in 1..=road.n {
+            row[2 * cell] = granted(&road, &state, &row, &laws[cell - 1], &last, cell);
+        }
+        record::put_row(record, road.n, t, &row);
+        let outflows = step::greatest_outflows(&road, &state, &row);
+        list[t * width..(t + 1) * width].copy_from_slice(&outflows);
+        last.remember(&road, &state, &row, &outflows);
+        state = step::advance(&road, &state, &row, &outflows);
+    }
+    Answer::finished(road, state)
+}
+
+/// Refusal 16: the lowest cell with a ramp whose law has a number that isn't
+/// finite.
+fn first_not_finite(road: &Road, laws: &Laws) -> Option<usize> {
+    (1..=road.n).find(|&cell| road.ramp[cell - 1] == 1 && !laws[cell - 1].is_finite())
+}
+
+/// The release that a cell's law gets in a step; 0 without a ramp.
+fn granted(road: &Road, state: &State, row: &[u32], law: &Law, last: &Last, cell: usize) -> u32 {
+    let i = cell - 1;
+    if road.ramp[i] == 0 {
+        return 0;
+    }
+    let wish = law.wish(last.release[i], last.entered[i], state.held[i]);
+    meter::release(wish, cap(road, state, row, cell))
+}
+
+/// The most that may be released: queue and arrivals, supply, 1,000,000.
+fn cap(road: &Road, state: &State, row: &[u32], cell: usize) -> u32 {
+    let most = model::waiting(state, row, cell).min(model::supply(road, state, cell));
+    most.min(u64::from(Road::MAX_RATE)) as u32
+}
+
+impl Last {
+    /// A step's granted releases and what these outflows let in.
+    fn remember(&mut self, road: &Road, before: &State, row: &[u32], outflows: &[u32]) {
+        for cell in 1..=road.n {
+            self.release[cell - 1] = row[2 * cell];
+            self.entered[cell - 1] = step::entering(road, before, outflows, cell) as u32;
+        }
+    }
+}

@@ -1,0 +1,69 @@
+//! Meter laws: what a ramp's meter wishes to release, and the release of a wish.
+
+/// What a ramp's meter follows.
+#[derive(Clone, Copy, Debug, PartialEq)]
+pub enum Law {
+    Fixed {
+        rate: f64,
+    },
+    /// Feedback on the held count, which stands for occupancy.
+    Alinea {
+        gain: f64,
+        target: f64,
+    },
+    DemandCapacity {
+        capacity: f64,
+        critical: f64,
+        least: f64,
+    },
+}
+
+impl Law {
+    /// Refusal 16 asks this: all of its numbers are finite.
+    pub fn is_finite(self) -> bool {
+        match self {
+            Law::Fixed { rate } => rate.is_finite(),
+            Law::Alinea { gain, target } => gain.is_finite() && target.is_finite(),
+            Law::DemandCapacity {
+                capacity,
+                critical,
+                least,
+            } => capacity.is_finite() && critical.is_finite() && least.is_finite(),
+        }
+    }
+
+    /// The wish in a step: after the last step's release and its entry from
+    /// upstream, with so much held. Each operation rounds once; none is fused.
+    pub fn wish(self, last: u32, entered: u32, held: u32) -> f64 {
+        let (last, entered, held) = (f64::from(last), f64::from(entered), f64::from(held));
+        match self {
+            Law::Fixed { rate } => rate,
+            Law::Alinea { gain, target } => {
+                let missing = target - held;
+                let change = gain * missing;
+                last + change
+            }
+            Law::DemandCapacity {
+                capacity,
+                critical,
+                least,
+            } => match held <= critical {
+                true => capacity - entered,
+                false => least,
+            },
+        }
+    }
+}
+
+/// The release of a wish: the greatest whole number not above it, at most the
+/// cap; 0 for a wish that is negative or not a number.
+pub fn release(wish: f64, cap: u32) -> u32 {
+    if wish.is_nan() || wish < 0.0 {
+        return 0;
+    }
+    match wish >= f64::from(cap) {
+        true => cap,
+        // Below the cap the whole number fits 32 bits.
+        false => wish.floor() as u32,
+    }
+}
