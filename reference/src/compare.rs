@@ -39,10 +39,19 @@ fn records_of(case: Case) -> Vec<Vec<u8>> {
         }
         Case::Fill(input) => {
             let mut filled = input.record.clone();
-            fill::fill(&mut filled, &input.laws(), &mut vec![0; input.length]);
+            fill::fill(
+                &mut filled,
+                &input.laws(),
+                &input.lanes,
+                &mut vec![0; input.length],
+            );
             vec![input.record, filled]
         }
-        Case::Step(_) | Case::Write(_) | Case::Row { .. } | Case::Leaf(_) => vec![],
+        Case::Step(_)
+        | Case::Write(_)
+        | Case::Row { .. }
+        | Case::Leaf(_)
+        | Case::Capacity { .. } => vec![],
     }
 }
 

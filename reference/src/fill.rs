@@ -1,6 +1,7 @@
-//! Filling a record's releases by meter laws: refusals 1 to 6, 16 and 11.
+//! Filling a record's releases by meter laws: refusals 1 to 6, 16, 17, 18 and 11.
 
 use crate::answer::Answer;
+use crate::lanes;
 use crate::meter::{self, Law};
 use crate::model::{self, Road, State};
 use crate::record;
@@ -16,11 +17,12 @@ struct Last {
     entered: [u32; Road::MAX_CELLS],
 }
 
-/// Puts the laws' releases into the record and runs it, in one pass.
+/// Puts the laws' releases into the record and runs it under a table of lanes,
+/// in one pass.
 ///
 /// The list takes the outflows as running's does. After a refusal record and
 /// list are as they were.
-pub fn fill(record: &mut [u8], laws: &Laws, list: &mut [u32]) -> Answer {
+pub fn fill(record: &mut [u8], laws: &Laws, table: &[u8], list: &mut [u32]) -> Answer {
     let reading = record::read(record);
     if reading.number != 0 {
         return Answer::without_state(reading.number, reading.place);
@@ -28,6 +30,9 @@ pub fn fill(record: &mut [u8], laws: &Laws, list: &mut [u32]) -> Answer {
     let road = reading.road;
     if let Some(cell) = first_not_finite(&road, laws) {
         return Answer::without_state(16, cell);
+    }
+    if let Some((number, place)) = lanes::table_fault(table, road.n, reading.steps) {
+        return Answer::without_state(number, place);
     }
     let width = road.n + 1;
     if list.len() < reading.steps * width {
@@ -40,14 +45,15 @@ pub fn fill(record: &mut [u8], laws: &Laws, list: &mut [u32]) -> Answer {
     };
     for t in 0..reading.steps {
         let mut row = record::row(record, road.n, t);
+        let here = lanes::road_at(&road, table, t);
         for cell in 1..=road.n {
-            row[2 * cell] = granted(&road, &state, &row, &laws[cell - 1], &last, cell);
+            row[2 * cell] = granted(&here, &state, &row, &laws[cell - 1], &last, cell);
         }
         record::put_row(record, road.n, t, &row);
-        let outflows = step::greatest_outflows(&road, &state, &row);
+        let outflows = step::greatest_outflows(&here, &state, &row);
         list[t * width..(t + 1) * width].copy_from_slice(&outflows);
-        last.remember(&road, &state, &row, &outflows);
-        state = step::advance(&road, &state, &row, &outflows);
+        last.remember(&here, &state, &row, &outflows);
+        state = step::advance(&here, &state, &row, &outflows);
     }
     Answer::finished(road, state)
 }

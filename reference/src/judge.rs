@@ -1,17 +1,22 @@
-//! Judging a schedule: refusals 1 to 6, 12, then 9 or 10, 13 and 14.
+//! Judging a schedule: refusals 1 to 6, 17, 18, 12, then 9 or 10, 13 and 14.
 
 use crate::answer::Answer;
+use crate::lanes;
 use crate::model::{self, Road, State};
 use crate::record;
 use crate::step;
 
-/// Judges a schedule, a row of outflows a step, gate first.
-pub fn judge(record: &[u8], schedule: &[u32]) -> Answer {
+/// Judges a schedule, a row of outflows a step, gate first, under a table of
+/// lanes.
+pub fn judge(record: &[u8], table: &[u8], schedule: &[u32]) -> Answer {
     let reading = record::read(record);
     if reading.number != 0 {
         return Answer::without_state(reading.number, reading.place);
     }
     let road = reading.road;
+    if let Some((number, place)) = lanes::table_fault(table, road.n, reading.steps) {
+        return Answer::without_state(number, place);
+    }
     let width = road.n + 1;
     if schedule.len() != reading.steps * width {
         return Answer::without_state(12, 0);
@@ -19,8 +24,9 @@ pub fn judge(record: &[u8], schedule: &[u32]) -> Answer {
     let mut state = reading.state;
     for (t, outflows) in schedule.chunks(width).enumerate() {
         let row = record::row(record, road.n, t);
-        let fault = step::release_fault(&road, &state, &row)
-            .or_else(|| outflow_fault(&road, &state, &row, outflows));
+        let here = lanes::road_at(&road, table, t);
+        let fault = step::release_fault(&here, &state, &row)
+            .or_else(|| outflow_fault(&here, &state, &row, outflows));
         if let Some((number, place)) = fault {
             return Answer {
                 number,
@@ -30,7 +36,7 @@ pub fn judge(record: &[u8], schedule: &[u32]) -> Answer {
                 state,
             };
         }
-        state = step::advance(&road, &state, &row, outflows);
+        state = step::advance(&here, &state, &row, outflows);
     }
     Answer::finished(road, state)
 }

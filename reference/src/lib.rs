@@ -10,6 +10,8 @@ pub mod compare;
 pub mod draft;
 pub mod fill;
 pub mod judge;
+pub mod lanes;
+pub mod lanes_text;
 pub mod laws;
 pub mod limits;
 pub mod meter;

@@ -4,16 +4,17 @@
 //!     reference record [TEXT [RECORD]]      a text into a record
 //!     reference text [RECORD [TEXT]]        a record into a text
 //!     reference run < RECORD                a run printed whole
+//!     reference run RECORD LANES            the same with lanes closed
 //!     reference judge RECORD SCHEDULE       a schedule's numbers judged
 //!     reference schedule < RECORD           a run's own rows as a schedule
-//!     reference fill RECORD LAWS            the record filled by meter laws
+//!     reference fill RECORD LAWS [LANES]    the record filled by meter laws
 //!     reference trials-input > FRAMES       cases for any implementation
 //!     reference trials-output < FRAMES      what it must print for them
 //!     reference compare PROGRAM RECORD...   a program's print beside its own,
 //!                                           on these and on the trials' records
 //!     reference ctm-records DIR             those records and their prints
 
-use reference::{as_text, compare, fill, judge, laws, print, record, text, trials};
+use reference::{as_text, compare, fill, judge, lanes_text, laws, print, record, text, trials};
 use std::fs;
 use std::io::{self, Read, Write};
 use std::path::Path;
@@ -23,9 +24,10 @@ const USAGE: &str = "usage:
   reference record [TEXT [RECORD]]
   reference text [RECORD [TEXT]]
   reference run < RECORD
+  reference run RECORD LANES
   reference judge RECORD SCHEDULE
   reference schedule < RECORD
-  reference fill RECORD LAWS
+  reference fill RECORD LAWS [LANES]
   reference trials-input > FRAMES
   reference trials-output < FRAMES
   reference compare PROGRAM RECORD...
@@ -42,9 +44,11 @@ fn main() -> ExitCode {
         ["record", ref files @ ..] if files.len() <= 2 => convert(files, make_record),
         ["text", ref files @ ..] if files.len() <= 2 => convert(files, make_text),
         ["run"] => convert(&[], |record| Ok(print::printed_run(record).into_bytes())),
+        ["run", record, lanes] => run_files(record, lanes).and_then(print_out),
         ["judge", record, schedule] => judge_files(record, schedule).and_then(print_out),
         ["schedule"] => convert(&[], print_schedule),
-        ["fill", record, laws] => fill_files(record, laws).and_then(print_out),
+        ["fill", record, laws] => fill_files(record, laws, None).and_then(print_out),
+        ["fill", record, laws, lanes] => fill_files(record, laws, Some(lanes)).and_then(print_out),
         ["trials-input"] => print_out(trials::input()),
         ["trials-output"] => convert(&[], |frames| trials::output(frames).map(String::into_bytes)),
         ["compare", program, ref records @ ..] => compare_program(program, records),
@@ -92,7 +96,7 @@ fn judge_files(record: &str, schedule: &str) -> Made {
     let bytes = read_file(schedule)?;
     let numbers = text::decoded(&bytes).and_then(text::schedule_of);
     let numbers = numbers.map_err(|e| format!("{schedule}: {e}"))?;
-    let answer = judge::judge(&read_file(record)?, &numbers);
+    let answer = judge::judge(&read_file(record)?, &[], &numbers);
     Ok(print::judgement_line(&answer).into_bytes())
 }
 
@@ -103,15 +107,30 @@ fn print_schedule(record: &[u8]) -> Made {
         .map_err(|refusal| refusal.trim_end().to_string())
 }
 
+/// A run printed whole, with the lanes that a file closes.
+fn run_files(record: &str, lanes: &str) -> Made {
+    let table = read_lanes(lanes)?;
+    let printed = print::printed_under(&read_file(record)?, &table);
+    Ok(printed.into_bytes())
+}
+
+/// The table of lanes of a file.
+fn read_lanes(name: &str) -> Made {
+    let bytes = read_file(name)?;
+    let table = text::decoded(&bytes).and_then(lanes_text::table_of);
+    table.map_err(|e| format!("{name}: {e}"))
+}
+
 /// The record with its releases filled; a refusal is an error here.
-fn fill_files(name: &str, laws_name: &str) -> Made {
+fn fill_files(name: &str, laws_name: &str, lanes: Option<&str>) -> Made {
     let bytes = read_file(laws_name)?;
     let laws = text::decoded(&bytes).and_then(laws::laws_of);
     let laws = laws.map_err(|e| format!("{laws_name}: {e}"))?;
+    let table = lanes.map_or(Ok(vec![]), read_lanes)?;
     let mut filled = read_file(name)?;
     let reading = record::read(&filled);
     let mut list = vec![0; reading.steps * (reading.road.n + 1)];
-    let answer = fill::fill(&mut filled, &laws, &mut list);
+    let answer = fill::fill(&mut filled, &laws, &table, &mut list);
     match answer.number {
         0 => Ok(filled),
         _ => Err(print::refusal_line(&answer).trim_end().to_string()),

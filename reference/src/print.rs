@@ -9,12 +9,17 @@ use std::fmt::Write;
 
 const HEADER: &str = "step place outflow held queue\n";
 
-/// What the program prints for a record.
+/// What the program prints for a record. It takes no table of lanes.
 pub fn printed_run(record: &[u8]) -> String {
+    printed_under(record, &[])
+}
+
+/// The same under a table of lanes.
+pub fn printed_under(record: &[u8], table: &[u8]) -> String {
     let reading = record::read(record);
     let width = reading.road.n + 1;
     let mut outflows = vec![0; reading.steps * width];
-    let answer = run::run(record, &mut outflows);
+    let answer = run::run(record, table, &mut outflows);
     if answer.number != 0 {
         return refusal_line(&answer);
     }
@@ -35,7 +40,7 @@ pub fn printed_schedule(record: &[u8]) -> Result<String, String> {
     let reading = record::read(record);
     let width = reading.road.n + 1;
     let mut outflows = vec![0; reading.steps * width];
-    let answer = run::run(record, &mut outflows);
+    let answer = run::run(record, &[], &mut outflows);
     if answer.number != 0 {
         return Err(refusal_line(&answer));
     }

@@ -1,18 +1,23 @@
-//! Running a record: refusals 1 to 6, 11, and 9 or 10.
+//! Running a record: refusals 1 to 6, 17, 18, 11, and 9 or 10.
 
 use crate::answer::Answer;
+use crate::lanes;
 use crate::record;
 use crate::step;
 
-/// Runs a record and writes its outflows, a row a step, gate first.
+/// Runs a record under a table of lanes and writes its outflows, a row a step,
+/// gate first.
 ///
 /// Only the rows of steps done are written; the rest of the list is as lent.
-pub fn run(record: &[u8], list: &mut [u32]) -> Answer {
+pub fn run(record: &[u8], table: &[u8], list: &mut [u32]) -> Answer {
     let reading = record::read(record);
     if reading.number != 0 {
         return Answer::without_state(reading.number, reading.place);
     }
     let road = reading.road;
+    if let Some((number, place)) = lanes::table_fault(table, road.n, reading.steps) {
+        return Answer::without_state(number, place);
+    }
     let width = road.n + 1;
     if list.len() < reading.steps * width {
         return Answer::without_state(11, 0);
@@ -20,7 +25,8 @@ pub fn run(record: &[u8], list: &mut [u32]) -> Answer {
     let mut state = reading.state;
     for t in 0..reading.steps {
         let row = record::row(record, road.n, t);
-        if let Some((number, place)) = step::release_fault(&road, &state, &row) {
+        let here = lanes::road_at(&road, table, t);
+        if let Some((number, place)) = step::release_fault(&here, &state, &row) {
             return Answer {
                 number,
                 step: t,
@@ -29,9 +35,9 @@ pub fn run(record: &[u8], list: &mut [u32]) -> Answer {
                 state,
             };
         }
-        let outflows = step::greatest_outflows(&road, &state, &row);
+        let outflows = step::greatest_outflows(&here, &state, &row);
         list[t * width..(t + 1) * width].copy_from_slice(&outflows);
-        state = step::advance(&road, &state, &row, &outflows);
+        state = step::advance(&here, &state, &row, &outflows);
     }
     Answer::finished(road, state)
 }

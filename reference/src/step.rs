@@ -1,5 +1,6 @@
 //! Stepping, and the parts of a step that running and judging share.
 
+use crate::lanes;
 use crate::limits;
 use crate::model::{self, Road, State};
 
@@ -10,13 +11,16 @@ const MAX_TOTAL_A_STEP: u64 = 200_000_000_000;
 #[derive(Clone, Copy, Debug, PartialEq, Eq)]
 pub struct Stepped {
     pub number: u32,
-    /// The cell for 9 and 10, else 0.
+    /// The cell for 9, 10 and 18, else 0.
     pub place: usize,
     pub state: State,
 }
 
-/// One step, for any road, state and row.
-pub fn step(road: Road, state: State, row: &[u32]) -> Stepped {
+/// Lanes of every cell, a bit each. Entries past cell n aren't read.
+pub type Lanes = [u8; Road::MAX_CELLS];
+
+/// One step, for any road, state, row and lanes.
+pub fn step(road: Road, state: State, row: &[u32], built: &Lanes, open: &Lanes) -> Stepped {
     let refused = |number, place| Stepped {
         number,
         place,
@@ -25,9 +29,13 @@ pub fn step(road: Road, state: State, row: &[u32]) -> Stepped {
     if !all_within_limits(&road, &state, row) {
         return refused(7, 0);
     }
+    if let Some(cell) = lanes::step_fault(built, open, road.n) {
+        return refused(18, cell);
+    }
     if state.steps == Road::MAX_STEPS {
         return refused(8, 0);
     }
+    let road = lanes::narrowed(&road, built, open);
     if let Some((number, cell)) = release_fault(&road, &state, row) {
         return refused(number, cell);
     }

@@ -108,7 +108,7 @@ impl<'a> Words<'a> {
         Err(TextError { line, message })
     }
 
-    fn done(&self) -> bool {
+    pub(crate) fn done(&self) -> bool {
         self.at == self.words.len()
     }
 

@@ -92,3 +92,8 @@ pub fn of_step(out: &mut [u8], at: usize, road: Road, stepped: Stepped) -> usize
     next = text::sums(out, next, road, stepped.state);
     ended(out, next)
 }
+
+pub fn of_capacity(out: &mut [u8], at: usize, capacity: u32) -> usize {
+    let next = text::word(out, at, b"capacity ", capacity as u64);
+    ended(out, next)
+}

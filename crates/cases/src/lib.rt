@@ -6,7 +6,7 @@ use frames::field;
 use frames::input;
 use frames::lent;
 
-// The kinds of frames: R, U, J, S, W, N, F and L.
+// The kinds of frames: R, U, J, S, W, N, F, L and C.
 const READ: u32 = 82;
 
 const RUN: u32 = 85;
@@ -22,6 +22,8 @@ const NUMBERS: u32 = 78;
 const FILL: u32 = 70;
 
 const LEAVES: u32 = 76;
+
+const CAPACITY: u32 = 67;
 
 // The most numbers of a step's row.
 const ROW: usize = 200;
@@ -41,52 +43,80 @@ fn read(record: &mut [u8], out: &mut [u8], at: usize) -> Case {
 }
 
 // A run's words, with the list that it was lent.
-fn ran(bytes: &[u8], list: &mut [u32], out: &mut [u8], at: usize) -> usize {
+fn ran(bytes: &[u8], table: &[u8], list: &mut [u32], out: &mut [u8], at: usize) -> usize {
     lent::list(list);
-    let ended = freeway::run(bytes, list);
+    let ended = freeway::run(bytes, table, list);
     line::of_run(out, at, ended, list)
 }
 
 // A run's line ends with the record read and written again.
-fn run(record: &mut [u8], list: &mut [u32], target: &mut [u8], out: &mut [u8], at: usize) -> Case {
+fn run(
+    record: &mut [u8],
+    table: &mut [u8],
+    list: &mut [u32],
+    target: &mut [u8],
+    out: &mut [u8],
+    at: usize,
+) -> Case {
     let length = input::size();
     if list.len() < length {
         return case::cut();
     }
+    let lanes = input::bytes(table);
+    if table.len() < lanes {
+        return case::cut();
+    }
     let size = input::bytes(record);
     if record.len() < size {
         return case::cut();
     }
-    let next = ran(&record[..size], &mut list[..length], out, at);
+    let next = ran(
+        &record[..size],
+        &table[..lanes],
+        &mut list[..length],
+        out,
+        at,
+    );
     writes::again(&record[..size], list, target, out, next)
 }
 
 // A judging's line.
-fn judge_line(bytes: &[u8], schedule: &[u32], out: &mut [u8], at: usize) -> Case {
-    let ended = freeway::judge(bytes, schedule);
+fn judge_line(bytes: &[u8], table: &[u8], schedule: &[u32], out: &mut [u8], at: usize) -> Case {
+    let ended = freeway::judge(bytes, table, schedule);
     case::whole(line::of_judging(out, at, ended))
 }
 
-fn judge(record: &mut [u8], list: &mut [u32], out: &mut [u8], at: usize) -> Case {
+fn judge(record: &mut [u8], table: &mut [u8], list: &mut [u32], out: &mut [u8], at: usize) -> Case {
     let length = input::list(list, record);
     if list.len() < length {
+        return case::cut();
+    }
+    let lanes = input::bytes(table);
+    if table.len() < lanes {
         return case::cut();
     }
     let size = input::bytes(record);
     if record.len() < size {
         return case::cut();
     }
-    judge_line(&record[..size], &list[..length], out, at)
+    judge_line(&record[..size], &table[..lanes], &list[..length], out, at)
 }
 
 // A step's line.
-fn step_line(bytes: &[u8], row: &[u32], out: &mut [u8], at: usize) -> Case {
+fn step_line(
+    bytes: &[u8],
+    row: &[u32],
+    built: [u8; 64],
+    usable: [u8; 64],
+    out: &mut [u8],
+    at: usize,
+) -> Case {
     let road = field::road(bytes);
-    let stepped = freeway::step(road, field::state(bytes), row);
+    let stepped = freeway::step(road, field::state(bytes), row, built, usable);
     case::whole(line::of_step(out, at, road, stepped))
 }
 
-// The road and the state take 1,836 bytes.
+// The road and the state take 1,836 bytes; the lanes built and open stand after the row.
 fn step(record: &mut [u8], list: &mut [u32], out: &mut [u8], at: usize) -> Case {
     let mut bytes = [0u8; 1836];
     if !input::fills(&mut bytes) {
@@ -99,13 +129,32 @@ fn step(record: &mut [u8], list: &mut [u32], out: &mut [u8], at: usize) -> Case 
     if list.len() < length {
         return case::cut();
     }
-    step_line(&bytes, &list[..length], out, at)
+    let mut built = [0u8; 64];
+    if !input::fills(&mut built) {
+        return case::cut();
+    }
+    let mut usable = [0u8; 64];
+    if !input::fills(&mut usable) {
+        return case::cut();
+    }
+    step_line(&bytes, &list[..length], built, usable, out, at)
+}
+
+// The line of what open lanes leave of a capacity.
+fn capacity(out: &mut [u8], at: usize) -> Case {
+    let mut bytes = [0u8; 6];
+    if !input::fills(&mut bytes) {
+        return case::cut();
+    }
+    let left = freeway::open_capacity(field::number(&bytes, 0), bytes[4], bytes[5]);
+    case::whole(line::of_capacity(out, at, left))
 }
 
 // Reads the rest of a frame of this kind, and puts its line from `at` on.
 pub fn shown(
     kind: u32,
     record: &mut [u8],
+    table: &mut [u8],
     list: &mut [u32],
     target: &mut [u8],
     out: &mut [u8],
@@ -115,10 +164,10 @@ pub fn shown(
         return read(record, out, at);
     }
     if kind == RUN {
-        return run(record, list, target, out, at);
+        return run(record, table, list, target, out, at);
     }
     if kind == JUDGE {
-        return judge(record, list, out, at);
+        return judge(record, table, list, out, at);
     }
     if kind == STEP {
         return step(record, list, out, at);
@@ -130,10 +179,13 @@ pub fn shown(
         return writes::row(record, out, at);
     }
     if kind == FILL {
-        return meters::filled(record, list, out, at);
+        return meters::filled(record, table, list, out, at);
     }
     if kind == LEAVES {
         return meters::wished(out, at);
+    }
+    if kind == CAPACITY {
+        return capacity(out, at);
     }
     case::cut()
 }

@@ -146,10 +146,27 @@ fn places(before: State, after: State) {
     );
 }
 
-// One step, printed: refusal, place, the places' numbers, present, its parts on the road and at the ramps, total, gate, road and ramp time,
+// Three lanes built in every cell.
+fn built() -> [u8; 64] {
+    [7; 64]
+}
+
+// One step with all lanes open, printed: refusal, place, the places' numbers, present, its parts on the road and at the ramps, total, gate, road and ramp time,
 // and exits. The next state is returned.
 fn stepped(label: &[u8], road: Road, before: State, numbers: &[u32]) -> State {
-    let answer = freeway::step(road, before, numbers);
+    stepped_by(label, road, before, numbers, built(), built())
+}
+
+// The same with these lanes built and open.
+fn stepped_by(
+    label: &[u8],
+    road: Road,
+    before: State,
+    numbers: &[u32],
+    built: [u8; 64],
+    usable: [u8; 64],
+) -> State {
+    let answer = freeway::step(road, before, numbers, built, usable);
     let refusal = answer.refusal;
     let after = answer.state;
     io::write_all(1, label);
@@ -252,12 +269,62 @@ fn limits() {
     );
 }
 
+fn capacities() {
+    show(
+        b"C 2000 with 2 of 3 lanes open: capacity ",
+        freeway::open_capacity(2000, 7, 5) as u64,
+    );
+    show(
+        b"C 2000 with no lane open: capacity ",
+        freeway::open_capacity(2000, 7, 0) as u64,
+    );
+    show(
+        b"C 2000 with no lane built: capacity ",
+        freeway::open_capacity(2000, 0, 1) as u64,
+    );
+    show(
+        b"C 4294967295 with 2 lanes open of 1: capacity ",
+        freeway::open_capacity(4294967295, 1, 3) as u64,
+    );
+}
+
+// A step of the printed run with these lanes open at cell 2, after some steps and with another release.
+fn opened(label: &[u8], lanes: u8, steps: usize, release: u32) {
+    let mut late = start(1500);
+    late.done = steps;
+    let mut usable = built();
+    usable[1] = lanes;
+    usable[2] = 255;
+    stepped_by(label, printed_road(), late, &row(release), built(), usable);
+}
+
+// The lanes of cell 2: a lane closed of three leaves a supply of 666. The lanes of cell 3, which the road has not, are not read.
+fn closures() {
+    opened(b"a lane closed, release 666:", 6, 0, 666);
+    opened(b"a lane closed, release 667:", 6, 0, 667);
+    opened(b"all lanes closed, release 0:", 0, 0, 0);
+    opened(b"an open lane that is not built:", 8, 0, 300);
+    opened(b"the same with 1440 steps done:", 8, 1440, 300);
+    let mut lanes = built();
+    lanes[0] = 0;
+    stepped_by(
+        b"no lane built at cell 1:",
+        printed_road(),
+        start(1500),
+        &row(300),
+        lanes,
+        lanes,
+    );
+}
+
 fn main() {
     demands();
     supplies();
     onwards();
     outflows();
+    capacities();
     printed_run();
     releases();
     limits();
+    closures();
 }

@@ -25,10 +25,10 @@ fn show(label: &[u8], value: u64) {
     io::print_decimal(1, value);
 }
 
-// Bytes, the release, and the total and the exits of the run.
+// Bytes, the release, and the total and the exits of the run with all lanes open.
 fn shown(bytes: &[u8], release: u32) {
     let mut list = [0u32; 9];
-    let ended = freeway::run(bytes, &mut list);
+    let ended = freeway::run(bytes, b"", &mut list);
     show(b"bytes ", bytes.len() as u64);
     show(b" release ", release as u64);
     let state = ended.state;

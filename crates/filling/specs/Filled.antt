@@ -91,7 +91,7 @@ module _ {laws : List Law} {bytes : List ℕ} {a : Study} {list : List ℕ} wher
       row-is : filledRow laws q m (recordRow now (q .n) k) ≡ filledRows laws a k
       row-is = rw (row-now, h .goesBy, e)
 
-      pub fills : {y : List ℕ} → length y ≡ q .n + 1 → FillsRow now laws q m k y
+      pub fills : {y : List ℕ} → length y ≡ places a → FillsRow now laws q m k y
       fills p = record {
         held = record { cells = omega (arith, cells, ok .readable .row k l .cells); row = rw cells (omega (arith, ok .readable .row k l .row, same-bytes)) };
         step = rw row-is (record {
@@ -100,7 +100,7 @@ module _ {laws : List Law} {bytes : List ℕ} {a : Study} {list : List ℕ} wher
           released = rw (e, h .goesBy) (filled-released laws a (ok .readable .ok) k l);
           left = step-left this-step;
         });
-        places = p;
+        places = omega (arith, cells);
       }
 
       -- one step more is filled

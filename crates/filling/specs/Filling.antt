@@ -11,7 +11,7 @@ use Rattle.reading.specs.Reading.{readingOf, studyOf}
 use Rattle.releasing.specs.Releases.{putTable}
 use Rattle.metering.specs.declared.Metered.{Metered}
 use Rattle.metering.specs.Metering.{unmetered, grantedAt, filledRow, meteredOf}
-use Rattle.schedules.specs.Schedules.{EndAnswer, ended, noState, tableOf}
+use Rattle.schedules.specs.Schedules.{EndAnswer, ended, noState, lanesFault, tableOf}
 
 -- what the wishes of step k go by: held, queue and supply are those of the state before it
 unfoldable pub meteredAfter : List Law → Study → ℕ → Metered
@@ -26,31 +26,33 @@ grantedIn laws a k i = grantedAt laws (roadAt a k) (meteredAfter laws a k) (a .r
 abbrev pub filledRows : List Law → Study → ℕ → List ℕ
 filledRows laws a k = filledRow laws (roadAt a k) (meteredAfter laws a k) (a .rows k)
 
--- the study with its releases filled: road, start, T and arrivals stay
+-- the study with its releases filled: road, start, T, arrivals and lanes stay
 abbrev pub filledStudy : List Law → Study → Study
-filledStudy laws a = study (a .road) (a .start) (a .steps) (filledRows laws a)
+filledStudy laws a = study (a .road) (a .start) (a .steps) (filledRows laws a) (a .lanes)
 
 -- filling changes only the record's releases
-unfoldable pub filledBytes : List Law → List ℕ → List ℕ
-filledBytes laws bytes = putTable bytes (studyOf bytes .road .n) (grantedIn laws (studyOf bytes)) (studyOf bytes .steps)
+unfoldable pub filledBytes : List Law → List ℕ → List ℕ → List ℕ
+filledBytes laws bytes lanes = putTable bytes (studyOf bytes lanes .road .n) (grantedIn laws (studyOf bytes lanes)) (studyOf bytes lanes .steps)
 
 -- the place of 16: the lowest ramp whose law has a number that isn't finite, 0 where there is none
 abbrev pub lawPlace : List Law → Study → ℕ
 lawPlace laws a = lawFaultOf laws (a .road .ramp) (a .road .n)
 
--- filling takes a record, a law for each cell and running's lent list: 1 to 6 as in reading; 16, a ramp's law with a number that isn't finite;
--- 11. It makes all T steps
-unfoldable pub fillingOf : List Law → List ℕ → List ℕ → EndAnswer
-fillingOf laws bytes list =
+-- filling takes a record, a law for each cell, a table of lanes and running's lent list: 1 to 6 as in reading; 16, a ramp's law with a number that
+-- isn't finite; 17 and 18; 11. It makes all T steps
+unfoldable pub fillingOf : List Law → List ℕ → List ℕ → List ℕ → EndAnswer
+fillingOf laws bytes lanes list =
     unless (eqb (readingOf bytes .number) 0) (noState (readingOf bytes .number) (readingOf bytes .place))
-    (unless (eqb (lawPlace laws (studyOf bytes)) 0) (noState 16 (lawPlace laws (studyOf bytes)))
-    (unless (leb (tableSize (studyOf bytes)) (length list)) (noState 11 0)
-    (ended 0 0 0 (studyOf bytes .road) (meteredAfter laws (studyOf bytes) (studyOf bytes .steps) .state))))
+    (unless (eqb (lawPlace laws (studyOf bytes lanes)) 0) (noState 16 (lawPlace laws (studyOf bytes lanes)))
+    (unless (eqb (lanesFault (studyOf bytes lanes) .number) 0) (noState (lanesFault (studyOf bytes lanes) .number) (lanesFault (studyOf bytes lanes) .place))
+    (unless (leb (tableSize (studyOf bytes lanes)) (length list)) (noState 11 0)
+    (ended 0 0 0 (studyOf bytes lanes .road) (meteredAfter laws (studyOf bytes lanes) (studyOf bytes lanes .steps) .state)))))
 
 -- the record and the list afterwards; refusals leave record and list unchanged
-unfoldable pub recordAfter : List Law → List ℕ → List ℕ → List ℕ
-recordAfter laws bytes list = unless (eqb (fillingOf laws bytes list .number) 0) bytes (filledBytes laws bytes)
+unfoldable pub recordAfter : List Law → List ℕ → List ℕ → List ℕ → List ℕ
+recordAfter laws bytes lanes list = unless (eqb (fillingOf laws bytes lanes list .number) 0) bytes (filledBytes laws bytes lanes)
 
-unfoldable pub filledList : List Law → List ℕ → List ℕ → List ℕ
-filledList laws bytes list =
-    unless (eqb (fillingOf laws bytes list .number) 0) list (tableOf (filledStudy laws (studyOf bytes)) list (studyOf bytes .steps))
+unfoldable pub filledList : List Law → List ℕ → List ℕ → List ℕ → List ℕ
+filledList laws bytes lanes list =
+    unless (eqb (fillingOf laws bytes lanes list .number) 0) list
+    (tableOf (filledStudy laws (studyOf bytes lanes)) list (studyOf bytes lanes .steps))

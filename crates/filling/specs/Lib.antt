@@ -7,3 +7,4 @@ pub mod Cases
 pub mod ByLaw
 pub mod Theorems
 pub mod Promise
+pub mod Unclosed

@@ -19,86 +19,95 @@ use Rattle.model.specs.Step.{Fault}
 use Rattle.model.specs.StepLaws.{number-of}
 use Rattle.model.specs.Runs.{engineAfter}
 use Rattle.model.specs.RunsLaws.{StudyOk, Shared, shared-less, engine-shared}
-use Rattle.schedules.specs.Schedules.{runSays, firstStep, ended, runEnd, runningOf, tableOf, runTable, listAfter}
+use Rattle.schedules.specs.Schedules.{runSays, firstStep, ended, lanesFault, runEnd, runningOf, tableOf, runTable, listAfter}
 use Rattle.schedules.specs.SchedulesLaws.{step-none, end-all}
 use Rattle.schedules.specs.TableLaws.{table-shared}
 use Rattle.schedules.specs.Ends.{runs-long, writes-long}
+use Rattle.schedules.specs.Demand.{Taken}
 use Rattle.schedules.specs.Readable.{readable}
 use Rattle.metering.specs.Metering.{filledRow}
 use Rattle.filling.specs.Filling.{meteredAfter, grantedIn, filledRows, filledStudy, filledBytes}
 use Rattle.filling.specs.FillingLaws.{filled-road, filled-run, releases-small, filled-ok, filled-passes}
 
-module _ (laws : List Law) (bytes : List ℕ) (reads : readingOf bytes .number ≡ 0) where
+module _ (laws : List Law) (bytes lanes : List ℕ) (taken : Taken bytes lanes) where
   abbrev a : Study
-  a = studyOf bytes
+  a = studyOf bytes lanes
 
   abbrev b : Study
-  b = filledStudy laws (studyOf bytes)
+  b = filledStudy laws (studyOf bytes lanes)
 
   abbrev filled : List ℕ
-  filled = filledBytes laws bytes
+  filled = filledBytes laws bytes lanes
 
-  ok : StudyOk (studyOf bytes)
-  ok = readable bytes (readingOf bytes) refl reads .ok
+  ok : StudyOk (studyOf bytes lanes)
+  ok = readable bytes lanes (readingOf bytes) refl (taken .reads) (taken .opens) .ok
 
   -- only the releases of its rows are changed
-  pub filled-table : PutTable bytes (filledBytes laws bytes) (studyOf bytes .road .n) (grantedIn laws (studyOf bytes)) (studyOf bytes .steps)
+  pub filled-table : PutTable bytes (filledBytes laws bytes lanes) (studyOf bytes lanes .road .n) (grantedIn laws (studyOf bytes lanes)) (studyOf bytes lanes .steps)
   unfolding filledBytes
   filled-table =
-      put-table bytes (a .road .n) (grantedIn laws a) (a .steps) (readable bytes (readingOf bytes) refl reads .row) (λ t i l m. releases-small laws a t i)
+      put-table bytes (a .road .n) (grantedIn laws a) (a .steps) (readable bytes lanes (readingOf bytes) refl (taken .reads) (taken .opens) .row)
+      (λ t i l m. releases-small laws a t i)
 
   -- its rows are the filled ones
-  pub filled-rows : (k : ℕ) → k < studyOf bytes .steps → recordRow (filledBytes laws bytes) (studyOf bytes .road .n) k ≡ filledRows laws (studyOf bytes) k
+  pub filled-rows : (k : ℕ) → k < studyOf bytes lanes .steps
+      → recordRow (filledBytes laws bytes lanes) (studyOf bytes lanes .road .n) k ≡ filledRows laws (studyOf bytes lanes) k
   unfolding filledRow
   filled-rows k l =
       filled-table .row k l ∙ ap (λ (n : ℕ). releasedRow (grantedIn laws a k) n (recordRow bytes (a .road .n) k)) (sym (ok .roads k .n))
 
   -- and it reads as the record did
-  pub filled-reads : readingOf (filledBytes laws bytes) ≡ readingOf bytes
+  pub filled-reads : readingOf (filledBytes laws bytes lanes) ≡ readingOf bytes
   filled-reads =
-      rows-replaced bytes filled (filled-table .size) reads (table-head filled-table)
+      rows-replaced bytes filled (filled-table .size) (taken .reads) (table-head filled-table)
       (λ t l. rw (filled-rows t l) (row-ok (a .road) (filledRows laws a t) (ok .road) (filled-ok laws a ok .row t l)))
 
-  same-study : studyOf filled ≡ studyBy filled (a .road) (a .start) (a .steps)
-  same-study = ap (λ (x : ReadAnswer). studyBy filled (x .road) (x .state) (x .steps)) filled-reads
+  pub same-study : studyOf (filledBytes laws bytes lanes) lanes
+      ≡ studyBy (filledBytes laws bytes lanes) lanes (studyOf bytes lanes .road) (studyOf bytes lanes .start) (studyOf bytes lanes .steps)
+  same-study = ap (λ (x : ReadAnswer). studyBy filled lanes (x .road) (x .state) (x .steps)) filled-reads
 
   -- so its study is the filled one, up to its last step
-  pub filled-shared : Shared (studyBy (filledBytes laws bytes) (studyOf bytes .road) (studyOf bytes .start) (studyOf bytes .steps))
-      (filledStudy laws (studyOf bytes)) (studyOf bytes .steps)
+  pub filled-shared : Shared (studyBy (filledBytes laws bytes lanes) lanes (studyOf bytes lanes .road) (studyOf bytes lanes .start) (studyOf bytes lanes .steps))
+      (filledStudy laws (studyOf bytes lanes)) (studyOf bytes lanes .steps)
   unfolding roadAt
   filled-shared = record { start = refl; roads = λ j l. refl; rows = filled-rows }
 
-  filled-says : (k : ℕ) → k < a .steps → runSays (studyBy filled (a .road) (a .start) (a .steps)) k .number ≡ 0
+  filled-says : (k : ℕ) → k < a .steps → runSays (studyBy filled lanes (a .road) (a .start) (a .steps)) k .number ≡ 0
   filled-says k l =
-      let e : runSays (studyBy filled (a .road) (a .start) (a .steps)) k ≡ runSays b k =
+      let e : runSays (studyBy filled lanes (a .road) (a .start) (a .steps)) k ≡ runSays b k =
       rw (engine-shared k (shared-less filled-shared k (omega arith)), filled-shared .roads k l, filled-shared .rows k l) in
       number-of (e ∙ filled-passes laws a ok k l)
 
-  none : firstStep (runSays (studyBy filled (a .road) (a .start) (a .steps))) (a .steps) ≡ a .steps
-  none = step-none (runSays (studyBy filled (a .road) (a .start) (a .steps))) (a .steps) filled-says
+  none : firstStep (runSays (studyBy filled lanes (a .road) (a .start) (a .steps))) (a .steps) ≡ a .steps
+  none = step-none (runSays (studyBy filled lanes (a .road) (a .start) (a .steps))) (a .steps) filled-says
+
+  -- so it is taken with the table that it was filled with
+  pub filled-taken : Taken (filledBytes laws bytes lanes) lanes
+  filled-taken = record {
+    reads = ap (λ (x : ReadAnswer). x .number) filled-reads ∙ taken .reads;
+    opens = ap (λ (x : Study). lanesFault x .number) same-study ∙ taken .opens;
+  }
 
   -- running it, with a list that is long enough, is refused nothing and ends in the state of filling
-  module _ (list : List ℕ) (long : tableSize (studyOf bytes) ≤ length list) where
+  module _ (list : List ℕ) (long : tableSize (studyOf bytes lanes) ≤ length list) where
     abbrev c : Study
-    c = studyBy filled (a .road) (a .start) (a .steps)
+    c = studyBy filled lanes (a .road) (a .start) (a .steps)
 
-    reads-on : readingOf filled .number ≡ 0
-    reads-on = ap (λ (x : ReadAnswer). x .number) filled-reads ∙ reads
-
-    long-on : tableSize (studyOf filled) ≤ length list
+    long-on : tableSize (studyOf filled lanes) ≤ length list
     long-on = subst⁻¹ (λ (x : Study). tableSize x ≤ length list) same-study long
 
-    pub filled-runs : runningOf (filledBytes laws bytes) list ≡ ended 0 0 0 (studyOf bytes .road) (meteredAfter laws (studyOf bytes) (studyOf bytes .steps) .state)
+    pub filled-runs : runningOf (filledBytes laws bytes lanes) lanes list
+        ≡ ended 0 0 0 (studyOf bytes lanes .road) (meteredAfter laws (studyOf bytes lanes) (studyOf bytes lanes .steps) .state)
     filled-runs =
-        runs-long filled reads-on list long-on
+        runs-long filled lanes filled-taken list long-on
         ∙ ap runEnd same-study
         ∙ end-all c (runSays c) (engineAfter c) none
         ∙ ap (ended 0 0 0 (a .road)) (engine-shared (a .steps) filled-shared ∙ filled-run laws a (a .steps))
 
     -- and writes the outflows of all filled steps
-    pub filled-writes : listAfter (filledBytes laws bytes) list ≡ tableOf (filledStudy laws (studyOf bytes)) list (studyOf bytes .steps)
+    pub filled-writes : listAfter (filledBytes laws bytes lanes) lanes list ≡ tableOf (filledStudy laws (studyOf bytes lanes)) list (studyOf bytes lanes .steps)
     filled-writes =
-        writes-long filled reads-on list long-on
+        writes-long filled lanes filled-taken list long-on
         ∙ ap (λ (x : Study). runTable x list) same-study
         ∙ ap (tableOf c list) none
         ∙ table-shared refl list (a .steps) filled-shared

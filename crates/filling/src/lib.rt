@@ -7,11 +7,11 @@ use road::Road;
 use road::State;
 ghost use mathlib.Core.Path.{_≡_};
 ghost use Rattle.fields.specs.Fields.{recordRow};
-ghost use Rattle.reading.specs.Reading.{readingOf, studyBy};
+ghost use Rattle.reading.specs.Reading.{studyBy};
 ghost use Rattle.releasing.specs.Releases.{putReleases, putTable};
 ghost use Rattle.model.specs.Rules.{outflowsOf};
 ghost use Rattle.schedules.specs.Schedules.{endAnswer, tableOf};
-ghost use Rattle.schedules.specs.Demand.{Promised};
+ghost use Rattle.schedules.specs.Demand.{Taken, Promised};
 ghost use Rattle.metering.specs.Metering.{grantedAt, filledRow, meteredOf};
 ghost use Rattle.filling.specs.Filling.{meteredAfter, grantedIn, filledStudy, fillingOf, recordAfter, filledList};
 ghost use Rattle.filling.specs.Turn.{FillsRow};
@@ -43,39 +43,47 @@ fn fill_row(
     metering::next(r, m, &filled[..numbers], given, y)
 }
 
-// Fills the releases of every step and writes its outflows; gives the final state.
+// Fills the releases of every step under a table of lanes and writes its outflows; gives the final state.
 fn fill_rows(
     bytes: &mut [u8],
     laws: [Law; 64],
+    table: &[u8],
     r: Road,
     s: State,
     steps: usize,
     out: &mut [u32],
 ) -> State
-    requires { ⌜ Fillable (now bytes) (studyBy (now bytes) r s steps) (now out) ⌝ }
-    ensures releases { λ t. ⌜ now (bytes .exit) ≡ putTable (now (bytes .entry)) (r .n) (grantedIn laws (studyBy (now (bytes .entry)) r s steps)) steps ⌝ }
-    ensures list { λ t. ⌜ now (out .exit) ≡ tableOf (filledStudy laws (studyBy (now (bytes .entry)) r s steps)) (now (out .entry)) steps ⌝ }
-    ensures state { λ t. ⌜ t ≡ meteredAfter laws (studyBy (now (bytes .entry)) r s steps) steps .state ⌝ }
+    requires { ⌜ Fillable (now bytes) (studyBy (now bytes) (now table) r s steps) (now out) ⌝ }
+    ensures releases { λ t. ⌜ now (bytes .exit) ≡ putTable (now (bytes .entry)) (r .n) (grantedIn laws (studyBy (now (bytes .entry)) (now (table .entry)) r s steps)) steps ⌝ }
+    ensures list { λ t. ⌜ now (out .exit) ≡ tableOf (filledStudy laws (studyBy (now (bytes .entry)) (now (table .entry)) r s steps)) (now (out .entry)) steps ⌝ }
+    ensures state { λ t. ⌜ t ≡ meteredAfter laws (studyBy (now (bytes .entry)) (now (table .entry)) r s steps) steps .state ⌝ }
 {
-    let places = r.n + 1;
+    let n = r.n;
+    let places = n + 1;
+    let capacity = r.capacity;
+    let mut road = r;
     let mut m = metering::unmetered(s);
     let mut k = 0;
     let mut to = 0;
     while k < steps {
+        if table.len() != 0 {
+            let left = lanes::step_capacities(capacity, table, n, k);
+            road.capacity = left;
+        }
         let end = to + places;
-        m = fill_row(bytes, laws, r, m, k, &mut out[to..end]);
+        m = fill_row(bytes, laws, road, m, k, &mut out[to..end]);
         to = end;
         k += 1;
     }
     m.state
 }
 
-// Fills a record's releases by its ramps' laws and runs it in one pass: 1 to 6 as in reading, 16, 11.
-pub fn fill(bytes: &mut [u8], laws: [Law; 64], out: &mut [u32]) -> Ended
-    ensures answer { λ e. ⌜ endAnswer e ≡ fillingOf laws (now (bytes .entry)) (now (out .entry)) ⌝ }
-    ensures bytes { λ e. ⌜ now (bytes .exit) ≡ recordAfter laws (now (bytes .entry)) (now (out .entry)) ⌝ }
-    ensures list { λ e. ⌜ now (out .exit) ≡ filledList laws (now (bytes .entry)) (now (out .entry)) ⌝ }
-    ensures demand { λ e. ⌜ (readingOf (now (bytes .entry)) .number ≡ 0 → Promised (now (bytes .exit)) (now (out .exit)) (endAnswer e)) ⌝ }
+// Fills a record's releases by its ramps' laws under a table of lanes and runs it in one pass: 1 to 6 as in reading, 16, 17, 18, 11.
+pub fn fill(bytes: &mut [u8], laws: [Law; 64], table: &[u8], out: &mut [u32]) -> Ended
+    ensures answer { λ e. ⌜ endAnswer e ≡ fillingOf laws (now (bytes .entry)) (now (table .entry)) (now (out .entry)) ⌝ }
+    ensures bytes { λ e. ⌜ now (bytes .exit) ≡ recordAfter laws (now (bytes .entry)) (now (table .entry)) (now (out .entry)) ⌝ }
+    ensures list { λ e. ⌜ now (out .exit) ≡ filledList laws (now (bytes .entry)) (now (table .entry)) (now (out .entry)) ⌝ }
+    ensures demand { λ e. ⌜ (Taken (now (bytes .entry)) (now (table .entry)) → Promised (now (bytes .exit)) (now (table .entry)) (now (out .exit)) (endAnswer e)) ⌝ }
 {
     let a = reading::read(bytes);
     let refusal = a.refusal;
@@ -84,15 +92,21 @@ pub fn fill(bytes: &mut [u8], laws: [Law; 64], out: &mut [u32]) -> Ended
     }
     let road = a.road;
     let ramp = road.ramp;
-    let place = meter::law_fault(laws, ramp, road.n);
+    let n = road.n;
+    let place = meter::law_fault(laws, ramp, n);
     if place != 0 {
         return Ended::without_state(Refusal::LawNumbers, place);
     }
     let state = a.state;
     let steps = a.steps;
-    if out.len() < steps * (road.n + 1) {
+    let q = closures::refused(table, n, steps);
+    let closed = q.refusal;
+    if closed.number() != 0 {
+        return Ended::without_state(closed, q.place);
+    }
+    if out.len() < steps * (n + 1) {
         return Ended::without_state(Refusal::ListLength, 0);
     }
-    let last = fill_rows(bytes, laws, road, state, steps, out);
+    let last = fill_rows(bytes, laws, table, road, state, steps, out);
     Ended::complete(road, last)
 }

@@ -9,6 +9,7 @@ pub use flow::outflow_by_halves;
 pub use flow::room;
 pub use flow::supply;
 pub use judging::judge;
+pub use lanes::open_capacity;
 pub use meter::Alinea;
 pub use meter::DemandCapacity;
 pub use meter::Law;

@@ -12,7 +12,7 @@ use Rattle.road.specs.declared.State.{State}
 use Rattle.road.specs.Road.{mostSteps}
 use Rattle.road.specs.Study.{Study, roadAt, places, tableSize}
 use Rattle.model.specs.Move.{nextOf}
-use Rattle.model.specs.Step.{Fault}
+use Rattle.model.specs.Step.{Fault, tableFault}
 use Rattle.model.specs.StepLaws.{number-of}
 use Rattle.model.specs.Verdict.{verdictOf}
 use Rattle.model.specs.VerdictLaws.{verdict-obeys}
@@ -20,10 +20,11 @@ use Rattle.model.specs.Runs.{scheduleAfter}
 use Rattle.model.specs.RunsLaws.{StudyOk, StepOf, step-road, step-input, step-sized, step-left}
 use Rattle.moves.specs.Asked.{Movable}
 use Rattle.verdict.specs.Proposed.{Proposed}
-use Rattle.reading.specs.Reading.{ReadAnswer, readingOf, studyBy}
-use Rattle.schedules.specs.Schedules.{proposedAt, scheduledAt, judgeSays, EndAnswer, ended, noState, judgeEnd, judgingOf}
+use Rattle.reading.specs.Reading.{ReadAnswer, readingOf, studyBy, studyOf}
+use Rattle.schedules.specs.Schedules.{proposedAt, scheduledAt, judgeSays, EndAnswer, ended, noState, lanesFault, judgeEnd, judgingOf}
 use Rattle.schedules.specs.SchedulesLaws.{judge-reached, ends-all, ends-at}
-use Rattle.schedules.specs.Ends.{judges-refused, judges-length, judges-ends}
+use Rattle.schedules.specs.Demand.{Taken}
+use Rattle.schedules.specs.Ends.{judges-refused, judges-closed, judges-length, judges-ends}
 use Rattle.schedules.specs.Readable.{Readable}
 
 -- what judging step by step asks: a record that reads, and a schedule of the right length
@@ -108,15 +109,26 @@ module _ {a : Study} {zs : List ℕ} where
       }
 
 -- how judging ends, from what its tests found
-module _ (bytes zs : List ℕ) {x : ReadAnswer} (ex : x ≡ readingOf bytes) where
-  pub answer-refused : {e : EndAnswer} → (x .number ≡ 0 → ⊥) → e ≡ noState (x .number) (x .place) → e ≡ judgingOf bytes zs
-  answer-refused h ee = rw ex at ee ∙ sym (judges-refused bytes (rw ex at h) zs)
+module _ (bytes lanes zs : List ℕ) {x : ReadAnswer} (ex : x ≡ readingOf bytes) where
+  pub answer-refused : {e : EndAnswer} → (x .number ≡ 0 → ⊥) → e ≡ noState (x .number) (x .place) → e ≡ judgingOf bytes lanes zs
+  answer-refused h ee = rw ex at ee ∙ sym (judges-refused bytes lanes (rw ex at h) zs)
 
-  module _ (h : x .number ≡ 0) where
-    pub answer-length : {e : EndAnswer} → (length zs ≡ tableSize (studyBy bytes (x .road) (x .state) (x .steps)) → ⊥) → e ≡ noState 12 0
-        → e ≡ judgingOf bytes zs
-    answer-length n ee = ee ∙ sym (judges-length bytes (rw ex at h) zs (rw ex at n))
+  -- the record reads, and f is what the code says of the table
+  module _ (h : x .number ≡ 0) {f : Fault} (ef : f ≡ tableFault lanes (x .road .n) (x .steps)) where
+    found : f ≡ lanesFault (studyOf bytes lanes)
+    found = rw ex at ef
 
-    pub answer-rows : {e : EndAnswer} → length zs ≡ tableSize (studyBy bytes (x .road) (x .state) (x .steps))
-        → e ≡ judgeEnd (studyBy bytes (x .road) (x .state) (x .steps)) zs → e ≡ judgingOf bytes zs
-    answer-rows l ee = rw ex at ee ∙ sym (judges-ends bytes (rw ex at h) zs (rw ex at l))
+    pub answer-closed : {e : EndAnswer} → (f .number ≡ 0 → ⊥) → e ≡ noState (f .number) (f .place) → e ≡ judgingOf bytes lanes zs
+    answer-closed n ee = rw found at ee ∙ sym (judges-closed bytes lanes (rw ex at h) (rw found at n) zs)
+
+    module _ (z : f .number ≡ 0) where
+      taken : Taken bytes lanes
+      taken = record { reads = rw ex at h; opens = rw found at z }
+
+      pub answer-length : {e : EndAnswer} → (length zs ≡ tableSize (studyBy bytes lanes (x .road) (x .state) (x .steps)) → ⊥) → e ≡ noState 12 0
+          → e ≡ judgingOf bytes lanes zs
+      answer-length n ee = ee ∙ sym (judges-length bytes lanes taken zs (rw ex at n))
+
+      pub answer-rows : {e : EndAnswer} → length zs ≡ tableSize (studyBy bytes lanes (x .road) (x .state) (x .steps))
+          → e ≡ judgeEnd (studyBy bytes lanes (x .road) (x .state) (x .steps)) zs → e ≡ judgingOf bytes lanes zs
+      answer-rows l ee = rw ex at ee ∙ sym (judges-ends bytes lanes taken zs (rw ex at l))

@@ -9,35 +9,48 @@ ghost use Rattle.schedules.specs.Schedules.{endAnswer, judgeEnd, judgingOf};
 ghost use Rattle.judging.specs.Passed.{Judgeable};
 
 // Goes through a schedule of the right length up to its first fault: 9, 10, 13 or 14.
-fn judge_rows(bytes: &[u8], r: Road, s: State, steps: usize, schedule: &[u32]) -> Ended
-    requires { ⌜ Judgeable (now bytes) (studyBy (now bytes) r s steps) (now schedule) ⌝ }
-    ensures { λ e. ⌜ endAnswer e ≡ judgeEnd (studyBy (now (bytes .entry)) r s steps) (now (schedule .entry)) ⌝ }
+fn judge_rows(
+    bytes: &[u8],
+    table: &[u8],
+    r: Road,
+    s: State,
+    steps: usize,
+    schedule: &[u32],
+) -> Ended
+    requires { ⌜ Judgeable (now bytes) (studyBy (now bytes) (now table) r s steps) (now schedule) ⌝ }
+    ensures { λ e. ⌜ endAnswer e ≡ judgeEnd (studyBy (now (bytes .entry)) (now (table .entry)) r s steps) (now (schedule .entry)) ⌝ }
 {
     let n = r.n;
     let numbers = 1 + 2 * n;
     let places = n + 1;
+    let capacity = r.capacity;
+    let mut road = r;
     let mut u = s;
     let mut k = 0;
     let mut from = 0;
     while k < steps {
+        if table.len() != 0 {
+            let left = lanes::step_capacities(capacity, table, n, k);
+            road.capacity = left;
+        }
         let row = fields::row(bytes, n, k);
         let end = from + places;
         let outflows = &schedule[from..end];
-        let q = verdict::verdict(r, u, &row[..numbers], outflows);
+        let q = verdict::verdict(road, u, &row[..numbers], outflows);
         let refusal = q.refusal;
         if refusal.number() != 0 {
             return Ended::at_step(refusal, k, q.place, r, u);
         }
-        u = stepping::next_by(r, u, &row[..numbers], outflows);
+        u = stepping::next_by(road, u, &row[..numbers], outflows);
         from = end;
         k += 1;
     }
     Ended::complete(r, u)
 }
 
-// Judges a proposed schedule: 1 to 6 as in reading, 12, then 9 or 10 and 13 or 14 step by step.
-pub fn judge(bytes: &[u8], schedule: &[u32]) -> Ended
-    ensures { λ e. ⌜ endAnswer e ≡ judgingOf (now (bytes .entry)) (now (schedule .entry)) ⌝ }
+// Judges a proposed schedule under a table of lanes: 1 to 6 as in reading, 17, 18, 12, then 9 or 10 and 13 or 14 step by step.
+pub fn judge(bytes: &[u8], table: &[u8], schedule: &[u32]) -> Ended
+    ensures { λ e. ⌜ endAnswer e ≡ judgingOf (now (bytes .entry)) (now (table .entry)) (now (schedule .entry)) ⌝ }
 {
     let a = reading::read(bytes);
     let refusal = a.refusal;
@@ -47,8 +60,14 @@ pub fn judge(bytes: &[u8], schedule: &[u32]) -> Ended
     let road = a.road;
     let state = a.state;
     let steps = a.steps;
-    if schedule.len() != steps * (road.n + 1) {
+    let n = road.n;
+    let q = closures::refused(table, n, steps);
+    let closed = q.refusal;
+    if closed.number() != 0 {
+        return Ended::without_state(closed, q.place);
+    }
+    if schedule.len() != steps * (n + 1) {
         return Ended::without_state(Refusal::ScheduleLength, 0);
     }
-    judge_rows(bytes, road, state, steps, schedule)
+    judge_rows(bytes, table, road, state, steps, schedule)
 }

@@ -14,17 +14,24 @@ use meter::Law;
 fn filled_line(
     bytes: &mut [u8],
     laws: [Law; 64],
+    table: &[u8],
     list: &mut [u32],
     out: &mut [u8],
     at: usize,
 ) -> Case {
     lent::list(list);
-    let ended = freeway::fill(bytes, laws, list);
+    let ended = freeway::fill(bytes, laws, table, list);
     case::whole(line::of_filling(out, at, ended, list, bytes))
 }
 
 // The laws of the 64 cells take 1,792 bytes.
-pub fn filled(record: &mut [u8], list: &mut [u32], out: &mut [u8], at: usize) -> Case {
+pub fn filled(
+    record: &mut [u8],
+    table: &mut [u8],
+    list: &mut [u32],
+    out: &mut [u8],
+    at: usize,
+) -> Case {
     let mut bytes = [0u8; 1792];
     if !input::fills(&mut bytes) {
         return case::cut();
@@ -33,12 +40,23 @@ pub fn filled(record: &mut [u8], list: &mut [u32], out: &mut [u8], at: usize) ->
     if list.len() < length {
         return case::cut();
     }
+    let lanes = input::bytes(table);
+    if table.len() < lanes {
+        return case::cut();
+    }
     let size = input::bytes(record);
     if record.len() < size {
         return case::cut();
     }
     let laws = law::all(&bytes);
-    filled_line(&mut record[..size], laws, &mut list[..length], out, at)
+    filled_line(
+        &mut record[..size],
+        laws,
+        &table[..lanes],
+        &mut list[..length],
+        out,
+        at,
+    )
 }
 
 // A wish's line: after the law the last release, what entered, what the cell holds and the cap.

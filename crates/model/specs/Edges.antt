@@ -4,9 +4,11 @@ use mathlib.Core.Bool.{Bool, true, _&&_}
 use mathlib.Core.List.{List, [], _∷_, _++_}
 use Prim.Native.Nat.{ℕ, zero, suc, _+_, _≤_}
 use lib.Dec.{eqb}
+use lib.Count.{onesIn, ones}
 use lib.ListN.{replicate}
 use Rattle.flow.specs.Flow.{thousandthsOf, demandOf, gateDemandOf, supplyOf, roomOf, onwardOf, enteringOf, greatestOf, outflowOf}
 use Rattle.flow.specs.FlowLaws.{outflow-exit, outflow-one}
+use Rattle.lanes.specs.Lanes.{openCapacity, lanesOk}
 use Rattle.rows.specs.Sum.{sumOf}
 use Rattle.rows.specs.Rows.{fillOf, listOf}
 use Rattle.road.specs.declared.Road.{Road}
@@ -64,10 +66,17 @@ start = record {
 unfoldable pub row : ℕ → List ℕ
 row release = 1000 ∷ 0 ∷ 0 ∷ 500 ∷ release ∷ []
 
--- the state after k steps, each taking the state that the last one left
+-- three lanes built in each cell; in all of them open, or one of them closed in cell 2
+unfoldable pub built : List ℕ
+built = 7 ∷ 7 ∷ past 62
+
+unfoldable pub works : List ℕ
+works = 7 ∷ 6 ∷ past 62
+
+-- the state after k steps with all lanes open, each taking the state that the last one left
 unfoldable pub after : ℕ → State
 after zero = start
-after (suc k) = steppingOf road (after k) (row 300) .state
+after (suc k) = steppingOf road (after k) (row 300) built built .state
 
 -- one line of the printed run: outflow in step k, held or gate queue after it, ramp queue after it
 unfoldable pub gate-line : ℕ → ℕ → ℕ → List Edge
@@ -83,9 +92,9 @@ cell-line k i outflow held queue =
     ∷ edge (at (after (suc k) .queue) i) queue
     ∷ []
 
--- a step from the start with the ramp's queue and release at cell 2: its refusal and place
-unfoldable pub released : ℕ → ℕ → Answer
-released queue release = steppingOf road (record {
+-- a step from the start with the ramp's queue, the release and the lanes open at cell 2: its refusal and place
+unfoldable pub releasedBy : ℕ → ℕ → List ℕ → Answer
+releasedBy queue release usable = steppingOf road (record {
   done = 0;
   «gate_time» = 0;
   «road_time» = 0;
@@ -95,7 +104,10 @@ released queue release = steppingOf road (record {
   held = 2000 ∷ 4000 ∷ past 62;
   queue = 0 ∷ queue ∷ past 62;
   cumulative = past 64;
-}) (row release)
+}) (row release) built usable
+
+unfoldable pub released : ℕ → ℕ → Answer
+released queue release = releasedBy queue release built
 
 unfoldable pub rules : List Edge
 rules =
@@ -120,6 +132,15 @@ rules =
     ∷ edge (released 1500 1000 .number) 0
     ∷ edge (released 1500 1001 .number) 10
     ∷ edge (released 1500 1001 .place) 2
+    -- a lane of three closed at cell 2, C 1000: supply 666
+    ∷ edge (openCapacity 1000 7 6) 666
+    ∷ edge (releasedBy 1500 666 works .number) 0
+    ∷ edge (releasedBy 1500 667 works .number) 10
+    ∷ edge (releasedBy 1500 300 (7 ∷ 0 ∷ past 62) .number) 10
+    -- an open lane that is not built is 18, before 10; entries past cell 2 are not read
+    ∷ edge (releasedBy 1500 1001 (7 ∷ 8 ∷ past 62) .number) 18
+    ∷ edge (releasedBy 1500 1001 (7 ∷ 8 ∷ past 62) .place) 2
+    ∷ edge (releasedBy 1500 300 (7 ∷ 7 ∷ 8 ∷ past 61) .number) 0
     ∷ []
 
 -- steps 0, 1 and 2 of the printed run, and its last line
@@ -151,7 +172,7 @@ pub record StarredEdges : Type 0 where
   pub exit : (cumulative room demand : ℕ) → outflowOf 0 cumulative room demand ≡ demand
 
 pub starred-edges : StarredEdges
-unfolding holds edge rules run gate-line cell-line released road start row after
+unfolding holds edge rules run gate-line cell-line released releasedBy road start row built works after openCapacity ones onesIn lanesOk
     thousandthsOf demandOf gateDemandOf supplyOf roomOf onwardOf enteringOf greatestOf outflowOf
     sumOf fillOf listOf firstFrom firstOf firstFault placeOk rowOk frameOk inputOk
     capacityAt demandAt mostReleaseAt shareAt cumulativeAt movedTo countedOf exitsOf outflowsOf lowestOf steppingOf

@@ -10,6 +10,9 @@ use Rattle.road.specs.declared.Road.{Road}
 use Rattle.road.specs.declared.State.{State}
 use Rattle.numbers.specs.Lists.{at}
 use Rattle.road.specs.Road.{mostSteps, mostRate, mostPresent}
+use Rattle.road.specs.Study.{openRoad}
+use Rattle.numbers.specs.First.{firstOf}
+use Rattle.lanes.specs.Lanes.{lanesAt}
 use Rattle.limits.specs.Limits.{mostQueue, mostCumulative, inputOk}
 use Rattle.limits.specs.LimitsLaws.{StateOk, RowOk, InputOk, input-facts, input-ok}
 use Rattle.model.specs.Places.{releaseAt, supplyAt, capacityAt, cumulativeAt}
@@ -19,6 +22,7 @@ use Rattle.model.specs.Step.{fault, answer, steppingOf}
 use Rattle.model.specs.MoveLaws.{next-done, next-total, next-gate-queue, next-held, next-queue, next-cumulative, next-sized}
 use Rattle.model.specs.RulesLaws.{demand-rate, outflows-obey}
 use Rattle.model.specs.StepLaws.{stepping-next}
+use Rattle.model.specs.Roads.{StepRoad, step-state, step-row, state-back}
 
 module _ (r : Road) (s : State) (row y : List ℕ) (ok : InputOk r s row) (z : Sized r s) (obeys : Obeys r s row y) where
   abbrev T : State
@@ -75,17 +79,28 @@ module _ (r : Road) (s : State) (row y : List ℕ) (ok : InputOk r s row) (z : S
       cumulative = rw (next-done r s row y) (λ i l. cumulative-kept (suc i) l (ok .state .cumulative i l));
     }
 
--- after a step that is not refused, the next one meets no 7 with a row within its limits, and no 8 before step 1,440
-module _ (r : Road) (s : State) (row : List ℕ) (z : Sized r s) (in-limits : inputOk r s row ≡ true) (d : s .done < mostSteps) (ok : Released r s row) where
+-- after a step on its road q that is not refused, the next one meets no 7 with a row within its limits, and no 8 before step 1,440
+module _ (r q : Road) (h : StepRoad r q) (s : State) (row : List ℕ) (z : Sized q s) (in-limits : inputOk r s row ≡ true) (d : s .done < mostSteps)
+    (ok : Released q s row) where
   abbrev N : State
-  N = nextOf r s row (outflowsOf r s row)
+  N = nextOf q s row (outflowsOf q s row)
+
+  input-on : InputOk q s row
+  input-on =
+      let i = input-facts r s row in-limits in
+      record { road = h .ok; state = step-state h s (i .state); row = step-row h row (i .row) }
 
   pub step-kept : (later : List ℕ) → RowOk r later → inputOk r N later ≡ true
-  step-kept later h =
-      let i = input-facts r s row in-limits in
-      input-ok r N later (record { road = i .road; state = kept r s row (outflowsOf r s row) i z (outflows-obey r s row ok) d; row = h })
+  step-kept later l =
+      input-ok r N later (record {
+        road = input-facts r s row in-limits .road;
+        state = state-back h N (kept q s row (outflowsOf q s row) input-on z (outflows-obey q s row ok) d);
+        row = l;
+      })
 
-  pub step-goes-on : (later : List ℕ) → RowOk r later → s .done + 1 < mostSteps → Released r N later
-      → steppingOf r N later ≡ answer (fault 0 0) (nextOf r N later (outflowsOf r N later))
-  step-goes-on later h l rel =
-      stepping-next r N later (step-kept later h) (λ e. omega (arith, e, next-done r s row (outflowsOf r s row))) rel
+  pub step-goes-on : (later built usable : List ℕ) → RowOk r later → firstOf (lanesAt built usable) (r .n) ≡ r .n → s .done + 1 < mostSteps
+      → Released (openRoad r built usable) N later
+      → steppingOf r N later built usable
+      ≡ answer (fault 0 0) (nextOf (openRoad r built usable) N later (outflowsOf (openRoad r built usable) N later))
+  step-goes-on later built usable l lanes m rel =
+      stepping-next r N later built usable (step-kept later l) lanes (λ e. omega (arith, e, next-done q s row (outflowsOf q s row))) rel

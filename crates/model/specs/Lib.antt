@@ -8,6 +8,8 @@ pub mod StepLaws
 pub mod Verdict
 pub mod VerdictLaws
 pub mod Roads
+pub mod Opened
+pub mod AllOpen
 pub mod Conserve
 pub mod Kept
 pub mod Runs

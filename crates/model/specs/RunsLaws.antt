@@ -16,7 +16,7 @@ use Rattle.model.specs.MoveLaws.{next-done, next-sized}
 use Rattle.model.specs.RulesLaws.{outflows-obey, outflows-greatest}
 use Rattle.model.specs.Conserve.{conserved, exits-alike, arrivals-alike}
 use Rattle.model.specs.Kept.{kept}
-use Rattle.model.specs.Roads.{Alike, Compared, StepRoad, step-road-self, step-alike, step-state, state-back, step-row, alike-back, wider-self, present-alike, sized-alike}
+use Rattle.model.specs.Roads.{Alike, Compared, StepRoad, step-alike, step-state, state-back, step-row, alike-back, wider-self, present-alike, sized-alike}
 use Rattle.model.specs.Behind.{Behind, behind-self, step-behind}
 
 -- the limits of a study: of its road in every step, of the state before step 0 and of its T rows
@@ -28,15 +28,6 @@ pub record StudyOk (a : Study) : Type 0 where
   pub zero : a .start .done ≡ 0
   pub steps : a .steps ≤ mostSteps
   pub row : (k : ℕ) → k < a .steps → RowOk (a .road) (a .rows k)
-
--- one road for all steps
-pub same-road : (a : Study) (k : ℕ) → a .road ≡ roadAt a k
-unfolding roadAt
-same-road a k = refl
-
-pub one-road : (a : Study) → RoadOk (a .road) → (k : ℕ) → StepRoad (a .road) (roadAt a k)
-unfolding roadAt
-one-road a ok k = step-road-self (a .road) ok
 
 -- a state after k steps that obeyed the rules is within the limits
 pub record Reached (a : Study) (u : State) (k : ℕ) : Type 0 where

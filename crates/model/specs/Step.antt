@@ -1,12 +1,16 @@
--- docs/MODEL.md, 'Stepping': the refusals 7 to 10 in their order, and the answer of a step for every road, state and row. Assumes nothing.
+-- docs/MODEL.md, 'Stepping': the refusals 7, 18 and 8 to 10 in their order, and the answer of a step for every road, state, row and lanes; 17 and 18 of
+-- a table of lanes. Assumes nothing.
 use mathlib.Core.Bool.{cond}
 use mathlib.Core.List.{List}
 use Prim.Native.Nat.{ℕ, _+_}
 use lib.Dec.{leb, eqb}
+use lib.ListN.{length}
+use Rattle.lanes.specs.Lanes.{lanesAt, tableAt, tableBytes}
 use Rattle.road.specs.declared.Road.{Road}
 use Rattle.road.specs.declared.State.{State}
 use Rattle.road.specs.Road.{mostSteps}
-use Rattle.numbers.specs.First.{unless, firstFault}
+use Rattle.road.specs.Study.{openRoad}
+use Rattle.numbers.specs.First.{unless, unlessFirst, firstOf, allOf, firstFault}
 use Rattle.limits.specs.Limits.{inputOk}
 use Rattle.model.specs.Places.{releaseAt, mostReleaseAt, supplyAt}
 use Rattle.model.specs.Move.{nextOf}
@@ -50,9 +54,20 @@ answer q s = record { number = q .number; step = 0; place = q .place; state = s 
 abbrev pub settledOf : Road → State → List ℕ → Fault → Answer
 settledOf r s row q = unless (eqb (q .number) 0) (answer q s) (answer q (nextOf r s row (outflowsOf r s row)))
 
--- 7, a limit is broken; 8, s is 1,440; then 9 or 10
-unfoldable pub steppingOf : Road → State → List ℕ → Answer
-steppingOf r s row =
+-- 8, s is 1,440; then 9 or 10, on the step's road
+abbrev pub stepOn : Road → State → List ℕ → Answer
+stepOn q s row = cond (eqb (s .done) mostSteps) (answer (fault 8 0) s) (settledOf q s row (releasesOf q s row))
+
+-- 7, a limit is broken; 18, no lane built or an open lane that isn't, at the lowest such cell; then 8, 9 or 10
+unfoldable pub steppingOf : Road → State → List ℕ → List ℕ → List ℕ → Answer
+steppingOf r s row built usable =
     unless (inputOk r s row) (answer (fault 7 0) s)
-    (cond (eqb (s .done) mostSteps) (answer (fault 8 0) s)
-    (settledOf r s row (releasesOf r s row)))
+    (unlessFirst (lanesAt built usable) (r .n) (λ i. answer (fault 18 (i + 1)) s)
+    (stepOn (openRoad r built usable) s row))
+
+-- of a table of lanes: 17, neither empty nor of n × (T + 1) bytes; 18, at the lowest such cell over all rows
+unfoldable pub tableFault : List ℕ → ℕ → ℕ → Fault
+tableFault table n T =
+    cond (eqb (length table) 0) (fault 0 0)
+    (unless (eqb (length table) (tableBytes n T)) (fault 17 0)
+    (unlessFirst (tableAt table n T) n (λ i. fault 18 (i + 1)) (fault 0 0)))

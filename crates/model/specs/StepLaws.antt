@@ -1,23 +1,32 @@
 -- Laws of the lowest fault and of stepping. Assumes nothing.
 use mathlib.Core.Path.{_≡_, refl, sym, ap, _∙_}
 use mathlib.Core.Bool.{Bool, true, false, cond}
-use mathlib.Core.List.{List}
+use mathlib.Core.List.{List, [], _∷_}
 use Prim.Native.Nat.{ℕ, _+_, _≤_, _<_}
 use native.Mathlib.Omega.{arith}
 use lib.Dec.{leb, eqb}
+use lib.ListN.{length}
+use Rattle.rows.specs.Tables.{rowAt}
+use Rattle.lanes.specs.Lanes.{lanesOk, lanesAt, tableAt, tableBytes}
 use borrow.Author.Tests.{eqb-true, eqb-false, eq-eqb, ne-eqb}
 use Rattle.road.specs.declared.Road.{Road}
 use Rattle.road.specs.declared.State.{State}
 use Rattle.road.specs.Road.{mostSteps}
+use Rattle.road.specs.Study.{openRoad}
 use Rattle.road.specs.Refusals.{began}
-use Rattle.numbers.specs.First.{unless, oneOf, firstFault}
+use Rattle.numbers.specs.First.{unless, oneOf, firstFrom, firstOf, allOf, firstFault}
 use Rattle.numbers.specs.FirstLaws.{fault-within, fault-before, fault-there, fault-at, fault-none}
 use Rattle.numbers.specs.Tests.{two-zero, two-pass}
 use Rattle.limits.specs.Limits.{inputOk}
 use Rattle.model.specs.Places.{releaseAt, mostReleaseAt, supplyAt}
 use Rattle.model.specs.Move.{nextOf}
 use Rattle.model.specs.Rules.{Released, outflowsOf}
-use Rattle.model.specs.Step.{Fault, fault, lowestOf, releaseFaultAt, releasesOf, answer, steppingOf}
+use Rattle.model.specs.Step.{Fault, fault, lowestOf, releaseFaultAt, releasesOf, answer, stepOn, steppingOf, tableFault}
+
+-- two cells, a lane built in each, two steps: cell 2 is wrong in step 0 and cell 1 in step 1, and cell 1 is named
+pub lowest-over-rows : tableFault (1 ∷ 1 ∷ 1 ∷ 2 ∷ 2 ∷ 1 ∷ []) 2 2 ≡ fault 18 1
+unfolding tableFault firstOf firstFrom lanesOk rowAt
+lowest-over-rows = refl
 
 -- equal faults have equal numbers
 pub number-of : {p q : Fault} → p ≡ q → p .number ≡ q .number
@@ -78,21 +87,83 @@ module _ (r : Road) (s : State) (row : List ℕ) where
   fit-releases ok = lowest-none (releaseFaultAt r s row) (r .n) 1
       (λ i l. two-pass (releaseAt row i) (mostReleaseAt s row i) (releaseAt row i) (supplyAt r s i) 9 10 (ok .queue i l) (ok .supply i l))
 
-  -- stepping, case by case
-  pub stepping-input : inputOk r s row ≡ false → steppingOf r s row ≡ answer (fault 7 0) s
-  unfolding steppingOf
-  stepping-input h = rw h
+  -- from 8 on, on the step's road
+  pub on-done : s .done ≡ mostSteps → stepOn r s row ≡ answer (fault 8 0) s
+  on-done e = rw (eq-eqb (s .done) mostSteps e)
 
-  pub stepping-done : inputOk r s row ≡ true → s .done ≡ mostSteps → steppingOf r s row ≡ answer (fault 8 0) s
-  unfolding steppingOf
-  stepping-done h e = rw (h, eq-eqb (s .done) mostSteps e)
+  pub on-refused : (s .done ≡ mostSteps → ⊥) → (releasesOf r s row .number ≡ 0 → ⊥) → stepOn r s row ≡ answer (releasesOf r s row) s
+  on-refused d q = rw (ne-eqb (s .done) mostSteps d, ne-eqb (releasesOf r s row .number) 0 q)
 
-  pub stepping-refused : inputOk r s row ≡ true → (s .done ≡ mostSteps → ⊥) → (releasesOf r s row .number ≡ 0 → ⊥)
-      → steppingOf r s row ≡ answer (releasesOf r s row) s
-  unfolding steppingOf
-  stepping-refused h d q = rw (h, ne-eqb (s .done) mostSteps d, ne-eqb (releasesOf r s row .number) 0 q)
+  pub on-next : (s .done ≡ mostSteps → ⊥) → Released r s row → stepOn r s row ≡ answer (fault 0 0) (nextOf r s row (outflowsOf r s row))
+  on-next d q = rw (ne-eqb (s .done) mostSteps d, fit-releases q)
 
-  pub stepping-next : inputOk r s row ≡ true → (s .done ≡ mostSteps → ⊥) → Released r s row
-      → steppingOf r s row ≡ answer (fault 0 0) (nextOf r s row (outflowsOf r s row))
+-- stepping, case by case
+pub stepping-input : (r : Road) (s : State) (row built usable : List ℕ) → inputOk r s row ≡ false → steppingOf r s row built usable ≡ answer (fault 7 0) s
+unfolding steppingOf
+stepping-input r s row built usable h = rw h
+
+module _ (r : Road) (s : State) (row built usable : List ℕ) (input : inputOk r s row ≡ true) where
+  pub stepping-lanes : (firstOf (lanesAt built usable) (r .n) ≡ r .n → ⊥)
+      → steppingOf r s row built usable ≡ answer (fault 18 (firstOf (lanesAt built usable) (r .n) + 1)) s
   unfolding steppingOf
-  stepping-next h d q = rw (h, ne-eqb (s .done) mostSteps d, fit-releases q)
+  stepping-lanes h = rw (input, ne-eqb (firstOf (lanesAt built usable) (r .n)) (r .n) h)
+
+  module _ (lanes : firstOf (lanesAt built usable) (r .n) ≡ r .n) where
+    abbrev q : Road
+    q = openRoad r built usable
+
+    pub stepping-on : steppingOf r s row built usable ≡ stepOn (openRoad r built usable) s row
+    unfolding steppingOf
+    stepping-on = rw (input, eq-eqb (firstOf (lanesAt built usable) (r .n)) (r .n) lanes)
+
+    pub stepping-done : s .done ≡ mostSteps → steppingOf r s row built usable ≡ answer (fault 8 0) s
+    stepping-done e = stepping-on ∙ on-done q s row e
+
+    pub stepping-refused : (s .done ≡ mostSteps → ⊥) → (releasesOf (openRoad r built usable) s row .number ≡ 0 → ⊥)
+        → steppingOf r s row built usable ≡ answer (releasesOf (openRoad r built usable) s row) s
+    stepping-refused d f = stepping-on ∙ on-refused q s row d f
+
+    pub stepping-next : (s .done ≡ mostSteps → ⊥) → Released (openRoad r built usable) s row
+        → steppingOf r s row built usable ≡ answer (fault 0 0) (nextOf (openRoad r built usable) s row (outflowsOf (openRoad r built usable) s row))
+    stepping-next d f = stepping-on ∙ on-next q s row d f
+
+-- a table of lanes, case by case
+module _ (table : List ℕ) (n T : ℕ) where
+  pub table-empty : length table ≡ 0 → tableFault table n T ≡ fault 0 0
+  unfolding tableFault
+  table-empty e = rw (eq-eqb (length table) 0 e)
+
+  module _ (some : length table ≡ 0 → ⊥) where
+    pub table-size : (length table ≡ tableBytes n T → ⊥) → tableFault table n T ≡ fault 17 0
+    unfolding tableFault
+    table-size h = rw (ne-eqb (length table) 0 some, ne-eqb (length table) (tableBytes n T) h)
+
+    module _ (right : length table ≡ tableBytes n T) where
+      pub table-cell : (firstOf (tableAt table n T) n ≡ n → ⊥) → tableFault table n T ≡ fault 18 (firstOf (tableAt table n T) n + 1)
+      unfolding tableFault
+      table-cell h =
+          rw (ne-eqb (length table) 0 some, eq-eqb (length table) (tableBytes n T) right, ne-eqb (firstOf (tableAt table n T) n) n h)
+
+      pub table-passes : firstOf (tableAt table n T) n ≡ n → tableFault table n T ≡ fault 0 0
+      unfolding tableFault
+      table-passes h =
+          rw (ne-eqb (length table) 0 some, eq-eqb (length table) (tableBytes n T) right, eq-eqb (firstOf (tableAt table n T) n) n h)
+
+-- what a table without a fault is
+pub record TableOk (table : List ℕ) (n T : ℕ) : Type 0 where
+  pub right : (length table ≡ 0 → ⊥) → length table ≡ tableBytes n T
+  pub cells : (length table ≡ 0 → ⊥) → allOf (tableAt table n T) n ≡ true
+
+pub table-ok : (table : List ℕ) (n T : ℕ) → tableFault table n T .number ≡ 0 → TableOk table n T
+unfolding tableFault
+table-ok table n T h =
+    go (eqb (length table) 0) (eqb (length table) (tableBytes n T)) (eqb (firstOf (tableAt table n T) n) n) refl refl refl h
+  where
+    go : (a b c : Bool) → eqb (length table) 0 ≡ a → eqb (length table) (tableBytes n T) ≡ b → eqb (firstOf (tableAt table n T) n) n ≡ c
+        → cond a (fault 0 0) (unless b (fault 17 0) (unless c (fault 18 (firstOf (tableAt table n T) n + 1)) (fault 0 0))) .number ≡ 0
+        → TableOk table n T
+    go true b c ea eb ec z =
+        let e = eqb-true (length table) 0 ea in record { right = λ no. absurd (no e); cells = λ no. absurd (no e) }
+    go false true true ea eb ec z = record { right = λ no. eqb-true (length table) (tableBytes n T) eb; cells = λ no. ec }
+    go false true false ea eb ec z = absurd (omega arith)
+    go false false c ea eb ec z = absurd (omega arith)

@@ -1,6 +1,6 @@
 -- What printing asks, and what its loop over the steps knows. Assumes nothing.
 use mathlib.Core.Path.{_≡_, refl, sym, _∙_}
-use mathlib.Core.List.{List, _++_}
+use mathlib.Core.List.{List, [], _++_}
 use Prim.Native.Nat.{ℕ, suc, _+_, _*_, min, _≤_, _<_}
 use native.Mathlib.Numerals.{add-one}
 use native.Mathlib.Omega.{arith}
@@ -143,6 +143,6 @@ module _ (bytes : List ℕ) {x : ReadAnswer} (ex : x ≡ readingOf bytes) {befor
       let z = refused-room before 0 (x .number) 0 (x .place) after m p in
       rw (← ex, ne-eqb (x .number) 0 n) (holds before (refusedLine (x .number) 0 (x .place)) after m mostLine p z (omega (arith, l)))
 
-  pub holds-read : x .number ≡ 0 → Holds before (printedRun (studyBy bytes (x .road) (x .state) (x .steps))) after m → Holds before (printedOf bytes) after m
+  pub holds-read : x .number ≡ 0 → Holds before (printedRun (studyBy bytes [] (x .road) (x .state) (x .steps))) after m → Holds before (printedOf bytes) after m
   unfolding printedOf
   holds-read z h = rw (← ex, eq-eqb (x .number) 0 z) h

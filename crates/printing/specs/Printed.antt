@@ -31,8 +31,8 @@ printedEnd a e =
 unfoldable pub printedRun : Study → List ℕ
 printedRun a = printedEnd a (runEnd a)
 
--- of a record: 1 to 6 as in reading, or its run
+-- of a record: 1 to 6 as in reading, or its run with all lanes open
 unfoldable pub printedOf : List ℕ → List ℕ
 printedOf bytes =
     unless (eqb (readingOf bytes .number) 0) (refusedLine (readingOf bytes .number) 0 (readingOf bytes .place))
-    (printedRun (studyOf bytes))
+    (printedRun (studyOf bytes []))

@@ -2,6 +2,7 @@
 use road::Road;
 use road::State;
 ghost use mathlib.Core.Path.{_≡_};
+ghost use mathlib.Core.List.{[]};
 ghost use Prim.Native.Nat.{_+_, _*_, _≤_};
 ghost use lib.ListN.{length};
 ghost use Rattle.model.specs.Move.{nextOf};
@@ -47,8 +48,8 @@ fn step_lines(
 
 // The header, the lines of each step as it is made, and the last line; a fault leaves a refusal's line instead.
 fn run_lines(bytes: &[u8], r: Road, s: State, steps: usize, buffer: &mut [u8]) -> usize
-    requires { ⌜ Printable (now bytes) (studyBy (now bytes) r s steps) (now buffer) ⌝ }
-    ensures { λ e. ⌜ Holds (now (buffer .entry)) (printedRun (studyBy (now (bytes .entry)) r s steps)) (now (buffer .exit)) e ⌝ }
+    requires { ⌜ Printable (now bytes) (studyBy (now bytes) [] r s steps) (now buffer) ⌝ }
+    ensures { λ e. ⌜ Holds (now (buffer .entry)) (printedRun (studyBy (now (bytes .entry)) [] r s steps)) (now (buffer .exit)) e ⌝ }
 {
     let n = r.n;
     let numbers = 1 + 2 * n;

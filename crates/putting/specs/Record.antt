@@ -1,5 +1,5 @@
 -- docs/MODEL.md, 'The record': the bytes of a study. Assumes nothing.
-use mathlib.Core.List.{List, _++_}
+use mathlib.Core.List.{List, [], _++_}
 use Prim.Native.Nat.{ℕ, _-_}
 use Rattle.numbers.specs.Lists.{at}
 use Rattle.rows.specs.Rows.{concatOf}
@@ -55,4 +55,4 @@ recordOf a = headerBytes a ++ (concatOf (cellBytes (a .road) (a .start)) (a .roa
 
 -- what is given: a road, T, a start and the numbers of all rows, one row after the other
 abbrev pub given : Road → ℕ → Start → List ℕ → Study
-given road T start rows = study road (startState start) T (rowAt rows (rowNumbers (road .n)))
+given road T start rows = study road (startState start) T (rowAt rows (rowNumbers (road .n))) []

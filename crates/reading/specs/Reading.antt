@@ -106,10 +106,10 @@ readingOf s =
     (unlessFirst (stepOk s (roadOf s)) (stepsOf s) (refusedOf 6)
     (acceptedOf (stepsOf s) (roadOf s) (startOf s)))))))
 
--- the study of a record that gave this road, start and T: its rows stand in the bytes
-abbrev pub studyBy : List ℕ → Road → State → ℕ → Study
-studyBy s r q T = study r q T (recordRow s (r .n))
+-- the study of a record that gave this road, start and T, under a table of lanes: its rows stand in the bytes
+abbrev pub studyBy : List ℕ → List ℕ → Road → State → ℕ → Study
+studyBy s lanes r q T = study r q T (recordRow s (r .n)) lanes
 
--- the study of a record
-abbrev pub studyOf : List ℕ → Study
-studyOf s = studyBy s (readingOf s .road) (readingOf s .state) (readingOf s .steps)
+-- the study of a record under a table of lanes
+abbrev pub studyOf : List ℕ → List ℕ → Study
+studyOf s lanes = studyBy s lanes (readingOf s .road) (readingOf s .state) (readingOf s .steps)

@@ -5,8 +5,8 @@ use Prim.Native.Nat.{ℕ, suc, _+_, _-_, _*_, _≤_, _<_}
 use native.Mathlib.Nat.{mul-le-mul-right, suc-mul}
 use native.Mathlib.Numerals.{add-one}
 use native.Mathlib.Omega.{arith}
-use lib.ListN.{length, take, drop, length-drop}
-use lib.Seq.{length-take-le}
+use lib.ListN.{length, getD, take, drop, length-drop}
+use lib.Seq.{length-take-le, getD-take, getD-drop}
 use Rattle.rows.specs.Tables.{rowAt}
 
 -- row k ends within t rows
@@ -30,3 +30,8 @@ part-length l from w h = length-take-le (from + w - from) (drop from l) (omega (
 pub row-length : (l : List ℕ) (w k t : ℕ) → k < t → length l ≡ t * w → length (rowAt l w k) ≡ w
 unfolding rowAt
 row-length l w k t h e = length-take-le w (drop (k * w) l) (omega (arith, length-drop (k * w) l, row-ends k t w h))
+
+-- an entry of a row, in the table
+pub row-entry : (l : List ℕ) (w k i : ℕ) → i < w → getD (rowAt l w k) i 0 ≡ getD l (k * w + i) 0
+unfolding rowAt
+row-entry l w k i h = getD-take w (drop (k * w) l) i 0 h ∙ getD-drop (k * w) l i 0

@@ -1,19 +1,21 @@
 -- What a loop over the steps of the engine's run knows of its state, and how it ends. Assumes nothing.
-use mathlib.Core.Path.{_≡_, refl, sym, _∙_}
+use mathlib.Core.Path.{_≡_, refl, sym, ap, _∙_}
 use mathlib.Core.List.{List}
-use Prim.Native.Nat.{ℕ, _+_, _≤_, _<_}
+use Prim.Native.Nat.{ℕ, _+_, _*_, _≤_, _<_}
+use lib.ListN.{length}
 use native.Mathlib.Numerals.{add-one}
 use native.Mathlib.Omega.{arith}
 use borrow.Author.Count.{below-more, below-none}
 use Rattle.road.specs.declared.Road.{Road}
 use Rattle.road.specs.declared.State.{State}
-use Rattle.road.specs.Study.{Study, roadAt}
+use Rattle.road.specs.Road.{mostCells}
+use Rattle.road.specs.Study.{Study, roadAt, places}
 use Rattle.model.specs.Move.{nextOf}
 use Rattle.model.specs.Rules.{outflowsOf}
 use Rattle.model.specs.Step.{Fault, releasesOf}
 use Rattle.model.specs.StepLaws.{number-of, releases-fit}
 use Rattle.model.specs.Runs.{engineAfter, outflowsAt}
-use Rattle.model.specs.RunsLaws.{StudyOk, Reached, StepOf, step-input, step-sized, step-left}
+use Rattle.model.specs.RunsLaws.{StudyOk, Reached, StepOf, step-road, step-input, step-sized, step-left}
 use Rattle.moves.specs.Asked.{Steppable}
 use Rattle.schedules.specs.Schedules.{runSays, firstStep, EndAnswer, ended, runEnd}
 use Rattle.schedules.specs.SchedulesLaws.{step-at, step-none, ends-at, ends-all, run-reached}
@@ -61,6 +63,13 @@ module _ {a : Study} where
       numbers = t .numbers;
       reached = ran-reached (t .ok) (t .ran);
     }
+
+    -- looking through the releases asks nothing more
+    pub releasable : (q .n ≤ mostCells) × (length row ≡ 1 + 2 * q .n)
+    releasable = (step-road this-step .ok .cells, step-input this-step .row .numbers)
+
+    pub same-places : {m : ℕ} → m ≡ places a → m ≡ q .n + 1
+    same-places e = e ∙ ap (λ (n : ℕ). n + 1) (sym (step-road this-step .n))
 
     -- the engine's row of the step, as the code has it
     pub row-is : {y : List ℕ} → y ≡ outflowsOf q u row → y ≡ outflowsAt a k

@@ -4,43 +4,49 @@ use road::Refusal;
 use road::Road;
 use road::State;
 ghost use mathlib.Core.Path.{_≡_};
-ghost use Rattle.reading.specs.Reading.{readingOf, studyBy};
+ghost use Rattle.reading.specs.Reading.{studyBy};
 ghost use Rattle.schedules.specs.Schedules.{endAnswer, runEnd, runTable, runningOf, listAfter};
-ghost use Rattle.schedules.specs.Demand.{Promised};
+ghost use Rattle.schedules.specs.Demand.{Taken, Promised};
 ghost use Rattle.running.specs.Made.{Runnable};
 
 // Writes the rows of the steps before the first fault, 9 or 10.
-fn run_rows(bytes: &[u8], r: Road, s: State, steps: usize, out: &mut [u32]) -> Ended
-    requires { ⌜ Runnable (now bytes) (studyBy (now bytes) r s steps) (now out) ⌝ }
-    ensures answer { λ e. ⌜ endAnswer e ≡ runEnd (studyBy (now (bytes .entry)) r s steps) ⌝ }
-    ensures list { λ e. ⌜ now (out .exit) ≡ runTable (studyBy (now (bytes .entry)) r s steps) (now (out .entry)) ⌝ }
+fn run_rows(bytes: &[u8], table: &[u8], r: Road, s: State, steps: usize, out: &mut [u32]) -> Ended
+    requires { ⌜ Runnable (now bytes) (studyBy (now bytes) (now table) r s steps) (now out) ⌝ }
+    ensures answer { λ e. ⌜ endAnswer e ≡ runEnd (studyBy (now (bytes .entry)) (now (table .entry)) r s steps) ⌝ }
+    ensures list { λ e. ⌜ now (out .exit) ≡ runTable (studyBy (now (bytes .entry)) (now (table .entry)) r s steps) (now (out .entry)) ⌝ }
 {
     let n = r.n;
     let numbers = 1 + 2 * n;
     let places = n + 1;
+    let capacity = r.capacity;
+    let mut road = r;
     let mut u = s;
     let mut k = 0;
     let mut to = 0;
     while k < steps {
+        if table.len() != 0 {
+            let left = lanes::step_capacities(capacity, table, n, k);
+            road.capacity = left;
+        }
         let row = fields::row(bytes, n, k);
-        let q = stepping::releases(r, u, &row[..numbers]);
+        let q = stepping::releases(road, u, &row[..numbers]);
         let refusal = q.refusal;
         if refusal.number() != 0 {
             return Ended::at_step(refusal, k, q.place, r, u);
         }
         let end = to + places;
-        u = stepping::next(r, u, &row[..numbers], &mut out[to..end]);
+        u = stepping::next(road, u, &row[..numbers], &mut out[to..end]);
         to = end;
         k += 1;
     }
     Ended::complete(r, u)
 }
 
-// Runs a record: 1 to 6 as in reading, 11, then 9 or 10 with its step and cell.
-pub fn run(bytes: &[u8], out: &mut [u32]) -> Ended
-    ensures answer { λ e. ⌜ endAnswer e ≡ runningOf (now (bytes .entry)) (now (out .entry)) ⌝ }
-    ensures list { λ e. ⌜ now (out .exit) ≡ listAfter (now (bytes .entry)) (now (out .entry)) ⌝ }
-    ensures demand { λ e. ⌜ (readingOf (now (bytes .entry)) .number ≡ 0 → Promised (now (bytes .entry)) (now (out .exit)) (endAnswer e)) ⌝ }
+// Runs a record under a table of lanes: 1 to 6 as in reading, 17, 18, 11, then 9 or 10 with its step and cell.
+pub fn run(bytes: &[u8], table: &[u8], out: &mut [u32]) -> Ended
+    ensures answer { λ e. ⌜ endAnswer e ≡ runningOf (now (bytes .entry)) (now (table .entry)) (now (out .entry)) ⌝ }
+    ensures list { λ e. ⌜ now (out .exit) ≡ listAfter (now (bytes .entry)) (now (table .entry)) (now (out .entry)) ⌝ }
+    ensures demand { λ e. ⌜ (Taken (now (bytes .entry)) (now (table .entry)) → Promised (now (bytes .entry)) (now (table .entry)) (now (out .exit)) (endAnswer e)) ⌝ }
 {
     let a = reading::read(bytes);
     let refusal = a.refusal;
@@ -50,8 +56,14 @@ pub fn run(bytes: &[u8], out: &mut [u32]) -> Ended
     let road = a.road;
     let state = a.state;
     let steps = a.steps;
-    if out.len() < steps * (road.n + 1) {
+    let n = road.n;
+    let q = closures::refused(table, n, steps);
+    let closed = q.refusal;
+    if closed.number() != 0 {
+        return Ended::without_state(closed, q.place);
+    }
+    if out.len() < steps * (n + 1) {
         return Ended::without_state(Refusal::ListLength, 0);
     }
-    run_rows(bytes, road, state, steps, out)
+    run_rows(bytes, table, road, state, steps, out)
 }

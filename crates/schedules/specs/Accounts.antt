@@ -1,4 +1,4 @@
--- What the states of a schedule add up to, for every record that reads: the three times, the total, cumulative outflows and conservation. Assumes nothing.
+-- What the states of a schedule add up to, for every record that reads and every table of lanes: the three times, the total, cumulative outflows and conservation. Assumes nothing.
 use mathlib.Core.Path.{_≡_, refl, sym, _∙_}
 use mathlib.Core.List.{List}
 use Prim.Native.Nat.{ℕ, zero, suc, _+_, _≤_}
@@ -21,7 +21,7 @@ use Rattle.reading.specs.Reading.{readingOf, studyOf}
 use Rattle.reading.specs.Numbers.{Numbers, read-numbers}
 use Rattle.schedules.specs.Schedules.{proposedAt, scheduledAt}
 use Rattle.schedules.specs.Readable.{readable}
-use Rattle.schedules.specs.Demand.{Reaches}
+use Rattle.schedules.specs.Demand.{Taken, Reaches}
 
 -- after k steps of a table of outflows
 pub record Accounts (a : Study) (zs : List ℕ) (k : ℕ) : Type 0 where
@@ -37,18 +37,18 @@ pub record Accounts (a : Study) (zs : List ℕ) (k : ℕ) : Type 0 where
   pub conserved : presentOf (a .road) (a .start) + arrivalsTo a k
       ≡ presentOf (a .road) (scheduledAt a zs k) + exitsOf (a .road) (scheduledAt a zs k)
 
-module _ (bytes zs : List ℕ) (reads : readingOf bytes .number ≡ 0) where
+module _ (bytes lanes zs : List ℕ) (taken : Taken bytes lanes) where
   abbrev a : Study
-  a = studyOf bytes
+  a = studyOf bytes lanes
 
   abbrev u : ℕ → State
   u k = scheduledAt a zs k
 
-  ok : StudyOk (studyOf bytes)
-  ok = readable bytes (readingOf bytes) refl reads .ok
+  ok : StudyOk (studyOf bytes lanes)
+  ok = readable bytes lanes (readingOf bytes) refl (taken .reads) (taken .opens) .ok
 
   start : Numbers bytes (a .steps) (a .road) (a .start)
-  start = read-numbers bytes (readingOf bytes) refl reads
+  start = read-numbers bytes (readingOf bytes) refl (taken .reads)
 
   start-total : totalOf (a .start) ≡ 0
   start-total = omega (arith, start .gateTime, start .roadTime, start .rampTime)
@@ -129,7 +129,7 @@ module _ (bytes zs : List ℕ) (reads : readingOf bytes .number ≡ 0) where
       )
 
   -- of every step that a schedule reaches; running's written rows are one, and so is what judging goes through
-  pub accounts : (k : ℕ) → Reaches (studyOf bytes) zs k → Accounts (studyOf bytes) zs k
+  pub accounts : (k : ℕ) → Reaches (studyOf bytes lanes) zs k → Accounts (studyOf bytes lanes) zs k
   accounts k h = record {
     gateTime = gate-time-sum k;
     roadTime = road-time-sum k;

@@ -12,8 +12,8 @@ use Rattle.road.specs.Refusals.{began}
 use Rattle.road.specs.Study.{Study, roadAt, tableSize}
 use Rattle.model.specs.Rules.{Greatest}
 use Rattle.model.specs.Runs.{Obeying}
-use Rattle.reading.specs.Reading.{studyOf}
-use Rattle.schedules.specs.Schedules.{proposedAt, scheduledAt, EndAnswer, stepsMade, judgingOf}
+use Rattle.reading.specs.Reading.{readingOf, studyOf}
+use Rattle.schedules.specs.Schedules.{proposedAt, scheduledAt, EndAnswer, lanesFault, stepsMade, judgingOf}
 
 -- s is ahead of t: no cumulative outflow of t is larger, at the gate and at every cell, and t's total is not smaller.
 -- Releases are agreed beforehand, so no holding plan changes what the town sees: ramp times are equal. What a plan adds to the
@@ -35,40 +35,45 @@ abbrev pub GreatestIn : Study → List ℕ → ℕ → Type 0
 GreatestIn a zs k = Greatest (roadAt a k) (scheduledAt a zs k) (a .rows k) (proposedAt a zs k)
 
 -- what running's answer e and its list at exit are worth, for every schedule zs that anyone draws for the record. Both sides take road,
--- start, arrivals and releases from one reading of the record, its study; running writes the rows of the steps made
-pub record Demand (bytes out : List ℕ) (e : EndAnswer) : Type 0 where
+-- start, arrivals and releases from one reading of the record, and closures from one table, its study; running writes the rows of the steps made
+pub record Demand (bytes lanes out : List ℕ) (e : EndAnswer) : Type 0 where
   -- each row of the run holds the greatest outflows in the run's own states
-  pub greatest : (k : ℕ) → k < stepsMade (studyOf bytes) e → GreatestIn (studyOf bytes) out k
+  pub greatest : (k : ℕ) → k < stepsMade (studyOf bytes lanes) e → GreatestIn (studyOf bytes lanes) out k
   -- after every step that both reach, the schedule's cumulative outflow is at most the engine's and its total at least the engine's;
   -- its ramp time is the engine's, and so its gate and road time together are at least the engine's
-  pub ahead : (zs : List ℕ) (k : ℕ) → k ≤ stepsMade (studyOf bytes) e → Reaches (studyOf bytes) zs k
-      → Ahead (studyOf bytes .road) (scheduledAt (studyOf bytes) out k) (scheduledAt (studyOf bytes) zs k)
+  pub ahead : (zs : List ℕ) (k : ℕ) → k ≤ stepsMade (studyOf bytes lanes) e → Reaches (studyOf bytes lanes) zs k
+      → Ahead (studyOf bytes lanes .road) (scheduledAt (studyOf bytes lanes) out k) (scheduledAt (studyOf bytes lanes) zs k)
   -- where running and judging end after equally many steps, the same holds of the states that they return
-  pub returned : (zs : List ℕ) → e .state .done ≡ judgingOf bytes zs .state .done
-      → Ahead (studyOf bytes .road) (e .state) (judgingOf bytes zs .state)
+  pub returned : (zs : List ℕ) → e .state .done ≡ judgingOf bytes lanes zs .state .done
+      → Ahead (studyOf bytes lanes .road) (e .state) (judgingOf bytes lanes zs .state)
 
 -- what the words of Demand stand for: the rows written, taken as a schedule; the steps made; reaching; the states returned
-pub record Grounds (bytes out : List ℕ) (e : EndAnswer) : Type 0 where
+pub record Grounds (bytes lanes out : List ℕ) (e : EndAnswer) : Type 0 where
   -- the rows written, taken as a schedule, obey the rules up to every step written
-  pub own : (k : ℕ) → k ≤ stepsMade (studyOf bytes) e → Reaches (studyOf bytes) out k
+  pub own : (k : ℕ) → k ≤ stepsMade (studyOf bytes lanes) e → Reaches (studyOf bytes lanes) out k
   -- where the run began they give the state that is returned, with the record's road
-  pub ownState : began (e .number) ≡ true → e .state ≡ scheduledAt (studyOf bytes) out (stepsMade (studyOf bytes) e)
-  pub ownRoad : began (e .number) ≡ true → e .road ≡ studyOf bytes .road
+  pub ownState : began (e .number) ≡ true → e .state ≡ scheduledAt (studyOf bytes lanes) out (stepsMade (studyOf bytes lanes) e)
+  pub ownRoad : began (e .number) ≡ true → e .road ≡ studyOf bytes lanes .road
   -- judging accepts them where running was not refused, with the same answer
-  pub ownJudged : e .number ≡ 0 → judgingOf bytes (take (tableSize (studyOf bytes)) out) ≡ e
+  pub ownJudged : e .number ≡ 0 → judgingOf bytes lanes (take (tableSize (studyOf bytes lanes)) out) ≡ e
   -- running makes all T steps, or those before its refusal; none where it did not begin
-  pub allRows : e .number ≡ 0 → stepsMade (studyOf bytes) e ≡ studyOf bytes .steps
-  pub noRows : began (e .number) ≡ false → stepsMade (studyOf bytes) e ≡ 0
+  pub allRows : e .number ≡ 0 → stepsMade (studyOf bytes lanes) e ≡ studyOf bytes lanes .steps
+  pub noRows : began (e .number) ≡ false → stepsMade (studyOf bytes lanes) e ≡ 0
   -- reaching is what judging does: a schedule of the right length reaches exactly the steps before its refusal, or all
-  pub reaches : (zs : List ℕ) → length zs ≡ tableSize (studyOf bytes) → (k : ℕ) → Reaches (studyOf bytes) zs k
-      → k ≤ stepsMade (studyOf bytes) (judgingOf bytes zs)
-  pub reached : (zs : List ℕ) → length zs ≡ tableSize (studyOf bytes) → Reaches (studyOf bytes) zs (stepsMade (studyOf bytes) (judgingOf bytes zs))
+  pub reaches : (zs : List ℕ) → length zs ≡ tableSize (studyOf bytes lanes) → (k : ℕ) → Reaches (studyOf bytes lanes) zs k
+      → k ≤ stepsMade (studyOf bytes lanes) (judgingOf bytes lanes zs)
+  pub reached : (zs : List ℕ) → length zs ≡ tableSize (studyOf bytes lanes) → Reaches (studyOf bytes lanes) zs (stepsMade (studyOf bytes lanes) (judgingOf bytes lanes zs))
   -- judging returns the schedule's own state after the steps made, with the record's road
-  pub judgedState : (zs : List ℕ) → length zs ≡ tableSize (studyOf bytes)
-      → judgingOf bytes zs .state ≡ scheduledAt (studyOf bytes) zs (stepsMade (studyOf bytes) (judgingOf bytes zs))
-  pub judgedRoad : (zs : List ℕ) → length zs ≡ tableSize (studyOf bytes) → judgingOf bytes zs .road ≡ studyOf bytes .road
+  pub judgedState : (zs : List ℕ) → length zs ≡ tableSize (studyOf bytes lanes)
+      → judgingOf bytes lanes zs .state ≡ scheduledAt (studyOf bytes lanes) zs (stepsMade (studyOf bytes lanes) (judgingOf bytes lanes zs))
+  pub judgedRoad : (zs : List ℕ) → length zs ≡ tableSize (studyOf bytes lanes) → judgingOf bytes lanes zs .road ≡ studyOf bytes lanes .road
 
--- both, for a record that reads without refusal
-pub record Promised (bytes out : List ℕ) (e : EndAnswer) : Type 0 where
-  pub demand : Demand bytes out e
-  pub grounds : Grounds bytes out e
+-- no refusal of the record (1 to 6) or of its table of lanes (17, 18) applies
+pub record Taken (bytes lanes : List ℕ) : Type 0 where
+  pub reads : readingOf bytes .number ≡ 0
+  pub opens : lanesFault (studyOf bytes lanes) .number ≡ 0
+
+-- both, for a record and a table that are taken
+pub record Promised (bytes lanes out : List ℕ) (e : EndAnswer) : Type 0 where
+  pub demand : Demand bytes lanes out e
+  pub grounds : Grounds bytes lanes out e

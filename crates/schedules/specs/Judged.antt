@@ -13,39 +13,39 @@ use Rattle.schedules.specs.Schedules.{proposedAt, scheduledAt, judgeSays
 use Rattle.schedules.specs.SchedulesLaws.{step-within, end-all, end-fault, end-number, obeys-faults, faults-obeys}
 use Rattle.schedules.specs.Ends.{judges-length, judges-ends}
 use Rattle.schedules.specs.Readable.{readable}
-use Rattle.schedules.specs.Demand.{Reaches}
+use Rattle.schedules.specs.Demand.{Taken, Reaches}
 
-module _ (bytes zs : List ℕ) (reads : readingOf bytes .number ≡ 0) (right : length zs ≡ tableSize (studyOf bytes)) where
+module _ (bytes lanes zs : List ℕ) (taken : Taken bytes lanes) (right : length zs ≡ tableSize (studyOf bytes lanes)) where
   abbrev a : Study
-  a = studyOf bytes
+  a = studyOf bytes lanes
 
   abbrev J : ℕ
   J = firstStep (judgeSays a zs) (a .steps)
 
-  ok : StudyOk (studyOf bytes)
-  ok = readable bytes (readingOf bytes) refl reads .ok
+  ok : StudyOk (studyOf bytes lanes)
+  ok = readable bytes lanes (readingOf bytes) refl (taken .reads) (taken .opens) .ok
 
-  answer : judgingOf bytes zs ≡ judgeEnd (studyOf bytes) zs
-  answer = judges-ends bytes reads zs right
+  answer : judgingOf bytes lanes zs ≡ judgeEnd (studyOf bytes lanes) zs
+  answer = judges-ends bytes lanes taken zs right
 
   -- accepted: the schedule obeys the rules in all T steps
-  pub accepted-obeys : judgingOf bytes zs .number ≡ 0 → Reaches (studyOf bytes) zs (studyOf bytes .steps)
+  pub accepted-obeys : judgingOf bytes lanes zs .number ≡ 0 → Reaches (studyOf bytes lanes) zs (studyOf bytes lanes .steps)
   accepted-obeys h =
       let f : J ≡ a .steps = end-number a (judgeSays a zs) (scheduledAt a zs) (sym (ap (λ (e : EndAnswer). e .number) answer) ∙ h) in
       record { within = le-refl (a .steps); obeys = λ j l. faults-obeys a ok zs j (omega (arith, f)) }
 
   -- and one that does is accepted, with the final state
-  pub obeys-accepted : Reaches (studyOf bytes) zs (studyOf bytes .steps)
-      → judgingOf bytes zs ≡ ended 0 0 0 (studyOf bytes .road) (scheduledAt (studyOf bytes) zs (studyOf bytes .steps))
+  pub obeys-accepted : Reaches (studyOf bytes lanes) zs (studyOf bytes lanes .steps)
+      → judgingOf bytes lanes zs ≡ ended 0 0 0 (studyOf bytes lanes .road) (scheduledAt (studyOf bytes lanes) zs (studyOf bytes lanes .steps))
   obeys-accepted h =
       let f : J ≡ a .steps = omega (arith, step-within (judgeSays a zs) (a .steps), obeys-faults a ok zs (a .steps) (h .within) (h .obeys)) in
       answer ∙ end-all a (judgeSays a zs) (scheduledAt a zs) f
 
   -- otherwise the answer is the verdict on the first row that does not obey, in the schedule's own state before it
-  pub refused-first : (k : ℕ) → k < studyOf bytes .steps → Reaches (studyOf bytes) zs k
-      → (Obeys (roadAt (studyOf bytes) k) (scheduledAt (studyOf bytes) zs k) (studyOf bytes .rows k) (proposedAt (studyOf bytes) zs k) → ⊥)
-      → judgingOf bytes zs
-      ≡ ended (judgeSays (studyOf bytes) zs k .number) k (judgeSays (studyOf bytes) zs k .place) (studyOf bytes .road) (scheduledAt (studyOf bytes) zs k)
+  pub refused-first : (k : ℕ) → k < studyOf bytes lanes .steps → Reaches (studyOf bytes lanes) zs k
+      → (Obeys (roadAt (studyOf bytes lanes) k) (scheduledAt (studyOf bytes lanes) zs k) (studyOf bytes lanes .rows k) (proposedAt (studyOf bytes lanes) zs k) → ⊥)
+      → judgingOf bytes lanes zs
+      ≡ ended (judgeSays (studyOf bytes lanes) zs k .number) k (judgeSays (studyOf bytes lanes) zs k .place) (studyOf bytes lanes .road) (scheduledAt (studyOf bytes lanes) zs k)
   refused-first k l h n =
       let far = obeys-faults a ok zs k (h .within) (h .obeys) in
       let not-past : k < J → ⊥ = λ m. n (faults-obeys a ok zs k m) in
@@ -54,8 +54,8 @@ module _ (bytes zs : List ℕ) (reads : readingOf bytes .number ≡ 0) (right : 
       answer ∙ rw f at g
 
 -- a schedule of another length is refused by 12
-pub refused-length : (bytes zs : List ℕ) → readingOf bytes .number ≡ 0 → (length zs ≡ tableSize (studyOf bytes) → ⊥)
-    → (judgingOf bytes zs .number ≡ 12) × (judgingOf bytes zs .place ≡ 0)
-refused-length bytes zs reads n =
-    let e = judges-length bytes reads zs n in
+pub refused-length : (bytes lanes zs : List ℕ) → Taken bytes lanes → (length zs ≡ tableSize (studyOf bytes lanes) → ⊥)
+    → (judgingOf bytes lanes zs .number ≡ 12) × (judgingOf bytes lanes zs .place ≡ 0)
+refused-length bytes lanes zs taken n =
+    let e = judges-length bytes lanes taken zs n in
     (ap (λ (a : EndAnswer). a .number) e, ap (λ (a : EndAnswer). a .place) e)

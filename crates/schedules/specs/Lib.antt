@@ -1,12 +1,13 @@
 pub mod Schedules
 pub mod SchedulesLaws
 pub mod TableLaws
+pub mod Demand
 pub mod Ends
 pub mod Readable
-pub mod Demand
 pub mod DemandLaws
 pub mod Whole
 pub mod Judged
 pub mod Accounts
 pub mod Returned
+pub mod Unclosed
 pub mod NotEmpty

@@ -5,20 +5,21 @@ use Prim.Native.Nat.{ℕ}
 use native.Mathlib.Nat.{le-refl}
 use lib.ListN.{length}
 use Rattle.road.specs.Study.{tableSize}
-use Rattle.reading.specs.Reading.{readingOf, studyOf}
+use Rattle.reading.specs.Reading.{studyOf}
+use Rattle.schedules.specs.Demand.{Taken}
 use Rattle.schedules.specs.Schedules.{runningOf, listAfter, judgingOf, stepsMade}
 use Rattle.schedules.specs.Whole.{promised}
 use Rattle.schedules.specs.Accounts.{Accounts, accounts}
 
-module _ (bytes : List ℕ) (reads : readingOf bytes .number ≡ 0) where
+module _ (bytes lanes : List ℕ) (taken : Taken bytes lanes) where
   -- of the rows that running writes; where the run began, their last state is the one returned (Grounds, ownState)
-  pub run-accounts : (list : List ℕ) → Accounts (studyOf bytes) (listAfter bytes list) (stepsMade (studyOf bytes) (runningOf bytes list))
+  pub run-accounts : (list : List ℕ) → Accounts (studyOf bytes lanes) (listAfter bytes lanes list) (stepsMade (studyOf bytes lanes) (runningOf bytes lanes list))
   run-accounts list =
-      let k = stepsMade (studyOf bytes) (runningOf bytes list) in
-      accounts bytes (listAfter bytes list) reads k (promised bytes reads list .grounds .own k (le-refl k))
+      let k = stepsMade (studyOf bytes lanes) (runningOf bytes lanes list) in
+      accounts bytes lanes (listAfter bytes lanes list) taken k (promised bytes lanes taken list .grounds .own k (le-refl k))
 
   -- of a schedule of the right length, up to the state that judging returns (Grounds, judgedState)
-  pub judge-accounts : (zs : List ℕ) → length zs ≡ tableSize (studyOf bytes)
-      → Accounts (studyOf bytes) zs (stepsMade (studyOf bytes) (judgingOf bytes zs))
+  pub judge-accounts : (zs : List ℕ) → length zs ≡ tableSize (studyOf bytes lanes)
+      → Accounts (studyOf bytes lanes) zs (stepsMade (studyOf bytes lanes) (judgingOf bytes lanes zs))
   judge-accounts zs right =
-      accounts bytes zs reads (stepsMade (studyOf bytes) (judgingOf bytes zs)) (promised bytes reads zs .grounds .reached zs right)
+      accounts bytes lanes zs taken (stepsMade (studyOf bytes lanes) (judgingOf bytes lanes zs)) (promised bytes lanes taken zs .grounds .reached zs right)

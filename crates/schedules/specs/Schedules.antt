@@ -12,7 +12,7 @@ use Rattle.road.specs.declared.Ended.{Ended}
 use Rattle.road.specs.Road.{emptyRoad, emptyState}
 use Rattle.road.specs.Refusals.{refusalNumber}
 use Rattle.road.specs.Study.{Study, roadAt, places, tableSize}
-use Rattle.model.specs.Step.{Fault, releasesOf}
+use Rattle.model.specs.Step.{Fault, releasesOf, tableFault}
 use Rattle.model.specs.Verdict.{verdictOf}
 use Rattle.model.specs.Runs.{scheduleAfter, engineAfter, outflowsAt}
 use Rattle.reading.specs.Reading.{readingOf, studyOf}
@@ -71,19 +71,27 @@ runEnd a = endOf a (runSays a) (engineAfter a)
 abbrev pub judgeEnd : Study → List ℕ → EndAnswer
 judgeEnd a zs = endOf a (judgeSays a zs) (scheduledAt a zs)
 
--- running takes a record and a lent list: 1 to 6 as in reading; 11, list shorter than T × (n + 1); then 9 or 10 with its step and cell
-unfoldable pub runningOf : List ℕ → List ℕ → EndAnswer
-runningOf bytes list =
-    unless (eqb (readingOf bytes .number) 0) (noState (readingOf bytes .number) (readingOf bytes .place))
-    (unless (leb (tableSize (studyOf bytes)) (length list)) (noState 11 0)
-    (runEnd (studyOf bytes)))
+-- 17 and then 18, of the study's table of lanes
+abbrev pub lanesFault : Study → Fault
+lanesFault a = tableFault (a .lanes) (a .road .n) (a .steps)
 
--- judging takes a record and a proposed schedule: 1 to 6; 12, list not of length T × (n + 1); then, step by step, 9 or 10, and 13 or 14
-unfoldable pub judgingOf : List ℕ → List ℕ → EndAnswer
-judgingOf bytes zs =
+-- running takes a record, a table of lanes and a lent list: 1 to 6 as in reading; 17 and 18; 11, list shorter than T × (n + 1); then 9 or 10 with its
+-- step and cell
+unfoldable pub runningOf : List ℕ → List ℕ → List ℕ → EndAnswer
+runningOf bytes lanes list =
     unless (eqb (readingOf bytes .number) 0) (noState (readingOf bytes .number) (readingOf bytes .place))
-    (unless (eqb (length zs) (tableSize (studyOf bytes))) (noState 12 0)
-    (judgeEnd (studyOf bytes) zs))
+    (unless (eqb (lanesFault (studyOf bytes lanes) .number) 0) (noState (lanesFault (studyOf bytes lanes) .number) (lanesFault (studyOf bytes lanes) .place))
+    (unless (leb (tableSize (studyOf bytes lanes)) (length list)) (noState 11 0)
+    (runEnd (studyOf bytes lanes))))
+
+-- judging takes a record, a table of lanes and a proposed schedule: 1 to 6; 17 and 18; 12, list not of length T × (n + 1); then, step by step, 9 or 10,
+-- and 13 or 14
+unfoldable pub judgingOf : List ℕ → List ℕ → List ℕ → EndAnswer
+judgingOf bytes lanes zs =
+    unless (eqb (readingOf bytes .number) 0) (noState (readingOf bytes .number) (readingOf bytes .place))
+    (unless (eqb (lanesFault (studyOf bytes lanes) .number) 0) (noState (lanesFault (studyOf bytes lanes) .number) (lanesFault (studyOf bytes lanes) .place))
+    (unless (eqb (length zs) (tableSize (studyOf bytes lanes))) (noState 12 0)
+    (judgeEnd (studyOf bytes lanes) zs)))
 
 -- how many steps an answer has made: all T, or those before the refused one (none where no step is named)
 abbrev pub stepsMade : Study → EndAnswer → ℕ
@@ -103,5 +111,5 @@ abbrev pub runTable : Study → List ℕ → List ℕ
 runTable a list = tableOf a list (firstStep (runSays a) (a .steps))
 
 -- the lent list after running: the rows of the steps made are written, and nothing else
-unfoldable pub listAfter : List ℕ → List ℕ → List ℕ
-listAfter bytes list = tableOf (studyOf bytes) list (stepsMade (studyOf bytes) (runningOf bytes list))
+unfoldable pub listAfter : List ℕ → List ℕ → List ℕ → List ℕ
+listAfter bytes lanes list = tableOf (studyOf bytes lanes) list (stepsMade (studyOf bytes lanes) (runningOf bytes lanes list))

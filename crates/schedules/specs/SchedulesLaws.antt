@@ -3,6 +3,7 @@ use mathlib.Core.Path.{_≡_, refl, sym, ap, _∙_}
 use mathlib.Core.Bool.{Bool, true, false}
 use mathlib.Core.List.{List}
 use Prim.Native.Nat.{ℕ, _≤_, _<_}
+use native.Mathlib.Nat.{le-refl}
 use native.Mathlib.Omega.{arith}
 use lib.Dec.{eqb}
 use borrow.Author.Tests.{eqb-true, eqb-false, eq-eqb, ne-eqb}
@@ -93,6 +94,18 @@ module _ (a : Study) (says : ℕ → Fault) (after : ℕ → State) where
   pub end-began : ((k : ℕ) → began (says k .number) ≡ true) → began (endOf a says after .number) ≡ true
   unfolding began oneOf
   end-began h = ends (λ (e : EndAnswer). began (e .number) ≡ true) (λ q. refl) (λ l. h K)
+
+-- the same faults and states give the same end
+pub end-same : (a : Study) (says tells : ℕ → Fault) (after then : ℕ → State) → ((k : ℕ) → k < a .steps → says k ≡ tells k)
+    → ((k : ℕ) → k ≤ a .steps → after k ≡ then k) → endOf a says after ≡ endOf a tells then
+end-same a says tells after then hs ha =
+    let T = a .steps in
+    let before : (j : ℕ) → j < firstStep says T → tells j .number ≡ 0 =
+    λ j m. sym (number-of (hs j (omega (arith, step-within says T)))) ∙ step-before says T j m in
+    ends a says after (λ (e : EndAnswer). e ≡ endOf a tells then)
+    (λ q. ends-all a tells then T (after T) refl (λ j m. before j (omega (arith, q))) (ha T (le-refl T)))
+    (λ l. ends-at a tells then (firstStep says T) (says (firstStep says T)) (after (firstStep says T)) l before (hs (firstStep says T) l)
+    (step-there says T l) (ha (firstStep says T) (omega arith)))
 
 -- running and judging begin where they go step by step
 pub run-began : (a : Study) → began (runEnd a .number) ≡ true

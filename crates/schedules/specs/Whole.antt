@@ -1,4 +1,4 @@
--- Demand 3 whole: it holds of the list that running leaves and of the answer that it gives, for every record that reads without refusal.
+-- Demand 3 whole: it holds of the list that running leaves and of the answer that it gives, for every record and every table of lanes that are taken.
 -- Assumes nothing.
 use mathlib.Core.Path.{_≡_, refl, sym, ap, _∙_, subst⁻¹}
 use mathlib.Core.Bool.{Bool, true, false}
@@ -29,7 +29,7 @@ use Rattle.schedules.specs.TableLaws.{length-flows, flows-row, table-row
 use Rattle.schedules.specs.SchedulesLaws.{step-within, end-made, end-state, end-road, end-number, run-began, obeys-faults, faults-obeys}
 use Rattle.schedules.specs.Ends.{runs-short, runs-long, writes-short, writes-long, judges-length, judges-ends}
 use Rattle.schedules.specs.Readable.{readable}
-use Rattle.schedules.specs.Demand.{Ahead, Reaches, Demand, Grounds, Promised}
+use Rattle.schedules.specs.Demand.{Ahead, Reaches, Taken, Demand, Grounds, Promised}
 use Rattle.schedules.specs.DemandLaws.{own-state, own-obeys, own-greatest, own-best, own-judged, run-done, judge-done, returned-ahead}
 
 -- a state that nothing has left yet
@@ -51,12 +51,12 @@ fresh-ahead r u v a b = record {
 fresh-empty : (r : Road) → Fresh r emptyState
 fresh-empty r = record { gate = refl; cell = λ i l. zeros-at i; rampTime = refl; total = refl }
 
-module _ (bytes : List ℕ) (reads : readingOf bytes .number ≡ 0) where
+module _ (bytes lanes : List ℕ) (taken : Taken bytes lanes) where
   abbrev a : Study
-  a = studyOf bytes
+  a = studyOf bytes lanes
 
-  ok : StudyOk (studyOf bytes)
-  ok = readable bytes (readingOf bytes) refl reads .ok
+  ok : StudyOk (studyOf bytes lanes)
+  ok = readable bytes lanes (readingOf bytes) refl (taken .reads) (taken .opens) .ok
 
   abbrev K : ℕ
   K = firstStep (runSays a) (a .steps)
@@ -66,7 +66,7 @@ module _ (bytes : List ℕ) (reads : readingOf bytes .number ≡ 0) where
 
   fresh-start : Fresh (a .road) (a .start)
   fresh-start =
-      let n = read-numbers bytes (readingOf bytes) refl reads in
+      let n = read-numbers bytes (readingOf bytes) refl (taken .reads) in
       record {
         gate = n .gateCumulative;
         cell = λ i l. rw (n .cumulative) (zeros-at i);
@@ -96,39 +96,40 @@ module _ (bytes : List ℕ) (reads : readingOf bytes .number ≡ 0) where
       go false e = inr (eqb-false (length zs) (tableSize a) e)
 
   -- a schedule of the right length: reaching is what judging does, and the state returned is its own
-  module _ (zs : List ℕ) (right : length zs ≡ tableSize (studyOf bytes)) where
-    answer : judgingOf bytes zs ≡ judgeEnd a zs
-    answer = judges-ends bytes reads zs right
+  module _ (zs : List ℕ) (right : length zs ≡ tableSize (studyOf bytes lanes)) where
+    answer : judgingOf bytes lanes zs ≡ judgeEnd a zs
+    answer = judges-ends bytes lanes taken zs right
 
-    judged-made : stepsMade a (judgingOf bytes zs) ≡ J zs
+    judged-made : stepsMade a (judgingOf bytes lanes zs) ≡ J zs
     judged-made = ap (stepsMade a) answer ∙ end-made a (judgeSays a zs) (scheduledAt a zs)
 
-    judge-reaches : (k : ℕ) → Reaches a zs k → k ≤ stepsMade a (judgingOf bytes zs)
+    judge-reaches : (k : ℕ) → Reaches a zs k → k ≤ stepsMade a (judgingOf bytes lanes zs)
     judge-reaches k h = omega (arith, judged-made, obeys-faults a ok zs k (h .within) (h .obeys))
 
-    judge-reached : Reaches a zs (stepsMade a (judgingOf bytes zs))
+    judge-reached : Reaches a zs (stepsMade a (judgingOf bytes lanes zs))
     judge-reached = record {
       within = omega (arith, judged-made, step-within (judgeSays a zs) (a .steps));
       obeys = λ j l. faults-obeys a ok zs j (omega (arith, judged-made));
     }
 
-    judged-state : judgingOf bytes zs .state ≡ scheduledAt a zs (stepsMade a (judgingOf bytes zs))
+    judged-state : judgingOf bytes lanes zs .state ≡ scheduledAt a zs (stepsMade a (judgingOf bytes lanes zs))
     judged-state =
         ap (λ (e : EndAnswer). e .state) answer ∙ end-state a (judgeSays a zs) (scheduledAt a zs) ∙ ap (scheduledAt a zs) (sym judged-made)
 
-    judged-road : judgingOf bytes zs .road ≡ a .road
+    judged-road : judgingOf bytes lanes zs .road ≡ a .road
     judged-road = ap (λ (e : EndAnswer). e .road) answer ∙ end-road a (judgeSays a zs) (scheduledAt a zs)
 
   -- a state compared with the one that judging returns, by the schedule's length
-  against : (u : State) (zs : List ℕ) → u .done ≡ judgingOf bytes zs .state .done
-      → (length zs ≡ tableSize (studyOf bytes) → u .done ≡ judgeEnd (studyOf bytes) zs .state .done → Ahead (studyOf bytes .road) u (judgeEnd (studyOf bytes) zs .state))
-      → (u .done ≡ 0 → Fresh (studyOf bytes .road) u) → Ahead (studyOf bytes .road) u (judgingOf bytes zs .state)
+  against : (u : State) (zs : List ℕ) → u .done ≡ judgingOf bytes lanes zs .state .done
+      → (length zs ≡ tableSize (studyOf bytes lanes) → u .done ≡ judgeEnd (studyOf bytes lanes) zs .state .done
+      → Ahead (studyOf bytes lanes .road) u (judgeEnd (studyOf bytes lanes) zs .state))
+      → (u .done ≡ 0 → Fresh (studyOf bytes lanes .road) u) → Ahead (studyOf bytes lanes .road) u (judgingOf bytes lanes zs .state)
   against u zs h right fresh = ⊎-elim
       (λ (l : length zs ≡ tableSize a).
-      let j = judges-ends bytes reads zs l in
+      let j = judges-ends bytes lanes taken zs l in
       subst⁻¹ (λ (e : EndAnswer). Ahead (a .road) u (e .state)) j (right l (h ∙ ap (λ (e : EndAnswer). e .state .done) j)))
       (λ n.
-      let j = judges-length bytes reads zs n in
+      let j = judges-length bytes lanes taken zs n in
       subst⁻¹ (λ (e : EndAnswer). Ahead (a .road) u (e .state)) j
       (fresh-ahead (a .road) u emptyState (fresh (h ∙ ap (λ (e : EndAnswer). e .state .done) j)) (fresh-empty (a .road))))
       (sized zs)
@@ -141,7 +142,7 @@ module _ (bytes : List ℕ) (reads : readingOf bytes .number ≡ 0) where
     contrary : {P : Type 0} → began number ≡ true → P
     contrary h = absurd (let z : _≡_ {A = ℕ} 0 1 = cc in omega arith)
 
-    unbegun-demand : Demand bytes list (noState number place)
+    unbegun-demand : Demand bytes lanes list (noState number place)
     unfolding scheduleAfter
     unbegun-demand = record {
       greatest = λ k l. absurd (omega (arith, none));
@@ -153,7 +154,7 @@ module _ (bytes : List ℕ) (reads : readingOf bytes .number ≡ 0) where
           (λ _. fresh-empty (a .road));
     }
 
-    unbegun-grounds : Grounds bytes list (noState number place)
+    unbegun-grounds : Grounds bytes lanes list (noState number place)
     unbegun-grounds = record {
       own = λ k l. record { within = omega (arith, none); obeys = λ j m. absurd (omega (arith, none)) };
       ownState = contrary;
@@ -167,16 +168,16 @@ module _ (bytes : List ℕ) (reads : readingOf bytes .number ≡ 0) where
       judgedRoad = judged-road;
     }
 
-    pub unbegun : Promised bytes list (noState number place)
+    pub unbegun : Promised bytes lanes list (noState number place)
     unbegun = record { demand = unbegun-demand; grounds = unbegun-grounds }
 
   -- as of a list too short
-  short : (list : List ℕ) → Promised bytes list (noState 11 0)
+  short : (list : List ℕ) → Promised bytes lanes list (noState 11 0)
   unfolding began oneOf
   short list = unbegun list 11 0 (λ e. omega arith) refl
 
   -- a list long enough: the engine's rows of the steps before the first fault
-  module _ (list : List ℕ) (long : tableSize (studyOf bytes) ≤ length list) where
+  module _ (list : List ℕ) (long : tableSize (studyOf bytes lanes) ≤ length list) where
     abbrev out : List ℕ
     out = tableOf a list K
 
@@ -190,20 +191,20 @@ module _ (bytes : List ℕ) (reads : readingOf bytes .number ≡ 0) where
     table : K ≡ a .steps → take (tableSize a) out ≡ flowsOf a (a .steps)
     table f = ap (λ (j : ℕ). take (tableSize a) (tableOf a list j)) f ∙ table-front a ok list (a .steps)
 
-    judged : K ≡ a .steps → judgingOf bytes (take (tableSize a) out) ≡ runEnd a
+    judged : K ≡ a .steps → judgingOf bytes lanes (take (tableSize a) out) ≡ runEnd a
     judged f =
-        ap (judgingOf bytes) (table f)
-        ∙ judges-ends bytes reads (flowsOf a (a .steps)) (length-flows a ok (a .steps))
+        ap (judgingOf bytes lanes) (table f)
+        ∙ judges-ends bytes lanes taken (flowsOf a (a .steps)) (length-flows a ok (a .steps))
         ∙ own-judged a ok (flowsOf a (a .steps)) (λ j l. flows-row a ok (a .steps) j (omega (arith, f))) f
 
-    long-demand : Demand bytes out (runEnd a)
+    long-demand : Demand bytes lanes out (runEnd a)
     long-demand = record {
       greatest = λ j l. own-greatest a ok out same j (omega (arith, made));
       ahead = λ zs j l h. own-best a ok out same zs j (omega (arith, made)) (h .obeys);
       returned = λ zs e. against (runEnd a .state) zs e (λ l. returned-ahead a ok zs) run-fresh;
     }
 
-    long-grounds : Grounds bytes out (runEnd a)
+    long-grounds : Grounds bytes lanes out (runEnd a)
     long-grounds = record {
       own = λ j l. record {
         within = omega (arith, made, step-within (runSays a) (a .steps));
@@ -220,10 +221,10 @@ module _ (bytes : List ℕ) (reads : readingOf bytes .number ≡ 0) where
       judgedRoad = judged-road;
     }
 
-  pub promised : (list : List ℕ) → Promised bytes (listAfter bytes list) (runningOf bytes list)
+  pub promised : (list : List ℕ) → Promised bytes lanes (listAfter bytes lanes list) (runningOf bytes lanes list)
   promised list = ⊎-elim
       (λ (l : tableSize a ≤ length list).
-      rw (writes-long bytes reads list l, runs-long bytes reads list l) (record { demand = long-demand list l; grounds = long-grounds list l }))
+      rw (writes-long bytes lanes taken list l, runs-long bytes lanes taken list l) (record { demand = long-demand list l; grounds = long-grounds list l }))
       (λ (l : length list < tableSize a).
-      rw (writes-short bytes reads list l, runs-short bytes reads list l) (short list))
+      rw (writes-short bytes lanes taken list l, runs-short bytes lanes taken list l) (short list))
       (order (tableSize a) (length list))

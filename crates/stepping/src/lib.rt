@@ -9,9 +9,10 @@ ghost use lib.ListN.{length};
 ghost use Rattle.road.specs.Refusals.{refusalNumber};
 ghost use Rattle.model.specs.Move.{nextOf};
 ghost use Rattle.model.specs.Rules.{outflowsOf};
-ghost use Rattle.model.specs.Step.{releaseFault, releasesOf, steppingOf};
+ghost use Rattle.model.specs.Step.{releaseFault, releasesOf, stepOn, steppingOf};
 ghost use Rattle.moves.specs.Asked.{Movable, Steppable};
 ghost use Rattle.stepping.specs.Answers.{faultOf, stepAnswer};
+ghost use Rattle.stepping.specs.Looked.{Stepping};
 
 // A refusal, or none, with its place.
 pub struct Fault {
@@ -95,13 +96,11 @@ fn refused(refusal: Refusal, place: usize, s: State) -> Stepped
     }
 }
 
-// One step of a road by the numbers of a row in the record's order.
-pub fn step(r: Road, s: State, row: &[u32]) -> Stepped
-    ensures { λ a. ⌜ stepAnswer a ≡ steppingOf r s (now (row .entry)) ⌝ }
+// A step on its road, whose input is within the limits: 8, then 9 or 10.
+fn step_on(r: Road, s: State, row: &[u32]) -> Stepped
+    requires { ⌜ Stepping r s (now row) ⌝ }
+    ensures { λ a. ⌜ stepAnswer a ≡ stepOn r s (now (row .entry)) ⌝ }
 {
-    if !limits::input_within(r, s, row) {
-        return refused(Refusal::StepInput, 0, s);
-    }
     if s.done == Road::STEPS {
         return refused(Refusal::StepsDone, 0, s);
     }
@@ -119,4 +118,23 @@ pub fn step(r: Road, s: State, row: &[u32]) -> Stepped
         place: 0,
         state: t,
     }
+}
+
+// One step of a road by the numbers of a row in the record's order, with the lanes built and open of each cell.
+pub fn step(r: Road, s: State, row: &[u32], built: [u8; 64], usable: [u8; 64]) -> Stepped
+    ensures { λ a. ⌜ stepAnswer a ≡ steppingOf r s (now (row .entry)) built usable ⌝ }
+{
+    if !limits::input_within(r, s, row) {
+        return refused(Refusal::StepInput, 0, s);
+    }
+    let n = r.n;
+    let cell = lanes::first_cell(built, usable, n);
+    if cell != n {
+        return refused(Refusal::Lanes, cell + 1, s);
+    }
+    let capacity = r.capacity;
+    let left = lanes::open_capacities(capacity, &built, &usable, n);
+    let mut road = r;
+    road.capacity = left;
+    step_on(road, s, row)
 }

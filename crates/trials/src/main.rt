@@ -59,6 +59,7 @@ fn bad(out: &mut [u8], tally: Tally) -> Tally {
 // The next frame's line, or the end.
 fn next(
     record: &mut [u8],
+    table: &mut [u8],
     list: &mut [u32],
     target: &mut [u8],
     out: &mut [u8],
@@ -68,7 +69,7 @@ fn next(
     if kind == input::END {
         return ended(out, tally);
     }
-    let case = cases::shown(kind, record, list, target, out, tally.at);
+    let case = cases::shown(kind, record, table, list, target, out, tally.at);
     if !case.is_whole {
         return bad(out, tally);
     }
@@ -80,7 +81,7 @@ fn next(
 }
 
 // A proved loop has to end, so it counts its turns down, from a number that no run uses up.
-fn all(record: &mut [u8], list: &mut [u32], target: &mut [u8], out: &mut [u8]) {
+fn all(record: &mut [u8], table: &mut [u8], list: &mut [u32], target: &mut [u8], out: &mut [u8]) {
     let mut tally = Tally {
         at: 0,
         cases: 0,
@@ -88,16 +89,17 @@ fn all(record: &mut [u8], list: &mut [u32], target: &mut [u8], out: &mut [u8]) {
     };
     let mut turns = u64::MAX;
     while turns > 0 && tally.is_open {
-        tally = next(record, list, target, out, tally);
+        tally = next(record, table, list, target, out, tally);
         turns -= 1;
     }
 }
 
-// Room for the longest record or list of a frame in bytes, the longest list, target and lines.
+// Room for the longest record or list of a frame in bytes, the longest table of lanes, list, target and lines.
 fn main() {
     let mut record = [0u8; 66048];
+    let mut table = [0u8; 9000];
     let mut list = [0u32; 16512];
     let mut target = [0u8; 65600];
     let mut out = [0u8; 65536];
-    all(&mut record, &mut list, &mut target, &mut out);
+    all(&mut record, &mut table, &mut list, &mut target, &mut out);
 }

@@ -68,18 +68,18 @@ module _ (road : Road) (T : ℕ) (start : Start) (rows target : List ℕ) where
   unfolding writingOf
   unsaved h = (target-refused road T start rows target h, refused-count (given road T start rows) (length rows) (length target) h)
 
-  -- so running and judging a written record is running and judging what was given: their study has its road, start, T and rows
-  pub saved-road : Saved → studyOf (savedOf road T start rows target) .road ≡ cutRoad road
-  saved-road k = rw (k .reads)
+  -- so running and judging a written record, under any table of lanes, is running and judging what was given: their study has its road, start, T and rows
+  pub saved-road : Saved → (lanes : List ℕ) → studyOf (savedOf road T start rows target) lanes .road ≡ cutRoad road
+  saved-road k lanes = rw (k .reads)
 
-  pub saved-start : Saved → studyOf (savedOf road T start rows target) .start ≡ cutState (road .n) (startState start)
-  saved-start k = rw (k .reads)
+  pub saved-start : Saved → (lanes : List ℕ) → studyOf (savedOf road T start rows target) lanes .start ≡ cutState (road .n) (startState start)
+  saved-start k lanes = rw (k .reads)
 
-  pub saved-steps : Saved → studyOf (savedOf road T start rows target) .steps ≡ T
-  saved-steps k = rw (k .reads)
+  pub saved-steps : Saved → (lanes : List ℕ) → studyOf (savedOf road T start rows target) lanes .steps ≡ T
+  saved-steps k lanes = rw (k .reads)
 
-  pub saved-rows : Saved → (t : ℕ) → t < T → studyOf (savedOf road T start rows target) .rows t ≡ rowAt rows (rowNumbers (road .n)) t
-  saved-rows k t l = rw (k .reads) (k .row t l)
+  pub saved-rows : Saved → (lanes : List ℕ) (t : ℕ) → t < T → studyOf (savedOf road T start rows target) lanes .rows t ≡ rowAt rows (rowNumbers (road .n)) t
+  saved-rows k lanes t l = rw (k .reads) (k .row t l)
 
 -- a state before step 0 is that of its start
 start-state : (q : State) → q .done ≡ 0 → q .«gate_time» ≡ 0 → q .«road_time» ≡ 0 → q .«ramp_time» ≡ 0 → q .«gate_cumulative» ≡ 0 → q .cumulative ≡ zeros

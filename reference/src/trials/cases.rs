@@ -1,10 +1,11 @@
 //! The cases in their order, as the groups add them.
 
 use super::frame::{
-    Case, FillInput, LeafInput, StepInput, WriteInput, MAX_LIST, MAX_RECORD, MAX_ROW, MAX_ROWS,
-    MAX_TARGET,
+    Case, FillInput, LeafInput, StepInput, WriteInput, MAX_LANES, MAX_LIST, MAX_RECORD, MAX_ROW,
+    MAX_ROWS, MAX_TARGET,
 };
 use crate::draft::Draft;
+use crate::model::Road;
 use crate::run;
 
 #[derive(Default)]
@@ -19,16 +20,32 @@ impl Cases {
         self.list.push(Case::Read { record });
     }
 
+    /// With all lanes open.
     pub fn run(&mut self, length: usize, record: &[u8]) {
-        assert!(record.len() <= MAX_RECORD && length <= MAX_LIST);
-        let record = record.to_vec();
-        self.list.push(Case::Run { length, record });
+        self.run_under(length, &[], record);
     }
 
+    pub fn run_under(&mut self, length: usize, lanes: &[u8], record: &[u8]) {
+        assert!(record.len() <= MAX_RECORD && length <= MAX_LIST);
+        assert!(lanes.len() <= MAX_LANES);
+        self.list.push(Case::Run {
+            length,
+            lanes: lanes.to_vec(),
+            record: record.to_vec(),
+        });
+    }
+
+    /// With all lanes open.
     pub fn judge(&mut self, schedule: &[u32], record: &[u8]) {
+        self.judge_under(schedule, &[], record);
+    }
+
+    pub fn judge_under(&mut self, schedule: &[u32], lanes: &[u8], record: &[u8]) {
         assert!(record.len() <= MAX_RECORD && schedule.len() <= MAX_LIST);
+        assert!(lanes.len() <= MAX_LANES);
         self.list.push(Case::Judge {
             schedule: schedule.to_vec(),
+            lanes: lanes.to_vec(),
             record: record.to_vec(),
         });
     }
@@ -51,6 +68,7 @@ impl Cases {
 
     pub fn fill(&mut self, input: &FillInput) {
         assert!(input.record.len() <= MAX_RECORD && input.length <= MAX_LIST);
+        assert!(input.lanes.len() <= MAX_LANES);
         self.list.push(Case::Fill(Box::new(input.clone())));
     }
 
@@ -58,12 +76,21 @@ impl Cases {
         self.list.push(Case::Leaf(input));
     }
 
+    pub fn capacity(&mut self, capacity: u32, built: u8, open: u8) {
+        assert!(capacity <= Road::MAX_RATE);
+        self.list.push(Case::Capacity {
+            capacity,
+            built,
+            open,
+        });
+    }
+
     /// These bytes read, run with a list of this length, and judged with a
     /// schedule of that length: the run's own rows, then zeros.
     pub fn all_ways(&mut self, length: usize, record: &[u8]) {
         self.read(record);
         self.run(length, record);
-        self.judge(&own_rows(length, record), record);
+        self.judge(&own_rows(length, &[], record), record);
     }
 
     /// As `all_ways`, with the length that the draft's lists ask for.
@@ -78,8 +105,8 @@ pub fn table_length(draft: &Draft) -> usize {
 }
 
 /// The rows that running writes into a list of zeros.
-pub fn own_rows(length: usize, record: &[u8]) -> Vec<u32> {
+pub fn own_rows(length: usize, lanes: &[u8], record: &[u8]) -> Vec<u32> {
     let mut list = vec![0; length];
-    run::run(record, &mut list);
+    run::run(record, lanes, &mut list);
     list
 }

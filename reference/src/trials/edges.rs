@@ -4,7 +4,6 @@ use super::cases::Cases;
 use super::frame::StepInput;
 use super::samples::{self, PRINTED_ROWS};
 use crate::draft::Draft;
-use crate::step;
 
 pub fn add(cases: &mut Cases) {
     printed_run(cases);
@@ -52,7 +51,7 @@ fn printed_steps(cases: &mut Cases) {
             cases.step(&input);
         }
         input.row[4] = 300;
-        input.state = step::step(input.road, input.state, &input.row).state;
+        input.state = samples::stepped(&input);
     }
 }
 

@@ -10,13 +10,16 @@
 //!      u32 B, B bytes of a record
 //! 'U'  running
 //!      u32 L, the lent list's length
+//!      u32 Y, Y bytes of a table of lanes
 //!      u32 B, B bytes of a record
 //! 'J'  judging
 //!      u32 Z, Z u32 of a schedule
+//!      u32 Y, Y bytes of a table of lanes
 //!      u32 B, B bytes of a record
 //! 'S'  stepping
 //!      a road (1,032 bytes), a state (804 bytes)
 //!      u32 K, K u32 of a row
+//!      64 bytes of lanes built, 64 bytes of lanes open
 //! 'W'  writing
 //!      a road (1,032 bytes)
 //!      u32 T, the number of steps
@@ -29,10 +32,13 @@
 //! 'F'  filling
 //!      64 laws (1,792 bytes)
 //!      u32 L, the lent list's length
+//!      u32 Y, Y bytes of a table of lanes
 //!      u32 B, B bytes of a record
 //! 'L'  leaves of a meter
 //!      a law (28 bytes)
 //!      u32 last release, u32 entered, u32 held, u32 cap
+//! 'C'  the capacity that open lanes leave
+//!      u32 C, at most 1,000,000, u8 lanes built, u8 lanes open
 //!
 //! road   u32 n, u32 gate capacity, 64 x (u16 v, w, b, ramp mark), 64 x (u32 J, C)
 //! state  u32 steps, u64 gate time, u64 road time, u64 ramp time,
@@ -46,19 +52,22 @@
 //! target, -; 2 demand-capacity with capacity, critical, least. Any other kind
 //! is read as 0. A number marked - is not looked at, whatever its bits.
 //!
-//! Counts are within these limits: B at most 65,540; L of 'U' and 'F' and Z at
-//! most 9,000; K of 'S' at most 200; K of 'W' at most 16,512; L of 'W' at most
-//! 65,600. No frame has more than 101,549 bytes. `report` says what each frame
-//! must print.
+//! Counts are within these limits: B at most 65,540; L of 'U' and 'F', Y and Z
+//! at most 9,000; K of 'S' at most 200; K of 'W' at most 16,512; L of 'W' at
+//! most 65,600. No frame has more than 110,553 bytes. `report` says what each
+//! frame must print.
 
 use crate::fill::Laws;
 use crate::meter::Law;
 use crate::model::{Road, Start, State};
+use crate::step::Lanes;
 
 /// Most bytes of a record in a frame.
 pub const MAX_RECORD: usize = 65_540;
 /// Greatest length of a lent list or a schedule.
 pub const MAX_LIST: usize = 9_000;
+/// Most bytes of a table of lanes.
+pub const MAX_LANES: usize = 9_000;
 /// Most numbers of a row.
 pub const MAX_ROW: usize = 200;
 /// Most numbers of all rows to be written.
@@ -69,14 +78,33 @@ pub const MAX_TARGET: usize = 65_600;
 /// One case.
 #[derive(Clone, Debug, PartialEq, Eq)]
 pub enum Case {
-    Read { record: Vec<u8> },
-    Run { length: usize, record: Vec<u8> },
-    Judge { schedule: Vec<u32>, record: Vec<u8> },
+    Read {
+        record: Vec<u8>,
+    },
+    Run {
+        length: usize,
+        lanes: Vec<u8>,
+        record: Vec<u8>,
+    },
+    Judge {
+        schedule: Vec<u32>,
+        lanes: Vec<u8>,
+        record: Vec<u8>,
+    },
     Step(Box<StepInput>),
     Write(Box<WriteInput>),
-    Row { n: u32, t: u32, bytes: Vec<u8> },
+    Row {
+        n: u32,
+        t: u32,
+        bytes: Vec<u8>,
+    },
     Fill(Box<FillInput>),
     Leaf(LeafInput),
+    Capacity {
+        capacity: u32,
+        built: u8,
+        open: u8,
+    },
 }
 
 /// What stepping takes.
@@ -85,6 +113,8 @@ pub struct StepInput {
     pub road: Road,
     pub state: State,
     pub row: Vec<u32>,
+    pub built: Lanes,
+    pub open: Lanes,
 }
 
 /// What writing takes; the target is lent with `length` bytes.
@@ -109,6 +139,7 @@ pub struct LawInput {
 pub struct FillInput {
     pub laws: [LawInput; Road::MAX_CELLS],
     pub length: usize,
+    pub lanes: Vec<u8>,
     pub record: Vec<u8>,
 }
 
@@ -172,14 +203,24 @@ impl Case {
                 out.push(b'R');
                 put_bytes(out, record);
             }
-            Case::Run { length, record } => {
+            Case::Run {
+                length,
+                lanes,
+                record,
+            } => {
                 out.push(b'U');
                 put(out, *length as u32);
+                put_bytes(out, lanes);
                 put_bytes(out, record);
             }
-            Case::Judge { schedule, record } => {
+            Case::Judge {
+                schedule,
+                lanes,
+                record,
+            } => {
                 out.push(b'J');
                 put_numbers(out, schedule);
+                put_bytes(out, lanes);
                 put_bytes(out, record);
             }
             Case::Step(input) => {
@@ -187,6 +228,8 @@ impl Case {
                 put_road(out, &input.road);
                 put_state(out, &input.state);
                 put_numbers(out, &input.row);
+                out.extend(input.built);
+                out.extend(input.open);
             }
             Case::Write(input) => {
                 out.push(b'W');
@@ -206,6 +249,7 @@ impl Case {
                 out.push(b'F');
                 input.laws.iter().for_each(|law| put_law(out, law));
                 put(out, input.length as u32);
+                put_bytes(out, &input.lanes);
                 put_bytes(out, &input.record);
             }
             Case::Leaf(input) => {
@@ -214,6 +258,15 @@ impl Case {
                 for number in [input.last, input.entered, input.held, input.cap] {
                     put(out, number);
                 }
+            }
+            Case::Capacity {
+                capacity,
+                built,
+                open,
+            } => {
+                out.push(b'C');
+                put(out, *capacity);
+                out.extend([*built, *open]);
             }
         }
     }
@@ -306,16 +359,20 @@ impl<'a> Reader<'a> {
             }),
             b'U' => Ok(Case::Run {
                 length: self.count("the list's length", MAX_LIST)?,
+                lanes: self.lanes()?,
                 record: self.record()?,
             }),
             b'J' => Ok(Case::Judge {
                 schedule: self.numbers("the schedule", MAX_LIST)?,
+                lanes: self.lanes()?,
                 record: self.record()?,
             }),
             b'S' => Ok(Case::Step(Box::new(StepInput {
                 road: self.road()?,
                 state: self.state()?,
                 row: self.numbers("the row", MAX_ROW)?,
+                built: self.step_lanes()?,
+                open: self.step_lanes()?,
             }))),
             b'W' => Ok(Case::Write(Box::new(WriteInput {
                 road: self.road()?,
@@ -332,6 +389,7 @@ impl<'a> Reader<'a> {
             b'F' => Ok(Case::Fill(Box::new(FillInput {
                 laws: self.laws()?,
                 length: self.count("the list's length", MAX_LIST)?,
+                lanes: self.lanes()?,
                 record: self.record()?,
             }))),
             b'L' => Ok(Case::Leaf(LeafInput {
@@ -341,6 +399,11 @@ impl<'a> Reader<'a> {
                 held: self.u32("the held count")?,
                 cap: self.u32("the cap")?,
             })),
+            b'C' => Ok(Case::Capacity {
+                capacity: self.u32("the capacity")?,
+                built: self.take(1, "the lanes")?[0],
+                open: self.take(1, "the lanes")?[0],
+            }),
             kind => Err(format!("{kind} is not a kind of frame")),
         }
     }
@@ -385,6 +448,16 @@ impl<'a> Reader<'a> {
     fn record(&mut self) -> Result<Vec<u8>, String> {
         let count = self.count("the record", MAX_RECORD)?;
         Ok(self.take(count, "the record")?.to_vec())
+    }
+
+    fn lanes(&mut self) -> Result<Vec<u8>, String> {
+        let count = self.count("the lanes", MAX_LANES)?;
+        Ok(self.take(count, "the lanes")?.to_vec())
+    }
+
+    fn step_lanes(&mut self) -> Result<Lanes, String> {
+        let bytes = self.take(Road::MAX_CELLS, "the lanes")?;
+        Ok(bytes.try_into().expect("64 bytes"))
     }
 
     fn numbers(&mut self, what: &str, most: usize) -> Result<Vec<u32>, String> {

@@ -28,7 +28,7 @@ pub fn add(cases: &mut Cases, trials: &[Trial]) {
 
 /// One of twelve kinds of schedule, in turn. The trial's own schedule mostly
 /// holds traffic back.
-fn schedule(k: usize, trial: &Trial, dice: &mut Dice) -> Vec<u32> {
+pub fn schedule(k: usize, trial: &Trial, dice: &mut Dice) -> Vec<u32> {
     let held_back = || trial.schedule.clone();
     match k % 12 {
         0 => own(trial),
@@ -46,12 +46,12 @@ fn schedule(k: usize, trial: &Trial, dice: &mut Dice) -> Vec<u32> {
 
 /// The run's own rows.
 fn own(trial: &Trial) -> Vec<u32> {
-    own_rows(trial.table(), &trial.record)
+    own_rows(trial.table(), &trial.lanes, &trial.record)
 }
 
 /// One above the demand, at a random step and place that the schedule reaches.
 fn above_demand(trial: &Trial, mut schedule: Vec<u32>, dice: &mut Dice) -> Vec<u32> {
-    let walk = Walk::new(&trial.record, &schedule);
+    let walk = Walk::new(&trial.record, &trial.lanes, &schedule);
     if walk.steps() > 0 {
         let t = dice.upto(walk.steps() as u64 - 1) as usize;
         let place = dice.upto(trial.n as u64) as usize;
@@ -63,7 +63,7 @@ fn above_demand(trial: &Trial, mut schedule: Vec<u32>, dice: &mut Dice) -> Vec<u
 /// One too many let in, at a random step and place of those that supply holds.
 /// Without any, the schedule stays as it is.
 fn too_much(trial: &Trial, mut schedule: Vec<u32>, dice: &mut Dice) -> Vec<u32> {
-    let walk = Walk::new(&trial.record, &schedule);
+    let walk = Walk::new(&trial.record, &trial.lanes, &schedule);
     let mut choices = Vec::new();
     for t in 0..walk.steps() {
         for (place, greatest) in walk.greatest(t).into_iter().enumerate() {

@@ -7,6 +7,7 @@ use super::dice::Dice;
 use super::frame::{FillInput, LawInput};
 use super::samples;
 use crate::draft::{CellDraft, Draft};
+use crate::lanes_text;
 use crate::laws;
 use crate::model::Road;
 use crate::record;
@@ -23,6 +24,8 @@ const ROCADE_SUD_LAWS: [&str; 4] = [
     include_str!("../../../examples/rocade-sud-alinea.laws.txt"),
     include_str!("../../../examples/rocade-sud-demand-capacity.laws.txt"),
 ];
+
+const ROCADE_SUD_WORKS: &str = include_str!("../../../examples/rocade-sud-works.lanes.txt");
 
 type Laws = [LawInput; Road::MAX_CELLS];
 
@@ -63,6 +66,7 @@ fn input(draft: &Draft, laws: Laws) -> FillInput {
     FillInput {
         laws,
         length: table_length(draft),
+        lanes: vec![],
         record: draft.encode(),
     }
 }
@@ -114,6 +118,7 @@ fn frames(cases: &mut Cases) {
     cases.fill(&FillInput {
         laws: three_laws(),
         length: 12,
+        lanes: vec![],
         record: vec![],
     });
     changed(
@@ -274,10 +279,10 @@ fn caps(cases: &mut Cases) {
 }
 
 /// A law for a cell.
-type MakeLaw = fn(&CellDraft, &mut Dice) -> LawInput;
+pub type MakeLaw = fn(&CellDraft, &mut Dice) -> LawInput;
 
 /// A random road with some ramp, releases of any size, and laws.
-fn random(k: usize, make_law: MakeLaw, dice: &mut Dice) -> FillInput {
+pub fn random(k: usize, make_law: MakeLaw, dice: &mut Dice) -> FillInput {
     let style = STYLES[k % STYLES.len()];
     let n = match dice.upto(11) {
         0 => 1,
@@ -336,7 +341,7 @@ fn sevenths(most: u32, dice: &mut Dice) -> f64 {
 }
 
 /// A law whose numbers are those of its cell.
-fn common_law(cell: &CellDraft, dice: &mut Dice) -> LawInput {
+pub fn common_law(cell: &CellDraft, dice: &mut Dice) -> LawInput {
     match dice.upto(4) {
         0 => fixed(sevenths(cell.capacity, dice)),
         1 | 2 => {
@@ -404,11 +409,24 @@ fn wide(cases: &mut Cases, dice: &mut Dice) {
 /// The example road by the laws of its page.
 fn rocade_sud(cases: &mut Cases) {
     for text in ROCADE_SUD_LAWS {
-        let laws = laws::laws_of(text).expect("the example's laws");
-        cases.fill(&FillInput {
-            laws: laws.map(LawInput::from),
-            length: 378 * 22,
-            record: ROCADE_SUD.to_vec(),
-        });
+        cases.fill(&rocade_sud_by(text, vec![]));
+    }
+}
+
+/// The example road with the lanes closed that its page closes: run, and filled
+/// by ALINEA.
+pub fn works(cases: &mut Cases) {
+    let lanes = lanes_text::table_of(ROCADE_SUD_WORKS).expect("the example's lanes");
+    cases.run_under(378 * 22, &lanes, ROCADE_SUD);
+    cases.fill(&rocade_sud_by(ROCADE_SUD_LAWS[2], lanes));
+}
+
+fn rocade_sud_by(laws: &str, lanes: Vec<u8>) -> FillInput {
+    let laws = laws::laws_of(laws).expect("the example's laws");
+    FillInput {
+        laws: laws.map(LawInput::from),
+        length: 378 * 22,
+        lanes,
+        record: ROCADE_SUD.to_vec(),
     }
 }

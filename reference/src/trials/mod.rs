@@ -10,6 +10,8 @@ pub mod frame;
 pub mod report;
 
 mod cells;
+mod closed_steps;
+mod closures;
 mod edges;
 mod judged;
 mod leaves;
@@ -44,6 +46,9 @@ pub fn all_cases() -> Vec<Case> {
     // Group 7: meter laws, alone and filling records.
     leaves::add(&mut cases);
     meters::add(&mut cases);
+    // Group 8: lanes closed, refusals 17 and 18.
+    closed_steps::add(&mut cases);
+    closures::add(&mut cases);
     cases.list
 }
 

@@ -13,6 +13,7 @@
 //! 'N'  row digest D
 //! 'F'  fill NUMBER STEP PLACE total T SUMS list D record D
 //! 'L'  wish BITS release RELEASE
+//! 'C'  capacity CAPACITY
 //!
 //! SUMS   gate G road R ramp W exits E present P digest D
 //! AGAIN  NUMBER PLACE COUNT target D
@@ -30,6 +31,8 @@
 //! Filling's list is lent as running's, and its record is digested as filling
 //! leaves it. BITS is the wish's 64 bits as one number, 9221120237041090560 for
 //! every wish that isn't a number; RELEASE is its release under the cap.
+//!
+//! CAPACITY is what the open lanes leave of C, 0 where no lane is built.
 //!
 //! AGAIN: the record is read; its rows are taken step by step, for each t below
 //! the T that reading gives the first 1 + 2n numbers of its row; the road, T,
@@ -52,6 +55,7 @@ use super::walk::Walk;
 use crate::answer::Answer;
 use crate::fill;
 use crate::judge;
+use crate::lanes;
 use crate::meter;
 use crate::model::{self, Road, State};
 use crate::record;
@@ -70,15 +74,32 @@ pub struct Line {
 pub fn line(case: &Case) -> Line {
     let text = match case {
         Case::Read { record } => read_line(record),
-        Case::Run { length, record } => return run_line(*length, record),
-        Case::Judge { schedule, record } => {
-            format!("judge {}", answer_words(&judge::judge(record, schedule)))
+        Case::Run {
+            length,
+            lanes,
+            record,
+        } => return run_line(*length, lanes, record),
+        Case::Judge {
+            schedule,
+            lanes,
+            record,
+        } => {
+            let answer = judge::judge(record, lanes, schedule);
+            format!("judge {}", answer_words(&answer))
         }
         Case::Step(input) => step_line(input),
         Case::Write(input) => write_line(input),
         Case::Row { n, t, bytes } => row_line(*n as usize, *t as usize, bytes),
         Case::Fill(input) => fill_line(input),
         Case::Leaf(input) => leaf_line(input),
+        Case::Capacity {
+            capacity,
+            built,
+            open,
+        } => format!(
+            "capacity {}",
+            lanes::open_capacity(*capacity, *built, *open)
+        ),
     };
     Line {
         text,
@@ -98,20 +119,23 @@ fn read_line(record: &[u8]) -> String {
 }
 
 fn step_line(input: &StepInput) -> String {
-    let stepped = step::step(input.road, input.state, &input.row);
-    format!(
-        "step {} {} {}",
-        stepped.number,
-        stepped.place,
-        sums(&input.road, &stepped.state)
-    )
+    let StepInput {
+        road,
+        state,
+        row,
+        built,
+        open,
+    } = input;
+    let stepped = step::step(*road, *state, row, built, open);
+    let sums = sums(road, &stepped.state);
+    format!("step {} {} {sums}", stepped.number, stepped.place)
 }
 
-fn run_line(length: usize, record: &[u8]) -> Line {
+fn run_line(length: usize, lanes: &[u8], record: &[u8]) -> Line {
     let mut list = lent(length);
-    let answer = run::run(record, &mut list);
+    let answer = run::run(record, lanes, &mut list);
     let counts = match answer.number {
-        0 => counts(record, &list),
+        0 => counts(record, lanes, &list),
         _ => Counts::default(),
     };
     let words = answer_words(&answer);
@@ -143,7 +167,7 @@ fn row_line(n: usize, t: usize, bytes: &[u8]) -> String {
 fn fill_line(input: &FillInput) -> String {
     let mut record = input.record.clone();
     let mut list = lent(input.length);
-    let answer = fill::fill(&mut record, &input.laws(), &mut list);
+    let answer = fill::fill(&mut record, &input.laws(), &input.lanes, &mut list);
     let words = answer_words(&answer);
     let (list, record) = (digest::of_list(&list), digest::of_bytes(&record));
     format!("fill {words} list {list} record {record}")
@@ -242,8 +266,8 @@ struct Counts {
     held: usize,
 }
 
-fn counts(record: &[u8], list: &[u32]) -> Counts {
-    let walk = Walk::new(record, list);
+fn counts(record: &[u8], lanes: &[u8], list: &[u32]) -> Counts {
+    let walk = Walk::new(record, lanes, list);
     let road = &walk.road;
     let mut counts = Counts {
         ramps: road.ramp[..road.n].iter().filter(|&&m| m == 1).count(),

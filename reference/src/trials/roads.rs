@@ -43,6 +43,7 @@ fn complete_roads(dice: &mut Dice) -> Vec<Trial> {
         let trial = random_road(n, STYLES[n % STYLES.len()], dice);
         let case = Case::Run {
             length: trial.table(),
+            lanes: vec![],
             record: trial.record.clone(),
         };
         if report::line(&case).complete {
@@ -75,12 +76,13 @@ fn random_road(n: usize, style: Style, dice: &mut Dice) -> Trial {
         steps,
         hold: random_hold(steps, dice),
         fault: dice.one_in(8).then(|| random_step(steps, dice)),
+        lanes: vec![],
     };
     trial::make(style.road(n, dice), &plan, dice)
 }
 
 /// A step, not the first if there are more.
-fn random_step(steps: usize, dice: &mut Dice) -> usize {
+pub fn random_step(steps: usize, dice: &mut Dice) -> usize {
     let last = steps as u32 - 1;
     dice.between(last.min(1), last) as usize
 }
@@ -102,7 +104,7 @@ fn most_steps(n: usize) -> usize {
     (left / row_bytes(n)).min(Road::MAX_STEPS)
 }
 
-fn random_hold(steps: usize, dice: &mut Dice) -> Hold {
+pub fn random_hold(steps: usize, dice: &mut Dice) -> Hold {
     match dice.upto(7) {
         0 | 1 => Hold::Nothing,
         2 | 3 => Hold::Scaled(dice.upto(999)),
@@ -153,6 +155,7 @@ fn largest_roads(dice: &mut Dice) -> Vec<Trial> {
                 steps: most_steps(draft.cells.len()),
                 hold: Hold::Scaled(950),
                 fault: None,
+                lanes: vec![],
             };
             trial::make(draft, &plan, dice)
         })

@@ -1,7 +1,9 @@
 //! Records that the groups vary.
 
 use crate::draft::{CellDraft, Draft};
+use crate::model::{Road, State};
 use crate::record;
+use crate::step;
 
 use super::frame::StepInput;
 
@@ -91,7 +93,7 @@ pub fn even(n: usize, steps: usize) -> Draft {
     Draft::new((1_500, 2_000), cells, vec![row; steps])
 }
 
-/// The first step of a sound draft.
+/// The first step of a sound draft, with one lane a cell, open.
 pub fn first_step(draft: &Draft) -> StepInput {
     let reading = record::read(&draft.encode());
     assert_eq!(reading.number, 0);
@@ -99,5 +101,19 @@ pub fn first_step(draft: &Draft) -> StepInput {
         road: reading.road,
         state: reading.state,
         row: draft.rows[0].clone(),
+        built: [1; Road::MAX_CELLS],
+        open: [1; Road::MAX_CELLS],
     }
+}
+
+/// The state after a step.
+pub fn stepped(input: &StepInput) -> State {
+    let StepInput {
+        road,
+        state,
+        row,
+        built,
+        open,
+    } = input;
+    step::step(*road, *state, row, built, open).state
 }

@@ -30,7 +30,7 @@ pub fn add(cases: &mut Cases) {
 
 /// Three cells, the first and the last with ramps, after one step. The
 /// entries past cell 3 are garbage.
-fn sound(dice: &mut Dice) -> StepInput {
+pub fn sound(dice: &mut Dice) -> StepInput {
     let mut input = samples::first_step(&samples::three_cells());
     input.state.steps = 1;
     input.state.gate_time = 4_000;
@@ -43,13 +43,14 @@ fn sound(dice: &mut Dice) -> StepInput {
 }
 
 /// Anything at all in the entries past cell n.
-fn fill_past_n(input: &mut StepInput, dice: &mut Dice) {
+pub fn fill_past_n(input: &mut StepInput, dice: &mut Dice) {
     fill_road_past_n(&mut input.road, dice);
     let state = &mut input.state;
     for i in input.road.n..Road::MAX_CELLS {
         state.held[i] = dice.bits() as u32;
         state.queue[i] = dice.bits() as u32;
         state.f[i] = dice.bits() as u32;
+        (input.built[i], input.open[i]) = (state.held[i] as u8, state.queue[i] as u8);
     }
 }
 
@@ -334,7 +335,7 @@ fn releases(cases: &mut Cases, dice: &mut Dice) {
 }
 
 /// A valid state of a random road. Most releases fit.
-fn random_step(style: Style, dice: &mut Dice) -> StepInput {
+pub fn random_step(style: Style, dice: &mut Dice) -> StepInput {
     let n = match dice.upto(5) {
         0 => 64,
         1 => 1,
@@ -351,7 +352,14 @@ fn random_step(style: Style, dice: &mut Dice) -> StepInput {
     if dice.one_in(6) {
         trial::spoil_some(&road, &state, &mut row, dice);
     }
-    let mut input = StepInput { road, state, row };
+    let lanes = [dice.between(1, 255) as u8; Road::MAX_CELLS];
+    let mut input = StepInput {
+        road,
+        state,
+        row,
+        built: lanes,
+        open: lanes,
+    };
     fill_past_n(&mut input, dice);
     input
 }

@@ -77,6 +77,7 @@ fn made(draft: Draft, style: Style, steps: usize, dice: &mut Dice) -> Trial {
         steps,
         hold: Hold::Scaled(900),
         fault: None,
+        lanes: vec![],
     };
     trial::make(draft, &plan, dice)
 }

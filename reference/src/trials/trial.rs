@@ -3,6 +3,7 @@
 use super::cells::Style;
 use super::dice::Dice;
 use crate::draft::Draft;
+use crate::lanes;
 use crate::model::{self, Road, State};
 use crate::record;
 use crate::run;
@@ -11,6 +12,8 @@ use crate::step;
 /// A record and a schedule.
 pub struct Trial {
     pub record: Vec<u8>,
+    /// The table of lanes, empty where all are open.
+    pub lanes: Vec<u8>,
     pub n: usize,
     pub steps: usize,
     /// Obeys the rules in its own states, up to a refused release if there is
@@ -40,12 +43,15 @@ pub struct Plan {
     pub hold: Hold,
     /// A step in which some release is one too great, if a ramp allows it.
     pub fault: Option<usize>,
+    /// The table of lanes that the rows are made for.
+    pub lanes: Vec<u8>,
 }
 
 impl Trial {
-    fn new(draft: &Draft, schedule: Vec<u32>) -> Trial {
+    fn new(draft: &Draft, lanes: Vec<u8>, schedule: Vec<u32>) -> Trial {
         Trial {
             record: draft.encode(),
+            lanes,
             n: draft.cells.len(),
             steps: draft.rows.len(),
             schedule,
@@ -90,6 +96,7 @@ pub fn make(mut draft: Draft, plan: &Plan, dice: &mut Dice) -> Trial {
     let mut schedule = Vec::new();
     let mut refused = false;
     for t in 0..plan.steps {
+        let road = lanes::road_at(&road, &plan.lanes, t);
         let mut row = fitting_row(plan.style, &road, [&fast, &slow], dice);
         if plan.fault == Some(t) {
             spoil_some(&road, &fast, &mut row, dice);
@@ -108,7 +115,7 @@ pub fn make(mut draft: Draft, plan: &Plan, dice: &mut Dice) -> Trial {
         draft.rows.push(row);
     }
     draft.steps = plan.steps as u16;
-    Trial::new(&draft, schedule)
+    Trial::new(&draft, plan.lanes.clone(), schedule)
 }
 
 /// The same row in every step. Its releases are halved until the run is whole.
@@ -119,8 +126,8 @@ pub fn make_constant(mut draft: Draft, style: Style, steps: usize, dice: &mut Di
     let mut list = vec![0; steps * (road.n + 1)];
     loop {
         draft.rows = vec![row.clone(); steps];
-        if run::run(&draft.encode(), &mut list).number == 0 {
-            return Trial::new(&draft, list);
+        if run::run(&draft.encode(), &[], &mut list).number == 0 {
+            return Trial::new(&draft, vec![], list);
         }
         for cell in 1..=road.n {
             row[2 * cell] /= 2;

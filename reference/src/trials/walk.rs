@@ -1,6 +1,7 @@
 //! The states that a schedule produces, step by step.
 
 use crate::judge;
+use crate::lanes;
 use crate::model::{self, Road, State};
 use crate::record;
 use crate::step;
@@ -8,6 +9,8 @@ use crate::step;
 /// The steps that a schedule reaches on a record that reading accepts.
 pub struct Walk {
     pub road: Road,
+    /// The roads of the steps reached, as their lanes leave them.
+    roads: Vec<Road>,
     /// The rows of the steps reached.
     pub rows: Vec<Vec<u32>>,
     /// The states before them.
@@ -16,14 +19,15 @@ pub struct Walk {
 
 impl Walk {
     /// `schedule` holds at least the whole table.
-    pub fn new(record: &[u8], schedule: &[u32]) -> Walk {
+    pub fn new(record: &[u8], lanes: &[u8], schedule: &[u32]) -> Walk {
         let reading = record::read(record);
         let road = reading.road;
         let width = road.n + 1;
         let table = &schedule[..reading.steps * width];
-        let answer = judge::judge(record, table);
+        let answer = judge::judge(record, lanes, table);
         let mut walk = Walk {
             road,
+            roads: Vec::new(),
             rows: Vec::new(),
             states: Vec::new(),
         };
@@ -31,6 +35,7 @@ impl Walk {
         for (t, outflows) in table.chunks(width).take(answer.state.steps).enumerate() {
             let row = record::row(record, road.n, t);
             walk.states.push(state);
+            walk.roads.push(lanes::road_at(&road, lanes, t));
             state = step::advance(&road, &state, &row, outflows);
             walk.rows.push(row);
         }
@@ -48,11 +53,11 @@ impl Walk {
     }
 
     pub fn demand(&self, t: usize, place: usize) -> u64 {
-        model::demand(&self.road, &self.states[t], place)
+        model::demand(&self.roads[t], &self.states[t], place)
     }
 
     /// The greatest outflow of every place in a step.
     pub fn greatest(&self, t: usize) -> Vec<u32> {
-        step::greatest_outflows(&self.road, &self.states[t], &self.rows[t])
+        step::greatest_outflows(&self.roads[t], &self.states[t], &self.rows[t])
     }
 }

@@ -1,7 +1,6 @@
 //! Small cases worked out by hand.
 
 use crate::support::*;
-use reference::judge::judge;
 
 const ONE_CELL: &str = "
 steps 3

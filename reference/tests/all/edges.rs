@@ -1,11 +1,10 @@
 //! The edges that the document lists, and its printed run.
 
 use crate::support::*;
-use reference::judge::judge;
 use reference::model::*;
 use reference::print::printed_run;
 use reference::record::read;
-use reference::step::{greatest_outflows, step};
+use reference::step::greatest_outflows;
 
 const PRINTED: &str = "\
 step place outflow held queue

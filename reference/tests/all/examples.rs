@@ -1,11 +1,12 @@
 //! The files of `examples/` and the tables of its README.
 
-use crate::support::*;
+use crate::support::{judge, record_of, without_comments};
 use reference::as_text::text_of;
 use reference::fill::fill;
-use reference::judge::judge;
+use reference::lanes_text::table_of;
 use reference::laws::laws_of;
-use reference::print::{judgement_line, printed_run};
+use reference::print::{judgement_line, printed_run, printed_under};
+use reference::run::run;
 use reference::text::schedule_of;
 use std::collections::BTreeSet;
 use std::fs;
@@ -120,16 +121,17 @@ fn longest_queue(printed: &str) -> u32 {
     queues.max().unwrap()
 }
 
-/// A record's times in hours and its longest queue, as the page has them.
-fn who_waits_where(record: &[u8]) -> [String; 5] {
-    let state = run_whole(record).0.state;
+/// A run's times in hours and its longest queue, as the page has them.
+fn who_waits_where(record: &[u8], lanes: &[u8]) -> [String; 5] {
+    let mut list = vec![0; 378 * 22];
+    let state = run(record, lanes, &mut list).state;
     let total = state.gate_time + state.road_time + state.ramp_time;
     [
         hours(total),
         hours(state.gate_time),
         hours(state.road_time),
         hours(state.ramp_time),
-        vehicles(longest_queue(&printed_run(record))),
+        vehicles(longest_queue(&printed_under(record, lanes))),
     ]
 }
 
@@ -138,10 +140,26 @@ fn the_page_of_rocade_sud_says_who_waits_where() {
     let rows = table_rows("rocade-sud.md", "record");
     for row in &rows {
         let record = bytes_of(&format!("{}.rec", row[0]));
-        assert_eq!(row[1..], who_waits_where(&record), "{}", row[0]);
+        assert_eq!(row[1..], who_waits_where(&record, &[]), "{}", row[0]);
     }
     let filled = rows.iter().map(|row| row[0].clone()).skip(1);
     assert_eq!(filled.collect::<BTreeSet<_>>(), named(".laws.txt"));
+}
+
+#[test]
+fn the_page_of_rocade_sud_says_who_waits_where_under_works() {
+    let lanes = table_of(&text_in("rocade-sud-works.lanes.txt")).unwrap();
+    let rows = table_rows("rocade-sud.md", "under works");
+    assert_eq!(rows.len(), 1 + named(".laws.txt").len());
+    for row in &rows {
+        let mut record = bytes_of("rocade-sud.rec");
+        if row[0] != "rocade-sud" {
+            let laws = laws_of(&text_in(&format!("{}.laws.txt", row[0]))).unwrap();
+            let mut list = vec![0; 378 * 22];
+            assert_eq!(fill(&mut record, &laws, &lanes, &mut list).number, 0);
+        }
+        assert_eq!(row[1..], who_waits_where(&record, &lanes), "{}", row[0]);
+    }
 }
 
 #[test]
@@ -150,7 +168,7 @@ fn laws_fill_the_records_of_their_names() {
         let laws = laws_of(&text_in(&format!("{name}.laws.txt"))).unwrap();
         let mut record = bytes_of("rocade-sud.rec");
         let mut list = vec![0; 378 * 22];
-        assert_eq!(fill(&mut record, &laws, &mut list).number, 0);
+        assert_eq!(fill(&mut record, &laws, &[], &mut list).number, 0);
         assert!(record == bytes_of(&format!("{name}.rec")), "{name}");
     }
 }

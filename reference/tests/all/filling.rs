@@ -2,10 +2,10 @@
 
 use crate::support::*;
 use reference::answer::Answer;
-use reference::fill::{fill, Laws};
+use reference::fill::{fill as fill_under, Laws};
 use reference::meter::{release, Law};
 use reference::record::{read, row, size};
-use reference::run::run;
+use reference::run::run as run_under;
 use reference::trials::all_cases;
 use reference::trials::frame::Case;
 
@@ -211,21 +211,22 @@ fn a_filled_record_run_again_gives_the_same() {
         let Case::Fill(input) = case else { continue };
         let mut record = input.record.clone();
         let mut list = vec![LENT; input.length];
-        let answer = fill(&mut record, &input.laws(), &mut list);
+        let answer = fill_under(&mut record, &input.laws(), &input.lanes, &mut list);
         assert!(answer.number != 9 && answer.number != 10);
         if answer.number != 0 {
             assert_eq!(record, input.record);
             continue;
         }
         let mut again = vec![LENT; input.length];
-        assert_eq!((run(&record, &mut again), again), (answer, list));
+        let rerun = run_under(&record, &input.lanes, &mut again);
+        assert_eq!((rerun, again), (answer, list));
         for (at, (new, old)) in record.iter().zip(&input.record).enumerate() {
             assert!(new == old || in_release(answer.road.n, at));
         }
         // The releases that stood there before don't matter.
         let mut twice = record.clone();
         let mut list = vec![LENT; input.length];
-        fill(&mut twice, &input.laws(), &mut list);
+        fill_under(&mut twice, &input.laws(), &input.lanes, &mut list);
         assert_eq!(twice, record);
         whole += 1;
     }

@@ -2,6 +2,7 @@
 
 mod as_text;
 mod by_hand;
+mod closing;
 mod compare;
 mod edges;
 mod examples;

@@ -2,8 +2,6 @@
 
 use crate::support::*;
 use reference::draft::Draft;
-use reference::judge::judge;
-use reference::run::run;
 
 /// The example with every fault that a record can have.
 fn spoilt() -> Draft {

@@ -97,3 +97,24 @@ fn a_record_filled_by_the_laws_of_a_file() {
     assert_eq!(said(&refused), "reference: refused 16 0 2\n");
     assert!(refused.stdout.is_empty());
 }
+
+#[test]
+fn a_run_under_the_lanes_of_a_file() {
+    let folder = Folder::new("lanes");
+    folder.file("road.rec", &record_of(EXAMPLE));
+    folder.file("laws.txt", b"ramp 2 fixed 1000000\n");
+    folder.file(
+        "lanes.txt",
+        b"cells 2\nsteps 3\nbuilt 2\nclosed 2 cell 2 steps 1 to 1\n",
+    );
+    let run = folder.reference(&["run", "road.rec", "lanes.txt"]);
+    let printed = String::from_utf8(run.stdout).unwrap();
+    let wanted = ["1 0 1358 2142 0", "1 1 267 3657 0", "1 2 500 4000 1900"];
+    assert_eq!(printed.lines().skip(4).take(3).collect::<Vec<_>>(), wanted);
+    let filled = folder.reference(&["fill", "road.rec", "laws.txt", "lanes.txt"]);
+    let mut draft = example_draft();
+    for (row, release) in draft.rows.iter_mut().zip([1000, 500, 1000]) {
+        row[4] = release;
+    }
+    assert_eq!(filled.stdout, draft.encode());
+}

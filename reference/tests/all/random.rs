@@ -2,10 +2,9 @@
 
 use crate::support::*;
 use reference::draft::{CellDraft, Draft};
-use reference::judge::judge;
 use reference::model::*;
 use reference::record::read;
-use reference::step::{advance, greatest_outflows, room, step};
+use reference::step::{advance, greatest_outflows, room};
 
 /// A linear congruential generator (Knuth's 64-bit one); the upper half is used.
 struct Dice(u64);

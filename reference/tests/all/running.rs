@@ -2,11 +2,8 @@
 
 use crate::support::*;
 use reference::answer::Answer;
-use reference::judge::judge;
 use reference::print::printed_run;
 use reference::record::read;
-use reference::run::run;
-use reference::step::step;
 
 const TABLE: [u32; 9] = [1500, 934, 1000, 1358, 933, 1000, 1252, 934, 1000];
 

@@ -3,7 +3,6 @@
 use crate::support::*;
 use reference::model::{Road, State};
 use reference::record::read;
-use reference::step::step;
 
 /// A road, a state and a row, to be changed.
 #[derive(Clone)]

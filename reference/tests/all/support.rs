@@ -2,9 +2,11 @@
 
 use reference::answer::Answer;
 use reference::draft::{CellDraft, Draft};
+use reference::fill::Laws;
 use reference::model::exits;
+use reference::model::{Road, State};
 use reference::record;
-use reference::run::run;
+use reference::step::{Lanes, Stepped};
 use reference::text;
 
 /// The document's input.
@@ -21,6 +23,29 @@ pub const LENT: u32 = u32::MAX;
 
 pub fn record_of(text: &str) -> Vec<u8> {
     text::record_of(text).unwrap_or_else(|error| panic!("{error}"))
+}
+
+/// One lane a cell.
+pub const ONE_LANE: Lanes = [1; 64];
+
+/// Stepping with all lanes open.
+pub fn step(road: Road, state: State, row: &[u32]) -> Stepped {
+    reference::step::step(road, state, row, &ONE_LANE, &ONE_LANE)
+}
+
+/// Running with all lanes open.
+pub fn run(record: &[u8], list: &mut [u32]) -> Answer {
+    reference::run::run(record, &[], list)
+}
+
+/// Judging with all lanes open.
+pub fn judge(record: &[u8], schedule: &[u32]) -> Answer {
+    reference::judge::judge(record, &[], schedule)
+}
+
+/// Filling with all lanes open.
+pub fn fill(record: &mut [u8], laws: &Laws, list: &mut [u32]) -> Answer {
+    reference::fill::fill(record, laws, &[], list)
 }
 
 /// Runs a record with a list of just the table's length.

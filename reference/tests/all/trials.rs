@@ -4,7 +4,6 @@ use crate::support::*;
 use reference::model::{onward_total, Road};
 use reference::print::printed_schedule;
 use reference::record::read;
-use reference::run::run;
 use reference::text::schedule_of;
 use reference::trials::digest::{of_bytes, of_list, of_road_and_state, Digest};
 use reference::trials::frame::{
@@ -45,14 +44,16 @@ fn number(line: &str) -> u64 {
     line.split(' ').nth(1).unwrap().parse().unwrap()
 }
 
-/// Where group 4 starts: after the last step.
+/// Where group 4 starts: at the first run right after a step.
 fn roads_start(cases: &[Case]) -> usize {
-    let last = cases.iter().rposition(|c| matches!(c, Case::Step(_)));
+    let last = cases
+        .windows(2)
+        .position(|pair| matches!(pair[0], Case::Step(_)) && matches!(pair[1], Case::Run { .. }));
     last.unwrap() + 1
 }
 
 /// One small case of each kind.
-fn small_cases() -> [Case; 8] {
+fn small_cases() -> [Case; 9] {
     let reading = read(&record_of(EXAMPLE));
     [
         Case::Read {
@@ -60,16 +61,20 @@ fn small_cases() -> [Case; 8] {
         },
         Case::Run {
             length: 9,
+            lanes: vec![0xCC],
             record: vec![0xAA, 0xBB],
         },
         Case::Judge {
             schedule: vec![5, u32::MAX],
+            lanes: vec![],
             record: vec![0xAA],
         },
         Case::Step(Box::new(StepInput {
             road: reading.road,
             state: reading.state,
             row: vec![1, 2, 3],
+            built: [7; 64],
+            open: [3; 64],
         })),
         Case::Write(Box::new(WriteInput {
             road: reading.road,
@@ -86,6 +91,7 @@ fn small_cases() -> [Case; 8] {
         Case::Fill(Box::new(FillInput {
             laws: [LawInput::new(2, [1.0, -2.0, 0.5]); 64],
             length: 9,
+            lanes: vec![0xCC, 0xDD],
             record: vec![0xAA],
         })),
         Case::Leaf(LeafInput {
@@ -95,6 +101,11 @@ fn small_cases() -> [Case; 8] {
             held: 3,
             cap: 4,
         }),
+        Case::Capacity {
+            capacity: 2_000,
+            built: 7,
+            open: 3,
+        },
     ]
 }
 
@@ -138,11 +149,13 @@ fn road_and_state_are_fed_in_order() {
 fn small_frames_byte_by_byte() {
     let [read, run, judge, step, ..] = small_cases().map(|case| encoded(&case));
     assert_eq!(read, [b'R', 0, 0, 0, 2, 0xAA, 0xBB]);
-    assert_eq!(run, [b'U', 0, 0, 0, 9, 0, 0, 0, 2, 0xAA, 0xBB]);
+    let run_wanted = [0, 0, 0, 9, 0, 0, 0, 1, 0xCC, 0, 0, 0, 2, 0xAA, 0xBB];
+    assert_eq!(run, [&b"U"[..], &run_wanted].concat());
     let numbers = [0, 0, 0, 2, 0, 0, 0, 5, 255, 255, 255, 255];
-    assert_eq!(judge, [&b"J"[..], &numbers, &[0, 0, 0, 1, 0xAA]].concat());
-    // 1, n and capacity 8, 64 * 8, 64 * 8, 36, 64 * 12, then the row.
-    assert_eq!(step.len(), 1 + 8 + 512 + 512 + 36 + 768 + 4 + 12);
+    let rest = [0, 0, 0, 0, 0, 0, 0, 1, 0xAA];
+    assert_eq!(judge, [&b"J"[..], &numbers, &rest].concat());
+    // 1, n and capacity 8, 64 * 8, 64 * 8, 36, 64 * 12, then the row and lanes.
+    assert_eq!(step.len(), 1 + 8 + 512 + 512 + 36 + 768 + 4 + 12 + 128);
     assert_eq!(step[..9], [b'S', 0, 0, 0, 2, 0, 0, 0x07, 0xD0]);
     // v 500, w 250, b 750, no ramp; then cell 2.
     assert_eq!(step[9..19], [1, 0xF4, 0, 250, 2, 0xEE, 0, 0, 1, 0xF4]);
@@ -154,9 +167,10 @@ fn small_frames_byte_by_byte() {
     assert_eq!(step[1069..1077], [0, 0, 0x07, 0xD0, 0, 0, 0, 0]);
     assert_eq!(step[1081..1089], [0, 0, 0x0F, 0xA0, 0, 0, 0x05, 0xDC]);
     assert_eq!(
-        step[1837..],
+        step[1837..1853],
         [0, 0, 0, 3, 0, 0, 0, 1, 0, 0, 0, 2, 0, 0, 0, 3]
     );
+    assert_eq!(step[1853..], [[7; 64], [3; 64]].concat());
 }
 
 #[test]
@@ -176,7 +190,8 @@ fn frames_of_writing_byte_by_byte() {
 
 #[test]
 fn frames_of_meters_byte_by_byte() {
-    let [.., fill, leaf] = small_cases().map(|case| encoded(&case));
+    let [.., fill, leaf, capacity] = small_cases().map(|case| encoded(&case));
+    assert_eq!(capacity, [b'C', 0, 0, 0x07, 0xD0, 7, 3]);
     // 1 is 3ff0..., -2 is c000..., a half 3fe0....
     let number = |high: [u8; 2]| [&high[..], &[0; 6]].concat();
     let numbers = [
@@ -185,7 +200,7 @@ fn frames_of_meters_byte_by_byte() {
         number([0x3F, 0xE0]),
     ];
     let law = [vec![0, 0, 0, 2], numbers.concat()].concat();
-    let rest = [0, 0, 0, 9, 0, 0, 0, 1, 0xAA];
+    let rest = [0, 0, 0, 9, 0, 0, 0, 2, 0xCC, 0xDD, 0, 0, 0, 1, 0xAA];
     assert_eq!(fill, [&b"F"[..], &law.repeat(64), &rest].concat());
     let counts = [0, 0, 0, 1, 0, 0, 0, 2, 0, 0, 0, 3, 0, 0, 0, 4];
     assert_eq!(leaf[..5], [b'L', 0, 0, 0, 1]);
@@ -195,7 +210,8 @@ fn frames_of_meters_byte_by_byte() {
 #[test]
 fn lines_of_meters() {
     // 1 + 1 x (-2 - 3) is -4: sign, exponent 1025, no fraction.
-    let [.., fill, leaf] = small_cases();
+    let [.., fill, leaf, capacity] = small_cases();
+    assert_eq!(line(&capacity).text, "capacity 1333");
     let bits = (1_u64 << 63) + (1_025 << 52);
     assert_eq!(line(&leaf).text, format!("wish {bits} release 0"));
     let law = LawInput::new(0, [f64::from_bits(u64::MAX), 0.0, 0.0]);
@@ -278,7 +294,7 @@ fn truncated_input_is_rejected() {
     }
     let two = [
         encoded(&small_cases()[0]),
-        encoded(&small_cases()[1])[..10].to_vec(),
+        encoded(&small_cases()[1])[..15].to_vec(),
     ];
     assert_eq!(
         decode(&two.concat()).unwrap_err(),
@@ -295,10 +311,13 @@ fn frames_beyond_their_limits_are_rejected() {
         error(b"X"),
         "frame 0 at byte 0: 88 is not a kind of frame".to_string()
     );
-    // 65,541 bytes; lists of 9,001 numbers; a row of 201.
+    // 65,541 bytes; lists of 9,001 numbers, lanes of so many; a row of 201.
     assert!(error(&[b'R', 0, 1, 0, 5]).ends_with("the record: 65541 is more than 65540"));
     assert!(error(&[b'U', 0, 0, 0x23, 0x29]).ends_with("9001 is more than 9000"));
     assert!(error(&[b'J', 0, 0, 0x23, 0x29]).ends_with("9001 is more than 9000"));
+    assert!(
+        error(&[b'U', 0, 0, 0, 9, 0, 0, 0x23, 0x29]).ends_with("the lanes: 9001 is more than 9000")
+    );
     let mut step = encoded(&small_cases()[3]);
     step[1840] = 201;
     assert!(error(&step).ends_with("the row: 201 is more than 200"));
@@ -316,9 +335,9 @@ fn every_case_comes_back_from_its_frame() {
     let (cases, ..) = made();
     let bytes: Vec<u8> = cases.iter().flat_map(encoded).collect();
     assert_eq!(&decode(&bytes).unwrap(), cases);
-    // The same each time, and below 8 MB.
+    // The same each time, and below 10 MB.
     assert!(bytes == input());
-    assert!(bytes.len() < 8_000_000, "{}", bytes.len());
+    assert!(bytes.len() < 10_000_000, "{}", bytes.len());
 }
 
 #[test]
@@ -383,6 +402,7 @@ fn there_are_enough_cases_of_each_kind() {
     assert!(count(0, "row ") >= 80);
     assert!(count(0, "wish ") >= 1_000);
     assert!(count(0, "fill 0 ") >= 400);
+    assert!(count(0, "capacity ") >= 900);
     // On the random roads alone.
     assert!(complete[roads..].iter().filter(|&&c| c).count() >= 250);
     assert!(count(roads, "run 9 ") >= 10 && count(roads, "run 10 ") >= 10);
@@ -399,13 +419,14 @@ fn every_refusal_of_every_operation_occurs() {
         lines.map(|line| number(line)).collect()
     };
     assert_eq!(found("read "), (0..=6).collect());
-    let run = (0..=6).chain(9..=11).collect();
+    let run = (0..=6).chain(9..=11).chain([17, 18]).collect();
     assert_eq!(found("run "), run);
-    let judge = (0..=6).chain([9, 10, 12, 13, 14]).collect();
+    let judge = (0..=6).chain([9, 10, 12, 13, 14, 17, 18]).collect();
     assert_eq!(found("judge "), judge);
-    assert_eq!(found("step "), [0, 7, 8, 9, 10].into());
+    assert_eq!(found("step "), [0, 7, 8, 9, 10, 18].into());
     assert_eq!(found("write "), [0, 1, 3, 4, 5, 6, 15].into());
-    assert_eq!(found("fill "), (0..=6).chain([11, 16]).collect());
+    let fill = (0..=6).chain([11, 16, 17, 18]).collect();
+    assert_eq!(found("fill "), fill);
 }
 
 #[test]
@@ -414,7 +435,7 @@ fn random_roads_have_every_n_and_the_longest_table() {
     let mut sizes = BTreeSet::new();
     let mut longest = 0;
     for (case, &complete) in cases.iter().zip(complete).skip(roads_start(cases)) {
-        let Case::Run { length, record } = case else {
+        let Case::Run { length, record, .. } = case else {
             continue;
         };
         let (n, steps) = (record[5], [record[6], record[7]]);
@@ -433,13 +454,20 @@ fn the_run_s_own_rows_are_accepted_with_its_state() {
     let (cases, lines, _) = made();
     let mut own = 0;
     for (case, judged) in cases.iter().zip(lines) {
-        let Case::Judge { schedule, record } = case else {
+        let Case::Judge {
+            schedule,
+            lanes,
+            record,
+        } = case
+        else {
             continue;
         };
-        let (answer, list) = run_whole(record);
+        let mut list = vec![LENT; schedule.len()];
+        let answer = reference::run::run(record, lanes, &mut list);
         if answer.number == 0 && list == *schedule {
             let run = line(&Case::Run {
                 length: list.len(),
+                lanes: lanes.clone(),
                 record: record.clone(),
             });
             let words = judged.strip_prefix("judge ").unwrap();

@@ -1,18 +1,23 @@
 -- `filling::fill` meets its contract. Each return, by the tests on the way to it. Assumes nothing.
-use mathlib.Core.Path.{_≡_, refl, ap}
+use mathlib.Core.Path.{_≡_, refl, sym, ap, _∙_}
+use Prim.Native.Nat.{_≤_}
+use Rattle.road.specs.Road.{mostCells, mostSteps}
 use Rattle.road.specs.Refusals.{refusalNumber}
+use Rattle.stepping.specs.Answers.{faultOf}
 use Rattle.reading.specs.Reading.{studyBy, readAnswer}
+use Rattle.reading.specs.Within.{read-within}
 use Rattle.schedules.specs.Schedules.{endAnswer}
+use Rattle.model.specs.StepLaws.{number-of}
 use Rattle.schedules.specs.Readable.{Readable, readable}
-use Rattle.filling.specs.Promise.{promise-refused, promise-law, promise-short, promise-all}
+use Rattle.filling.specs.Promise.{promise-refused, promise-law, promise-closed, promise-short, promise-all}
 use borrow.Author.Needs.{needs}
 use native.Mathlib.Omega.{arith}
 use Rattle.filling.proofs.fill.Statement.{statement}
 use Rattle.filling.proofs.fill.Tie as tie
 
--- places of the code: the arguments from the reading, the reading from the tests after it, the laws' test from the list's
+-- places of the code: the arguments from the reading, and each test from the next: reading's, the laws', the table's, the list's
 abbrev A : tie.After-read → tie.Start
-A c = c .before .before .before .before
+A c = c .before .before .before .before .before
 
 abbrev to-read : tie.Else1 → tie.After-read
 to-read c = c .before .before
@@ -20,28 +25,45 @@ to-read c = c .before .before
 abbrev to-passed : tie.After-law-fault → tie.Else1
 to-passed c = c .before .before .before
 
-abbrev to-laws : tie.After-struct-known → tie.After-law-fault
+abbrev to-laws : tie.After-refused → tie.After-law-fault
 to-laws c = c .before .before .before
 
-abbrev to-list : tie.After-fill-rows → tie.After-struct-known
+abbrev to-table : tie.Else3 → tie.After-refused
+to-table c = c .before .before
+
+abbrev to-list : tie.After-fill-rows → tie.Else3
 to-list c = c .before .before .before .before
 
 abbrev to-filled : tie.After-complete → tie.After-fill-rows
 to-filled c = c .before .before .before .before .before
 
--- a record that was read, and what that says of it
+-- a record that was read, and what that says of n and T
 read-well : (c : tie.Else1) → refusalNumber (to-read c .read .result .refusal) ≡ 0
-read-well c = search needs
+read-well c = sym (c .before .number .ensures) ∙ c .if1 .left
 
-held : (c : tie.Else1) →
-    let x = readAnswer (to-read c .read .result) in
-    let bytes = A (to-read c) .args .bytes .now in
-    Readable bytes (studyBy bytes (x .road) (x .state) (x .steps))
-held c = readable (A (to-read c) .args .bytes .now) _ (to-read c .read .ensures) (read-well c)
+cells : (c : tie.Else1) → let x = to-read c .read .result in (x .road .n ≤ mostCells) × (x .steps ≤ mostSteps)
+cells c =
+    let r = to-read c in
+    let w = read-within (A r .args .bytes .now) _ (r .read .ensures) (read-well c) in
+    (w .road .cells, w .steps)
 
--- no law has a number that isn't finite
-finite : (c : tie.After-struct-known) → to-laws c .law-fault .result ≡ 0
-finite c = search needs
+-- no law has a number that isn't finite, and the table has no fault
+finite : (c : tie.After-refused) → to-laws c .law-fault .result ≡ 0
+finite c = c .before .before .if2 .left
+
+opens : (c : tie.Else3) → faultOf (to-table c .refused .result) .number ≡ 0
+opens c = sym (c .before .number2 .ensures) ∙ c .if3 .left
+
+held : (c : tie.Else3) →
+    let r = to-read (to-passed (to-laws (to-table c))) in
+    let x = readAnswer (r .read .result) in
+    let a = A r .args in
+    Readable (a .bytes .now) (studyBy (a .bytes .now) (a .table .now) (x .road) (x .state) (x .steps))
+held c =
+    let t = to-table c in
+    let p = to-passed (to-laws t) in
+    let r = to-read p in
+    readable (A r .args .bytes .now) (A r .args .table .now) _ (r .read .ensures) (read-well p) (sym (number-of (t .refused .ensures)) ∙ opens c)
 
 read-requires : tie.Need-read-requires
 read-requires c κs = search needs
@@ -57,12 +79,14 @@ same-length c = search needs
 
 returns : tie.Need-returns
 returns c =
-    let r = c .before .before .before in
+    let t = c .before in
+    let r = t .before .before in
     let a = A r .args in
-    promise-refused (a .laws) (a .bytes .now) (a .out .now) (r .read .ensures) (search needs) (ap endAnswer (c .without-state .ensures))
+    promise-refused (a .laws) (a .bytes .now) (a .table .now) (a .out .now) (r .read .ensures) (λ z. t .if1 .taken (t .before .number .ensures ∙ z))
+    (ap endAnswer (c .without-state .ensures))
 
 law-fault-requires : tie.Need-law-fault-requires
-law-fault-requires c κs = held (c .before .before) .ok .road .cells
+law-fault-requires c κs = cells (c .before .before) .0
 
 without-state-requires-2 : tie.Need-without-state-requires-2
 without-state-requires-2 c κs = search needs
@@ -75,14 +99,14 @@ returns-2 c =
     let l = c .before .before in
     let p = to-passed l in
     let a = A (to-read p) .args in
-    promise-law (a .laws) (a .bytes .now) (a .out .now) (to-read p .read .ensures) (read-well p) (l .law-fault .ensures) (search needs)
-    (ap endAnswer (c .without-state2 .ensures))
+    promise-law (a .laws) (a .bytes .now) (a .table .now) (a .out .now) (to-read p .read .ensures) (read-well p) (l .law-fault .ensures)
+    (λ z. c .before .if2 .taken z) (ap endAnswer (c .without-state2 .ensures))
 
-add-if3 : tie.Need-add-if3
-add-if3 c = omega (arith, held (to-passed (to-laws c)) .ok .road .cells)
+refused-requires : tie.Need-refused-requires
+refused-requires c κs = cells (to-passed (c .before .before))
 
-mul-if3 : tie.Need-mul-if3
-mul-if3 c = omega (arith, held (to-passed (to-laws c)) .outflows)
+number-requires-2 : tie.Need-number-requires-2
+number-requires-2 c κs = search needs
 
 without-state-requires-3 : tie.Need-without-state-requires-3
 without-state-requires-3 c κs = search needs
@@ -92,36 +116,59 @@ same-length-3 c = search needs
 
 returns-3 : tie.Need-returns-3
 returns-3 c =
-    let k = c .before .before in
-    let l = to-laws k in
+    let t = c .before in
+    let f = t .before .before in
+    let l = to-laws f in
     let p = to-passed l in
     let a = A (to-read p) .args in
-    promise-short (a .laws) (a .bytes .now) (a .out .now) (to-read p .read .ensures) (read-well p) (l .law-fault .ensures) (finite k)
-    (omega arith) (ap endAnswer (c .without-state3 .ensures))
+    promise-closed (a .laws) (a .bytes .now) (a .table .now) (a .out .now) (to-read p .read .ensures) (read-well p) (l .law-fault .ensures) (finite f)
+    (f .refused .ensures) (λ z. t .if3 .taken (t .before .number2 .ensures ∙ z)) (ap endAnswer (c .without-state3 .ensures))
 
-fill-rows-requires : tie.Need-fill-rows-requires
-fill-rows-requires c κs =
-    record { readable = held (to-passed (to-laws (c .before .before .before))); rows = λ k. refl; long = omega arith }
+add-if4 : tie.Need-add-if4
+add-if4 c = omega (arith, held c .ok .road .cells)
 
-complete-requires : tie.Need-complete-requires
-complete-requires c κs = search needs
+mul-if4 : tie.Need-mul-if4
+mul-if4 c = omega (arith, held c .outflows)
+
+without-state-requires-4 : tie.Need-without-state-requires-4
+without-state-requires-4 c κs = search needs
 
 same-length-4 : tie.Need-same-length-4
 same-length-4 c = search needs
 
+returns-4 : tie.Need-returns-4
+returns-4 c =
+    let k = c .before .before in
+    let f = to-table k in
+    let l = to-laws f in
+    let p = to-passed l in
+    let a = A (to-read p) .args in
+    promise-short (a .laws) (a .bytes .now) (a .table .now) (a .out .now) (to-read p .read .ensures) (read-well p) (l .law-fault .ensures) (finite f)
+    (f .refused .ensures) (opens k) (omega arith) (ap endAnswer (c .without-state4 .ensures))
+
+fill-rows-requires : tie.Need-fill-rows-requires
+fill-rows-requires c κs = record { readable = held (c .before .before .before); rows = λ k. refl; long = omega arith }
+
+complete-requires : tie.Need-complete-requires
+complete-requires c κs = search needs
+
 same-length-5 : tie.Need-same-length-5
 same-length-5 c = search needs
 
-returns-4 : tie.Need-returns-4
-returns-4 c =
-    let f = to-filled c in
-    let k = to-list f in
-    let l = to-laws k in
+same-length-6 : tie.Need-same-length-6
+same-length-6 c = search needs
+
+returns-5 : tie.Need-returns-5
+returns-5 c =
+    let e = to-filled c in
+    let k = to-list e in
+    let f = to-table k in
+    let l = to-laws f in
     let p = to-passed l in
     let a = A (to-read p) .args in
-    let e = f .fill-rows .ensures in
-    promise-all (a .laws) (a .bytes .now) (a .out .now) (to-read p .read .ensures) (read-well p) (l .law-fault .ensures) (finite k)
-    (search needs) (ap endAnswer (c .complete .ensures)) (e .0) (e .1 .0) (e .1 .1)
+    let made = e .fill-rows .ensures in
+    promise-all (a .laws) (a .bytes .now) (a .table .now) (a .out .now) (to-read p .read .ensures) (read-well p) (l .law-fault .ensures) (finite f)
+    (f .refused .ensures) (opens k) (search needs) (ap endAnswer (c .complete .ensures)) (made .0) (made .1 .0) (made .1 .1)
 
 pub fill-spec : {M : Type 1} → statement M
 fill-spec =
@@ -136,13 +183,18 @@ fill-spec =
     without-state-requires-2
     same-length-2
     returns-2
-    add-if3
-    mul-if3
+    refused-requires
+    number-requires-2
     without-state-requires-3
     same-length-3
     returns-3
+    add-if4
+    mul-if4
+    without-state-requires-4
+    same-length-4
+    returns-4
     fill-rows-requires
     complete-requires
-    same-length-4
     same-length-5
-    returns-4)
+    same-length-6
+    returns-5)

@@ -1,8 +1,9 @@
 -- `printing::printed` meets its contract. Each return, by the test on the way to it. Assumes nothing.
 use mathlib.Core.Path.{_≡_, sym, _∙_}
+use mathlib.Core.List.{[]}
 use Rattle.road.specs.Refusals.{refusalNumber}
 use Rattle.reading.specs.Reading.{studyBy, readAnswer}
-use Rattle.schedules.specs.Readable.{Readable, readable}
+use Rattle.schedules.specs.Readable.{Readable, readable-open}
 use Rattle.printing.specs.Lined.{holds-refused, holds-read}
 use borrow.Author.Needs.{needs}
 use Rattle.printing.proofs.printed.Statement.{statement}
@@ -22,8 +23,8 @@ read-well c = sym (c .before .number .ensures) ∙ c .if1 .left
 held : (c : tie.Else1) →
     let x = readAnswer (to-read c .read .result) in
     let bytes = A (to-read c) .args .bytes .now in
-    Readable bytes (studyBy bytes (x .road) (x .state) (x .steps))
-held c = readable (A (to-read c) .args .bytes .now) _ (to-read c .read .ensures) (read-well c)
+    Readable bytes (studyBy bytes [] (x .road) (x .state) (x .steps))
+held c = readable-open (A (to-read c) .args .bytes .now) _ (to-read c .read .ensures) (read-well c)
 
 read-requires : tie.Need-read-requires
 read-requires c κs = search needs

@@ -1,12 +1,12 @@
 -- `printing::run_lines` meets its contract. The invariant: k steps are made without a fault, and their lines stand after the header. Assumes nothing.
 use mathlib.Core.Path.{_≡_, refl, sym, ap, _∙_}
-use mathlib.Core.List.{List}
+use mathlib.Core.List.{List, []}
 use Prim.Native.Nat.{ℕ, _-_}
 use lib.ListN.{length, take}
 use Rattle.road.specs.Study.{Study, places}
 use Rattle.fields.specs.Fields.{rowNumbers}
 use Rattle.fields.specs.FieldsLaws.{length-row}
-use Rattle.model.specs.RunsLaws.{same-road}
+use Rattle.model.specs.Opened.{same-road}
 use Rattle.reading.specs.Reading.{studyBy}
 use Rattle.running.specs.Ran.{RanTurn, ends-fault, steps-on}
 use lib.Seq.{length-take-le}
@@ -18,7 +18,7 @@ use Rattle.printing.proofs.run_lines.Statement.{statement}
 use Rattle.printing.proofs.run_lines.Tie as tie
 
 abbrev Inv-loop : tie.InvT-loop
-Inv-loop bytes r steps buffer₀ n numbers places u₀ end₀ k₀ buffer u end k = Lined (studyBy bytes r u₀ steps) buffer₀ end₀ buffer u end k
+Inv-loop bytes r steps buffer₀ n numbers places u₀ end₀ k₀ buffer u end k = Lined (studyBy bytes [] r u₀ steps) buffer₀ end₀ buffer u end k
 
 abbrev μ-loop : tie.MeasureT-loop
 μ-loop bytes r steps buffer₀ n numbers places u₀ end₀ k₀ buffer u end k = steps - k
@@ -41,7 +41,7 @@ to-fault c = c .before .before
 
 -- the study, and the numbers of the row as they are lent
 abbrev Of : tie.Start Inv-loop μ-loop → Study
-Of c = studyBy (c .args .bytes .now) (c .args .r) (c .args .s) (c .args .steps)
+Of c = studyBy (c .args .bytes .now) [] (c .args .r) (c .args .s) (c .args .steps)
 
 abbrev Args : tie.After-row Inv-loop μ-loop → tie.Start Inv-loop μ-loop
 Args c = A (to-header (c .before .before))
@@ -59,7 +59,7 @@ turn c =
       ok = Args c .pre .readable .ok;
       ran = l .loop .inv .ran;
       left = c .before .loop-test .taken;
-      road = same-road (Of (Args c)) (l .loop .k);
+      road = same-road (Of (Args c)) refl (l .loop .k);
       numbers = c .row .ensures;
     }
 

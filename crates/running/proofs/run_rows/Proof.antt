@@ -1,17 +1,20 @@
--- `running::run_rows` meets its contract. The invariant: the rows of the k steps made stand in the list, and no step had a fault. Assumes nothing.
+-- `running::run_rows` meets its contract. The invariant: the rows of the k steps made stand in the list, no step had a fault, and
+-- the road is the record's but for its capacities. Assumes nothing.
 use mathlib.Core.Path.{_≡_, sym, ap, _∙_}
+use mathlib.Core.Logic.{inl, inr}
 use mathlib.Core.List.{List}
 use Prim.Native.Nat.{ℕ, _+_, _-_, _≤_}
 use lib.ListN.{length, take}
 use Rattle.rows.specs.TablesLaws.{part-length}
-use Rattle.road.specs.Study.{Study, places}
+use Rattle.road.specs.Study.{Study, places, withCapacity}
 use Rattle.fields.specs.Fields.{rowNumbers}
 use Rattle.fields.specs.FieldsLaws.{length-row}
-use Rattle.model.specs.RunsLaws.{same-road}
+use Rattle.lanes.specs.LanesLaws.{rows-within}
+use Rattle.model.specs.Opened.{OnRoad, Turned, on-road, turned-road, turned-on}
 use Rattle.reading.specs.Reading.{studyBy}
 use Rattle.reading.specs.Table.{mostOutflows}
 use Rattle.schedules.specs.Schedules.{endAnswer}
-use Rattle.running.specs.Ran.{RanTurn, ends-ran, ends-fault, steps-on}
+use Rattle.running.specs.Ran.{RanTurn, releasable, same-places, ends-ran, ends-fault, steps-on}
 use Rattle.running.specs.Made.{Made, made-none, made-more, same-length, row-fits, row-ends-by, table-end, table-fault}
 use borrow.Author.Needs.{needs}
 use native.Mathlib.Omega.{arith}
@@ -19,14 +22,18 @@ use Rattle.running.proofs.run_rows.Statement.{statement}
 use Rattle.running.proofs.run_rows.Tie as tie
 
 abbrev Inv-loop : tie.InvT-loop
-Inv-loop bytes r steps out₀ n numbers places u₀ k₀ to₀ out u k to = Made (studyBy bytes r u₀ steps) out₀ out u k to
+Inv-loop bytes table r steps out₀ n numbers places capacity road₀ u₀ k₀ to₀ out road u k to =
+    Made (studyBy bytes table r u₀ steps) out₀ out u k to × OnRoad (studyBy bytes table r u₀ steps) road
 
 abbrev μ-loop : tie.MeasureT-loop
-μ-loop bytes r steps out₀ n numbers places u₀ k₀ to₀ out u k to = steps - k
+μ-loop bytes table r steps out₀ n numbers places capacity road₀ u₀ k₀ to₀ out road u k to = steps - k
 
--- places of the code: the arguments from the loop's place, and the row of a turn from the places after it
+-- places of the code: the arguments from the loop's place, that place and the turn's start from its row, and the row from the places after it
 abbrev A : tie.At-loop Inv-loop μ-loop → tie.Start Inv-loop μ-loop
-A c = c .before .before .before
+A c = c .before .before .before .before .before
+
+abbrev In : tie.After-row Inv-loop μ-loop → tie.In-loop Inv-loop μ-loop
+In c = c .before .before
 
 abbrev to-row : tie.After-number Inv-loop μ-loop → tie.After-row Inv-loop μ-loop
 to-row c = c .before .before .before
@@ -36,37 +43,51 @@ to-fault c = c .before .before
 
 -- the study, and the numbers of the row as they are lent
 abbrev Of : tie.Start Inv-loop μ-loop → Study
-Of c = studyBy (c .args .bytes .now) (c .args .r) (c .args .s) (c .args .steps)
+Of c = studyBy (c .args .bytes .now) (c .args .table .now) (c .args .r) (c .args .s) (c .args .steps)
 
 abbrev Row : tie.After-row Inv-loop μ-loop → List ℕ
-Row c = take (rowNumbers (A (c .before .before) .args .r .n)) (c .row .result)
+Row c = take (rowNumbers (A (In c .before) .args .r .n)) (c .row .result)
+
+-- the road of the turn, with the capacities of its step or, with an empty table, as it was
+turned : (c : tie.Joined1 Inv-loop μ-loop) →
+    let l = c .before .before in
+    Turned (Of (A l)) (l .loop .road) (l .loop .k) (c .if1 .road)
+turned c =
+    let l = c .before .before in
+    record {
+      before = l .loop .inv .1;
+      came = elim (c .if1 .came) [
+        | inl p ↦ inl (p .0 .taken, p .2 ∙ ap (withCapacity (l .loop .road)) (p .1 .ensures))
+        | inr p ↦ inr (p .0 .left, p .1)
+      ];
+    }
 
 -- what a turn knows
 turn : (c : tie.After-row Inv-loop μ-loop) →
-    let l = c .before .before in
-    RanTurn (Of (A l)) (l .loop .u) (l .loop .k) (A l .args .r) (Row c)
+    let l = In c .before in
+    RanTurn (Of (A l)) (l .loop .u) (l .loop .k) (c .before .if1 .road) (Row c)
 turn c =
-    let l = c .before .before in
+    let l = In c .before in
     record {
       ok = A l .pre .readable .ok;
-      ran = l .loop .inv .ran;
-      left = c .before .loop-test .taken;
-      road = same-road (Of (A l)) (l .loop .k);
+      ran = l .loop .inv .0 .ran;
+      left = In c .loop-test .taken;
+      road = turned-road (turned (c .before));
       numbers = c .row .ensures;
     }
 
-numbers : (c : tie.After-row Inv-loop μ-loop) → length (Row c) ≡ rowNumbers (A (c .before .before) .args .r .n)
-numbers c = let a = A (c .before .before) .args in ap length (c .row .ensures) ∙ length-row (a .bytes .now) (a .r .n) _
+numbers : (c : tie.After-row Inv-loop μ-loop) → length (Row c) ≡ rowNumbers (A (In c .before) .args .r .n)
+numbers c = let a = A (In c .before) .args in ap length (c .row .ensures) ∙ length-row (a .bytes .now) (a .r .n) _
 
 -- the part of the list that the turn's row goes to
 fits : (c : tie.In-loop Inv-loop μ-loop) → c .before .loop .to + places (Of (A (c .before))) ≤ length (c .before .loop .out)
-fits c = row-fits (c .before .loop .inv) (A (c .before) .pre .readable .ok) (A (c .before) .pre .long) (c .loop-test .taken)
+fits c = row-fits (c .before .loop .inv .0) (A (c .before) .pre .readable .ok) (A (c .before) .pre .long) (c .loop-test .taken)
 
 small : (c : tie.In-loop Inv-loop μ-loop) → c .before .loop .to + places (Of (A (c .before))) ≤ mostOutflows
-small c = row-ends-by (c .before .loop .inv) mostOutflows (A (c .before) .pre .readable .outflows) (c .loop-test .taken)
+small c = row-ends-by (c .before .loop .inv .0) mostOutflows (A (c .before) .pre .readable .outflows) (c .loop-test .taken)
 
 list-kept : (c : tie.At-loop Inv-loop μ-loop) → length (c .loop .out) ≡ length (A c .args .out .now)
-list-kept c = same-length (c .loop .inv) (A c .pre .readable .ok) (A c .pre .long)
+list-kept c = same-length (c .loop .inv .0) (A c .pre .readable .ok) (A c .pre .long)
 
 mul-numbers : tie.Need-mul-numbers Inv-loop μ-loop
 mul-numbers c = search needs
@@ -78,10 +99,22 @@ add-places : tie.Need-add-places Inv-loop μ-loop
 add-places c = search needs
 
 loop-holds : tie.Need-loop-holds Inv-loop μ-loop
-loop-holds c = made-none
+loop-holds c = (made-none, on-road)
+
+step-capacities-requires : tie.Need-step-capacities-requires Inv-loop μ-loop
+step-capacities-requires c κs =
+    let i = c .before in
+    let a = A (i .before) in
+    let t = a .pre .readable in (
+      t .ok .road .cells,
+      (
+        omega (arith, i .loop-test .taken, t .ok .steps),
+        rows-within (a .args .table .now) (a .args .r .n) (a .args .steps) (i .before .loop .k) (i .loop-test .taken) (t .table .right (c .if1 .taken)),
+      ),
+    )
 
 row-requires : tie.Need-row-requires Inv-loop μ-loop
-row-requires c κs = A (c .before) .pre .readable .row (c .before .loop .k) (c .loop-test .taken)
+row-requires c κs = let i = c .before in A (i .before) .pre .readable .row (i .before .loop .k) (i .loop-test .taken)
 
 array-share-prefix-row : tie.Need-array-share-prefix-row Inv-loop μ-loop
 array-share-prefix-row c = search needs
@@ -90,7 +123,7 @@ slice-aggregate-releases : tie.Need-slice-aggregate-releases Inv-loop μ-loop
 slice-aggregate-releases c = sym (numbers (c .before))
 
 releases-requires : tie.Need-releases-requires Inv-loop μ-loop
-releases-requires c κs = (A (c .before .before .before) .pre .readable .ok .road .cells, numbers (c .before))
+releases-requires c κs = releasable (turn (c .before))
 
 number-requires : tie.Need-number-requires Inv-loop μ-loop
 number-requires c κs = search needs
@@ -99,7 +132,7 @@ at-step-requires : tie.Need-at-step-requires Inv-loop μ-loop
 at-step-requires c κs = search needs
 
 same-length-fault : tie.Need-same-length Inv-loop μ-loop
-same-length-fault c = list-kept (to-row (c .before .before) .before .before)
+same-length-fault c = list-kept (In (to-row (c .before .before)) .before)
 
 returns : tie.Need-returns Inv-loop μ-loop
 returns c =
@@ -107,11 +140,11 @@ returns c =
     let t = turn (to-row f) in
     let e = f .before .releases .ensures in (
       ends-fault t e (search needs) (ap endAnswer (c .at-step .ensures)),
-      table-fault (to-row f .before .before .loop .inv) t e (search needs),
+      table-fault (In (to-row f) .before .loop .inv .0) t e (search needs),
     )
 
 add-end : tie.Need-add-end Inv-loop μ-loop
-add-end c = omega (arith, small (to-row (c .before) .before))
+add-end c = omega (arith, small (In (to-row (c .before))))
 
 array-share-prefix-row-2 : tie.Need-array-share-prefix-row-2 Inv-loop μ-loop
 array-share-prefix-row-2 c = search needs
@@ -120,7 +153,7 @@ slice-aggregate-next : tie.Need-slice-aggregate-next Inv-loop μ-loop
 slice-aggregate-next c = sym (numbers (to-row (to-fault c)))
 
 mul-next : tie.Need-mul-next Inv-loop μ-loop
-mul-next c = omega (arith, small (to-row (to-fault c) .before))
+mul-next c = omega (arith, small (In (to-row (to-fault c))))
 
 sub-next : tie.Need-sub-next Inv-loop μ-loop
 sub-next c = search needs
@@ -129,18 +162,20 @@ part-next-start : tie.Need-part-next-start Inv-loop μ-loop
 part-next-start c = search needs
 
 part-next-end : tie.Need-part-next-end Inv-loop μ-loop
-part-next-end c = omega (arith, fits (to-row (to-fault c) .before))
+part-next-end c = omega (arith, fits (In (to-row (to-fault c))))
 
 next-requires : tie.Need-next-requires Inv-loop μ-loop
 next-requires c κs =
     let f = to-fault (c .before) in
-    let l = to-row f .before .before in (
+    let l = In (to-row f) .before in (
       steps-on (turn (to-row f)) (f .before .releases .ensures) (search needs),
-      part-length (l .loop .out) (l .loop .to) (places (Of (A l))) (fits (to-row f .before)),
+      same-places (turn (to-row f)) (part-length (l .loop .out) (l .loop .to) (places (Of (A l))) (fits (In (to-row f)))),
     )
 
 add-k : tie.Need-add-k Inv-loop μ-loop
-add-k c = search needs
+add-k c =
+    let i = In (to-row (to-fault (c .before .before .before .before))) in
+    omega (arith, i .loop-test .taken, A (i .before) .pre .readable .ok .steps)
 
 loop-less : tie.Need-loop-less Inv-loop μ-loop
 loop-less c = search needs
@@ -149,7 +184,10 @@ loop-again : tie.Need-loop-again Inv-loop μ-loop
 loop-again c =
     let n = c .before .before in
     let f = to-fault (n .before .before) in
-    made-more (to-row f .before .before .loop .inv) (turn (to-row f)) (f .before .releases .ensures) (search needs) (n .next .ensures .0) (n .next .ensures .1)
+    let r = to-row f in (
+      made-more (In r .before .loop .inv .0) (turn r) (f .before .releases .ensures) (search needs) (n .next .ensures .0) (n .next .ensures .1),
+      turned-on (turned (r .before)),
+    )
 
 complete-requires : tie.Need-complete-requires Inv-loop μ-loop
 complete-requires c κs = search needs
@@ -160,7 +198,7 @@ same-length-end c = list-kept (c .before .before)
 returns-2 : tie.Need-returns-2 Inv-loop μ-loop
 returns-2 c =
     let l = c .before .before in
-    (ends-ran (l .loop .inv .ran) (search needs) (ap endAnswer (c .complete .ensures)), table-end (l .loop .inv) (search needs))
+    (ends-ran (l .loop .inv .0 .ran) (search needs) (ap endAnswer (c .complete .ensures)), table-end (l .loop .inv .0) (search needs))
 
 pub run-rows-spec : {M : Type 1} → statement M
 run-rows-spec =
@@ -172,6 +210,7 @@ run-rows-spec =
     add-numbers
     add-places
     loop-holds
+    step-capacities-requires
     row-requires
     array-share-prefix-row
     slice-aggregate-releases

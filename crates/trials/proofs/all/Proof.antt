@@ -6,11 +6,12 @@ use Rattle.trials.proofs.all.Statement.{statement}
 use Rattle.trials.proofs.all.Tie as tie
 
 abbrev Inv-loop : tie.InvT-loop
-Inv-loop record₀ list₀ target₀ out₀ tally₀ turns₀ «record» list target out tally turns =
-    (length «record» ≡ length record₀) × ((length list ≡ length list₀) × ((length target ≡ length target₀) × (length out ≡ length out₀)))
+Inv-loop record₀ table₀ list₀ target₀ out₀ tally₀ turns₀ «record» table list target out tally turns =
+    (length «record» ≡ length record₀) × ((length table ≡ length table₀) × ((length list ≡ length list₀)
+    × ((length target ≡ length target₀) × (length out ≡ length out₀))))
 
 abbrev μ-loop : tie.MeasureT-loop
-μ-loop record₀ list₀ target₀ out₀ tally₀ turns₀ «record» list target out tally turns = turns
+μ-loop record₀ table₀ list₀ target₀ out₀ tally₀ turns₀ «record» table list target out tally turns = turns
 
 loop-holds : tie.Need-loop-holds Inv-loop μ-loop
 loop-holds c = search needs
@@ -39,11 +40,11 @@ same-length-3 c = search needs
 same-length-4 : tie.Need-same-length-4 Inv-loop μ-loop
 same-length-4 c = search needs
 
-returns : tie.Need-returns Inv-loop μ-loop
-returns c = search needs
-
 same-length-5 : tie.Need-same-length-5 Inv-loop μ-loop
 same-length-5 c = search needs
+
+returns : tie.Need-returns Inv-loop μ-loop
+returns c = search needs
 
 same-length-6 : tie.Need-same-length-6 Inv-loop μ-loop
 same-length-6 c = search needs
@@ -53,6 +54,12 @@ same-length-7 c = search needs
 
 same-length-8 : tie.Need-same-length-8 Inv-loop μ-loop
 same-length-8 c = search needs
+
+same-length-9 : tie.Need-same-length-9 Inv-loop μ-loop
+same-length-9 c = search needs
+
+same-length-10 : tie.Need-same-length-10 Inv-loop μ-loop
+same-length-10 c = search needs
 
 returns-2 : tie.Need-returns-2 Inv-loop μ-loop
 returns-2 c = search needs
@@ -72,9 +79,11 @@ all-spec =
     same-length-2
     same-length-3
     same-length-4
-    returns
     same-length-5
+    returns
     same-length-6
     same-length-7
     same-length-8
+    same-length-9
+    same-length-10
     returns-2)

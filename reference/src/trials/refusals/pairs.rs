@@ -119,8 +119,8 @@ struct Table {
 impl Table {
     fn new(draft: &Draft) -> Table {
         let record = draft.encode();
-        let rows = own_rows(table_length(draft), &record);
-        let walk = Walk::new(&record, &rows);
+        let rows = own_rows(table_length(draft), &[], &record);
+        let walk = Walk::new(&record, &[], &rows);
         Table { record, rows, walk }
     }
 

@@ -18,7 +18,7 @@ pub fn add(cases: &mut Cases) {
 }
 
 fn rows_of(draft: &Draft) -> Vec<u32> {
-    own_rows(table_length(draft), &draft.encode())
+    own_rows(table_length(draft), &[], &draft.encode())
 }
 
 /// Off by one, by a row and by a column, empty and doubled.
@@ -57,7 +57,7 @@ fn around_greatest(cases: &mut Cases, draft: &Draft) {
 fn around_demand(cases: &mut Cases, draft: &Draft) {
     let record = draft.encode();
     let rows = rows_of(draft);
-    let walk = Walk::new(&record, &rows);
+    let walk = Walk::new(&record, &[], &rows);
     for t in 0..walk.steps() {
         for place in 0..=walk.road.n {
             for more in [0, 1] {

@@ -1,0 +1,16 @@
+-- `lanes::count` meets its contract: a byte has at most 8 lanes. Assumes nothing.
+use mathlib.Core.Path.{refl}
+use native.Mathlib.Omega.{arith}
+use lib.Count.{ones-le}
+use borrow.Author.Needs.{needs}
+use Rattle.lanes.proofs.count.Statement.{statement}
+use Rattle.lanes.proofs.count.Tie as tie
+
+cast-result : tie.Need-cast-result
+cast-result c = omega (arith, ones-le 8 (c .args .lanes) (search needs))
+
+returns : tie.Need-returns
+returns c = (refl, ones-le 8 (c .args .lanes) (search needs))
+
+pub count-spec : {M : Type 1} → statement M
+count-spec = tie.close (tie.spec cast-result returns)

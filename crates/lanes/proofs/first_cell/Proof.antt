@@ -1,0 +1,57 @@
+-- `lanes::first_cell` meets its contract. The invariant: the lanes of the i cells passed are as they should be. Assumes nothing.
+use Prim.Native.Nat.{_-_}
+use borrow.Author.Tests.{not-true, not-false}
+use Rattle.lanes.specs.Lanes.{lanesAt}
+use Rattle.lanes.specs.LanesLaws.{Passed, passed-none, passed-more, passed-stop, passed-end}
+use borrow.Author.Needs.{needs}
+use Rattle.lanes.proofs.first_cell.Statement.{statement}
+use Rattle.lanes.proofs.first_cell.Tie as tie
+
+abbrev Inv-loop : tie.InvT-loop
+Inv-loop n built usable i₀ i = Passed (lanesAt built usable) n i
+
+abbrev μ-loop : tie.MeasureT-loop
+μ-loop n built usable i₀ i = n - i
+
+loop-holds : tie.Need-loop-holds Inv-loop μ-loop
+loop-holds c = passed-none
+
+array-read-lanes-ok : tie.Need-array-read-lanes-ok Inv-loop μ-loop
+array-read-lanes-ok c = search needs
+
+array-read-lanes-ok-2 : tie.Need-array-read-lanes-ok-2 Inv-loop μ-loop
+array-read-lanes-ok-2 c = search needs
+
+lanes-ok-requires : tie.Need-lanes-ok-requires Inv-loop μ-loop
+lanes-ok-requires c κs = search needs
+
+returns : tie.Need-returns Inv-loop μ-loop
+returns c = let t = c .before in passed-stop (t .before .before .loop .inv) (t .before .loop-test .taken) (t .lanes-ok .ensures) (not-true _ (c .if1 .taken))
+
+add-i : tie.Need-add-i Inv-loop μ-loop
+add-i c = search needs
+
+loop-less : tie.Need-loop-less Inv-loop μ-loop
+loop-less c = search needs
+
+loop-again : tie.Need-loop-again Inv-loop μ-loop
+loop-again c = let t = c .before in passed-more (t .before .before .loop .inv) (t .before .loop-test .taken) (t .lanes-ok .ensures) (not-false _ (c .if1 .left))
+
+returns-2 : tie.Need-returns-2 Inv-loop μ-loop
+returns-2 c = passed-end (c .before .loop .inv) (search needs)
+
+pub first-cell-spec : {M : Type 1} → statement M
+first-cell-spec =
+    tie.close
+    (tie.spec
+    Inv-loop
+    μ-loop
+    loop-holds
+    array-read-lanes-ok
+    array-read-lanes-ok-2
+    lanes-ok-requires
+    returns
+    add-i
+    loop-less
+    loop-again
+    returns-2)

@@ -1,0 +1,59 @@
+-- `lanes::step_capacities` meets its contract: the rows that it cuts are those of the table. Assumes nothing.
+use mathlib.Core.Path.{sym}
+use native.Mathlib.Nat.{le-of-eq}
+use native.Mathlib.Omega.{arith}
+use lib.Seq.{length-take-le}
+use Rattle.rows.specs.TablesLaws.{part-length}
+use Rattle.lanes.specs.LanesLaws.{cut-capacities}
+use borrow.Author.Needs.{needs}
+use Rattle.lanes.proofs.step_capacities.Statement.{statement}
+use Rattle.lanes.proofs.step_capacities.Tie as tie
+
+-- the arguments, from the call
+abbrev A : tie.After-open-capacities-arg2 → tie.Start
+A c = c .before .before .before
+
+add-from : tie.Need-add-from
+add-from c = search needs
+
+mul-from : tie.Need-mul-from
+mul-from c = search needs
+
+add-end : tie.Need-add-end
+add-end c = search needs
+
+slice-aggregate-open-capacities : tie.Need-slice-aggregate-open-capacities
+slice-aggregate-open-capacities c = sym (length-take-le _ _ (search needs))
+
+sub-open-capacities : tie.Need-sub-open-capacities
+sub-open-capacities c = search needs
+
+part-open-capacities-start : tie.Need-part-open-capacities-start
+part-open-capacities-start c = search needs
+
+part-open-capacities-end : tie.Need-part-open-capacities-end
+part-open-capacities-end c = search needs
+
+open-capacities-requires : tie.Need-open-capacities-requires
+open-capacities-requires c κs =
+    let a = A c in (
+      a .pre .0,
+      (le-of-eq (sym (length-take-le _ _ (omega arith))), le-of-eq (sym (part-length (a .args .table .now) _ (a .args .n) (a .pre .1 .1)))),
+    )
+
+returns : tie.Need-returns
+returns c = let a = A (c .before) .args in cut-capacities (a .capacity) (a .table .now) (a .n) (a .k) (c .open-capacities .ensures)
+
+pub step-capacities-spec : {M : Type 1} → statement M
+step-capacities-spec =
+    tie.close
+    (tie.spec
+    add-from
+    mul-from
+    add-end
+    slice-aggregate-open-capacities
+    sub-open-capacities
+    part-open-capacities-start
+    part-open-capacities-end
+    open-capacities-requires
+    returns)
