@@ -6,7 +6,7 @@
 //! stands last.
 
 use crate::draft::CellDraft;
-use crate::record::{self, HEAD_BYTES};
+use crate::record;
 use std::fmt::Write;
 
 /// Most rows that a text can have.
@@ -15,7 +15,11 @@ const MAX_ROWS: usize = u16::MAX as usize;
 /// The text that gives these bytes again, or why there is none.
 pub fn text_of(bytes: &[u8]) -> Result<String, String> {
     let told = Told::of(bytes)?;
-    let mut out = format!("steps {}\n", told.rows.len());
+    let mut out = String::new();
+    if let Some(seconds) = told.seconds {
+        put(&mut out, format_args!("version 2\nseconds {seconds}\n"));
+    }
+    put(&mut out, format_args!("steps {}\n", told.rows.len()));
     put(&mut out, format_args!("gate capacity {}", told.gate.0));
     put_named(&mut out, "queue", told.gate.1);
     out.push('\n');
@@ -34,26 +38,46 @@ pub fn text_of(bytes: &[u8]) -> Result<String, String> {
 
 /// A record's values as far as its bytes go.
 struct Told {
+    /// A step's seconds, where the bytes are told as version 2.
+    seconds: Option<u16>,
     gate: (u32, u32),
     cells: Vec<CellDraft>,
     rows: Vec<Vec<u32>>,
 }
 
 impl Told {
-    /// Cells as many as byte 5 says and the bytes have, then rows to the end.
+    /// Laid out as byte 4 says. What is no version 2 though it says so may still
+    /// be told as a version 1 that is damaged there.
     fn of(bytes: &[u8]) -> Result<Told, String> {
-        let size = bytes.len();
-        if size < HEAD_BYTES {
+        match record::version_of(bytes) {
+            2 => Told::laid_out(bytes, 2)
+                .or_else(|reason| Told::laid_out(bytes, 1).map_err(|_| reason)),
+            _ => Told::laid_out(bytes, 1),
+        }
+    }
+
+    /// Cells as many as byte 5 says and the bytes have, then rows to the end.
+    fn laid_out(bytes: &[u8], version: u8) -> Result<Told, String> {
+        let (size, head) = (bytes.len(), record::head_bytes(version));
+        if size < head {
             return Err(format!(
-                "a record of {size} bytes has no whole head, which takes {HEAD_BYTES}"
+                "a record of {size} bytes has no whole head, which takes {head}"
             ));
         }
         let n = record::cells_of(bytes);
-        let after_cells = record::size(n, 0).min(size);
-        let cells = whole_cells(&bytes[HEAD_BYTES..after_cells])?;
+        let after_cells = record::size(version, n, 0).min(size);
+        let cells = whole_cells(&bytes[head..after_cells])?;
         let rows = whole_rows(&bytes[after_cells..], 1 + 2 * n)?;
-        let gate = (record::u32_at(bytes, 8), record::u32_at(bytes, 12));
-        Ok(Told { gate, cells, rows })
+        let gate = (
+            record::u32_at(bytes, head - 8),
+            record::u32_at(bytes, head - 4),
+        );
+        Ok(Told {
+            seconds: (version == 2).then(|| record::seconds_of(bytes)),
+            gate,
+            cells,
+            rows,
+        })
     }
 }
 
@@ -141,9 +165,10 @@ fn only_at_ramps(cells: &[CellDraft], row: &[u32]) -> bool {
 
 /// A `damage` line for each field of the head that the rest doesn't give.
 fn put_damage(out: &mut String, bytes: &[u8], told: &Told) {
+    let version = if told.seconds.is_some() { 2 } else { 1 };
     let fields = [
         ("length", record::u32_at(bytes, 0) as usize, bytes.len() - 4),
-        ("version", usize::from(bytes[4]), 1),
+        ("version", usize::from(bytes[4]), version),
         ("cells", record::cells_of(bytes), told.cells.len()),
         ("steps", record::steps_of(bytes), told.rows.len()),
     ];

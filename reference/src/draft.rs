@@ -22,6 +22,8 @@ pub struct Draft {
     /// The first field; without it the true count of bytes after it.
     pub length: Option<u32>,
     pub version: u8,
+    /// A step's seconds, which version 2 has.
+    pub seconds: Option<u16>,
     pub n: u8,
     pub steps: u16,
     pub gate_capacity: u32,
@@ -41,6 +43,7 @@ impl Draft {
         Draft {
             length: None,
             version: 1,
+            seconds: None,
             n: cells.len() as u8,
             steps: rows.len() as u16,
             gate_capacity: gate.0,
@@ -52,12 +55,26 @@ impl Draft {
         }
     }
 
+    /// The same as version 2, with a step's seconds.
+    pub fn timed(self, seconds: u16) -> Draft {
+        Draft {
+            version: 2,
+            seconds: Some(seconds),
+            ..self
+        }
+    }
+
     /// The record's bytes.
     pub fn encode(&self) -> Vec<u8> {
         let mut bytes = vec![0; 4];
         bytes.push(self.version);
         bytes.push(self.n);
         bytes.extend(self.steps.to_be_bytes());
+        bytes.extend(
+            self.seconds
+                .iter()
+                .flat_map(|seconds| seconds.to_be_bytes()),
+        );
         bytes.extend(self.gate_capacity.to_be_bytes());
         bytes.extend(self.gate_queue.to_be_bytes());
         for cell in &self.cells {

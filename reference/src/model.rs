@@ -8,6 +8,10 @@
 pub struct Road {
     /// Number of cells.
     pub n: usize,
+    /// The record's version, 1 or 2.
+    pub version: u8,
+    /// A step's seconds, from version 2 on.
+    pub seconds: u16,
     pub gate_capacity: u32,
     /// Speed, in thousandths.
     pub v: [u16; Road::MAX_CELLS],
@@ -34,11 +38,15 @@ impl Road {
     pub const MAX_START_QUEUE: u32 = 1_000_000_000;
     /// Bound of speed, wave and share, and the gate's share.
     pub const WHOLE: u16 = 1_000;
+    /// Bound of a step's seconds.
+    pub const MAX_SECONDS: u16 = 900;
 
     /// The all-zero road.
     pub const fn empty() -> Road {
         Road {
             n: 0,
+            version: 0,
+            seconds: 0,
             gate_capacity: 0,
             v: [0; Road::MAX_CELLS],
             w: [0; Road::MAX_CELLS],

@@ -31,7 +31,15 @@ pub fn printed_under(record: &[u8], table: &[u8]) -> String {
         print_step(&mut out, &state, t, flows);
     }
     put(&mut out, format_args!("{}\n", sums(&answer)));
+    if answer.road.version == 2 {
+        put(&mut out, format_args!("seconds {}\n", seconds(&answer)));
+    }
     out
+}
+
+/// Total time spent in whole vehicle-seconds, rounded down.
+fn seconds(answer: &Answer) -> u128 {
+    answer.state.total() * u128::from(answer.road.seconds) / 1_000
 }
 
 /// The rows that running writes, as the text of a schedule: a line a step.

@@ -1,11 +1,24 @@
-//! Reading a record: refusals 1 to 6.
+//! Reading a record: refusals 1, 2, 3, 19, 4, 5 and 6, in this order.
+//!
+//! Version 2 has a step's seconds in two bytes after byte 7, and all that follows
+//! stands two bytes later.
 
 use crate::limits;
 use crate::model::{Road, State};
 
-/// Bytes before the first cell, and of a cell.
-pub const HEAD_BYTES: usize = 16;
+/// Bytes of a cell.
 pub const CELL_BYTES: usize = 24;
+/// Where a step's seconds stand in version 2.
+const SECONDS_AT: usize = 8;
+
+/// Bytes before the first cell. The gate's capacity and queue are the last of
+/// them.
+pub fn head_bytes(version: u8) -> usize {
+    match version {
+        2 => 18,
+        _ => 16,
+    }
+}
 
 /// What reading gives. After a refusal road and state are all zero and T is 0.
 #[derive(Clone, Copy, Debug, PartialEq, Eq)]
@@ -57,8 +70,8 @@ pub fn read(record: &[u8]) -> Reading {
 }
 
 /// Number of bytes of a record of n cells and T steps.
-pub fn size(n: usize, steps: usize) -> usize {
-    HEAD_BYTES + CELL_BYTES * n + steps * (4 + 8 * n)
+pub fn size(version: u8, n: usize, steps: usize) -> usize {
+    head_bytes(version) + CELL_BYTES * n + steps * (4 + 8 * n)
 }
 
 /// The row of a step, of 1 + 2n numbers, from a record of the right size.
@@ -68,13 +81,14 @@ pub fn row(record: &[u8], n: usize, step: usize) -> Vec<u32> {
 
 /// The numbers of a step's row where a record of n cells has them, for any
 /// bytes. A number whose four bytes aren't all there is 0, and so are those
-/// past the row. All are 0 for n above 64 or a step from 1,440 on.
+/// past the row. All are 0 for n above 64 or a step from 1,440 on. Byte 4 says
+/// the version; bytes that don't reach it are laid out as version 1.
 pub fn row_numbers(bytes: &[u8], n: usize, step: usize) -> [u32; Road::MAX_ROW] {
     let mut numbers = [0; Road::MAX_ROW];
     if n > Road::MAX_CELLS || step >= Road::MAX_STEPS {
         return numbers;
     }
-    let start = size(n, step);
+    let start = size(version_of(bytes), n, step);
     for (k, number) in numbers[..1 + 2 * n].iter_mut().enumerate() {
         let at = start + 4 * k;
         if at + 4 <= bytes.len() {
@@ -86,32 +100,46 @@ pub fn row_numbers(bytes: &[u8], n: usize, step: usize) -> [u32; Road::MAX_ROW] 
 
 /// Puts a step's row of 1 + 2n numbers into a record of the right size.
 pub fn put_row(record: &mut [u8], n: usize, step: usize, row: &[u32]) {
-    let start = size(n, step);
+    let start = size(version_of(record), n, step);
     for (k, number) in row.iter().enumerate() {
         let at = start + 4 * k;
         record[at..at + 4].copy_from_slice(&number.to_be_bytes());
     }
 }
 
-/// Refusals 1 to 4: the record's frame.
+/// Refusals 1 to 4 and 19: the record's frame.
 fn frame_fault(record: &[u8]) -> Option<u32> {
-    if record.len() < HEAD_BYTES || record.len() > Road::MAX_BYTES {
+    let version = version_of(record);
+    if record.len() < head_bytes(version) || record.len() > Road::MAX_BYTES {
         return Some(1);
     }
     if u32_at(record, 0) as usize != record.len() - 4 {
         return Some(1);
     }
-    if record[4] != 1 {
+    if !version_fits(version) {
         return Some(2);
     }
     let (n, steps) = (cells_of(record), steps_of(record));
     if !counts_fit(n, steps) {
         return Some(3);
     }
-    if record.len() != size(n, steps) {
+    if !seconds_fit(version, seconds_of(record)) {
+        return Some(19);
+    }
+    if record.len() != size(version, n, steps) {
         return Some(4);
     }
     None
+}
+
+/// The version is known.
+pub fn version_fits(version: u8) -> bool {
+    version == 1 || version == 2
+}
+
+/// A step's seconds are 1 to 900; version 1 has none.
+pub fn seconds_fit(version: u8, seconds: u16) -> bool {
+    version != 2 || (1..=Road::MAX_SECONDS).contains(&seconds)
 }
 
 /// n and T are within their limits.
@@ -133,10 +161,13 @@ fn road_and_state(record: &[u8], n: usize) -> (Road, State) {
     let mut road = Road::empty();
     let mut state = State::empty();
     road.n = n;
-    road.gate_capacity = u32_at(record, 8);
-    state.gate_queue = u32_at(record, 12);
+    road.version = version_of(record);
+    road.seconds = seconds_of(record);
+    let head = head_bytes(road.version);
+    road.gate_capacity = u32_at(record, head - 8);
+    state.gate_queue = u32_at(record, head - 4);
     for i in 0..n {
-        let at = HEAD_BYTES + CELL_BYTES * i;
+        let at = head + CELL_BYTES * i;
         road.v[i] = u16_at(record, at);
         road.w[i] = u16_at(record, at + 2);
         road.b[i] = u16_at(record, at + 4);
@@ -147,6 +178,19 @@ fn road_and_state(record: &[u8], n: usize) -> (Road, State) {
         state.queue[i] = u32_at(record, at + 20);
     }
     (road, state)
+}
+
+/// The version that byte 4 says; 1 where there is no such byte.
+pub fn version_of(record: &[u8]) -> u8 {
+    record.get(4).copied().unwrap_or(1)
+}
+
+/// A step's seconds as version 2 has them, 0 in other versions.
+pub fn seconds_of(record: &[u8]) -> u16 {
+    match version_of(record) {
+        2 => u16_at(record, SECONDS_AT),
+        _ => 0,
+    }
 }
 
 /// n as the record names it.

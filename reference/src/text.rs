@@ -3,6 +3,8 @@
 //! One statement a line; `#` starts a comment; the numbers are decimal.
 //!
 //! ```text
+//! version 1|2                                without it the version is 1
+//! seconds N                                  a step's seconds, of version 2 alone
 //! steps T                                    number of steps, as many as rows
 //! gate capacity N [queue N]
 //! [repeat K] cell v N w N b N jam N capacity N [ramp N] [held N] [queue N]
@@ -230,6 +232,9 @@ enum Damage {
 /// What the lines so far have said.
 #[derive(Default)]
 struct Sheet {
+    version: Option<u8>,
+    /// The line of `seconds` and its number.
+    seconds: Option<(usize, u16)>,
     /// The line of `steps` and its number.
     steps: Option<(usize, u64)>,
     gate: Option<(u32, u32)>,
@@ -241,6 +246,8 @@ struct Sheet {
 impl Sheet {
     fn statement(&mut self, words: &mut Words) -> Result<(), TextError> {
         match words.word("a statement")? {
+            "version" => self.version_line(words)?,
+            "seconds" => self.seconds_line(words)?,
             "steps" => self.steps_line(words)?,
             "gate" => self.gate_line(words)?,
             "cell" => self.cell_lines(words, 1)?,
@@ -259,6 +266,27 @@ impl Sheet {
             other => return words.error(format!("unknown statement '{other}'")),
         }
         words.end()
+    }
+
+    fn version_line(&mut self, words: &mut Words) -> Result<(), TextError> {
+        if self.version.is_some() {
+            return words.error("'version' stands twice".to_string());
+        }
+        match words.number("version", 2)? {
+            0 => words.error("there is no version 0, only 1 and 2".to_string()),
+            version => {
+                self.version = Some(version as u8);
+                Ok(())
+            }
+        }
+    }
+
+    fn seconds_line(&mut self, words: &mut Words) -> Result<(), TextError> {
+        if self.seconds.is_some() {
+            return words.error("'seconds' stands twice".to_string());
+        }
+        self.seconds = Some((words.line, words.number("seconds", U16)? as u16));
+        Ok(())
     }
 
     fn steps_line(&mut self, words: &mut Words) -> Result<(), TextError> {
@@ -387,6 +415,15 @@ impl Sheet {
             return Err(TextError { line, message });
         }
         let draft = Draft::new(gate, self.cells, self.rows);
+        let draft = match (self.version, self.seconds) {
+            (Some(2), Some((_, seconds))) => draft.timed(seconds),
+            (Some(2), None) => return Err(missing("seconds")),
+            (_, Some((line, _))) => {
+                let message = "only version 2 has seconds".to_string();
+                return Err(TextError { line, message });
+            }
+            (_, None) => draft,
+        };
         encode_damaged(draft, &self.damage)
     }
 }

@@ -1,8 +1,8 @@
-//! Writing a record: refusals 3, 1, 4, 5, 6 and 15, in this order.
+//! Writing a record: refusals 2, 3, 19, 1, 4, 5, 6 and 15, in this order.
 
 use crate::limits;
 use crate::model::{Road, Start, State};
-use crate::record::{self, CELL_BYTES, HEAD_BYTES};
+use crate::record;
 
 /// What writing returns.
 #[derive(Clone, Copy, Debug, PartialEq, Eq)]
@@ -33,7 +33,7 @@ pub fn write(road: &Road, steps: usize, start: &Start, rows: &[u32], target: &mu
     if let Some((number, place)) = fault(road, steps, start, rows) {
         return Written::refused(number, place);
     }
-    let size = record::size(road.n, steps);
+    let size = record::size(road.version, road.n, steps);
     if target.len() < size {
         return Written::refused(15, 0);
     }
@@ -45,13 +45,19 @@ pub fn write(road: &Road, steps: usize, start: &Start, rows: &[u32], target: &mu
     }
 }
 
-/// Refusals 3, 1, 4, 5 and 6, with their place. Once n and T are within their
-/// limits no size can overflow.
+/// Refusals 2, 3, 19, 1, 4, 5 and 6, with their place. Once n and T are within
+/// their limits no size can overflow. Version 1's seconds aren't looked at.
 fn fault(road: &Road, steps: usize, start: &Start, rows: &[u32]) -> Option<(u32, usize)> {
+    if !record::version_fits(road.version) {
+        return Some((2, 0));
+    }
     if !record::counts_fit(road.n, steps) {
         return Some((3, 0));
     }
-    if record::size(road.n, steps) > Road::MAX_BYTES {
+    if !record::seconds_fit(road.version, road.seconds) {
+        return Some((19, 0));
+    }
+    if record::size(road.version, road.n, steps) > Road::MAX_BYTES {
         return Some((1, 0));
     }
     let width = 1 + 2 * road.n;
@@ -69,14 +75,17 @@ fn fault(road: &Road, steps: usize, start: &Start, rows: &[u32]) -> Option<(u32,
 
 /// The bytes of a record that no refusal meets.
 fn encoded(road: &Road, steps: usize, start: &Start, rows: &[u32]) -> Vec<u8> {
-    let size = record::size(road.n, steps);
+    let size = record::size(road.version, road.n, steps);
     let mut bytes = Vec::with_capacity(size);
     bytes.extend((size as u32 - 4).to_be_bytes());
-    bytes.extend([1, road.n as u8]);
+    bytes.extend([road.version, road.n as u8]);
     bytes.extend((steps as u16).to_be_bytes());
+    if road.version == 2 {
+        bytes.extend(road.seconds.to_be_bytes());
+    }
     bytes.extend(road.gate_capacity.to_be_bytes());
     bytes.extend(start.gate_queue.to_be_bytes());
-    debug_assert_eq!(bytes.len(), HEAD_BYTES);
+    debug_assert_eq!(bytes.len(), record::head_bytes(road.version));
     for i in 0..road.n {
         for number in [road.v[i], road.w[i], road.b[i], road.ramp[i]] {
             bytes.extend(number.to_be_bytes());
@@ -85,7 +94,7 @@ fn encoded(road: &Road, steps: usize, start: &Start, rows: &[u32]) -> Vec<u8> {
             bytes.extend(number.to_be_bytes());
         }
     }
-    debug_assert_eq!(bytes.len(), HEAD_BYTES + CELL_BYTES * road.n);
+    debug_assert_eq!(bytes.len(), record::size(road.version, road.n, 0));
     for number in rows {
         bytes.extend(number.to_be_bytes());
     }

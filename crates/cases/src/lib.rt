@@ -116,9 +116,9 @@ fn step_line(
     case::whole(line::of_step(out, at, road, stepped))
 }
 
-// The road and the state take 1,836 bytes; the lanes built and open stand after the row.
+// The road and the state take 1,844 bytes; the lanes built and open stand after the row.
 fn step(record: &mut [u8], list: &mut [u32], out: &mut [u8], at: usize) -> Case {
-    let mut bytes = [0u8; 1836];
+    let mut bytes = [0u8; 1844];
     if !input::fills(&mut bytes) {
         return case::cut();
     }

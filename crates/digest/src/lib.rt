@@ -36,6 +36,8 @@ fn fed_long(digest: u32, x: u64) -> u32 {
 
 fn fed_road(digest: u32, road: Road) -> u32 {
     let mut d = fed(digest, low(road.n as u64));
+    d = fed_byte(d, road.version);
+    d = fed_short(d, road.seconds);
     d = fed(d, road.gate_capacity);
     let mut i = 0;
     while i < Road::CELLS {

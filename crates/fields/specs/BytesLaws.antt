@@ -83,9 +83,17 @@ field-before a b offset w x h f = record { byte = λ k l. at-first a b (offset +
 pub field-in : (f : ℕ → List ℕ) (size n i offset w x : ℕ) → ((j : ℕ) → length (f j) ≡ size) → i < n → offset + w ≤ size
     → Field (f i) offset w x → Field (concatOf f n) (i * size + offset) w x
 field-in f size n i offset w x same l h g =
-    record { byte = λ k m. let z : i * size + offset + k ≡ i * size + (offset + k) = omega arith in rw z (concat-at f size same n i (offset + k) l (omega arith) ∙ g .byte k m) }
+    record {
+      byte = λ k m.
+          let z : i * size + offset + k ≡ i * size + (offset + k) = omega arith in
+          rw z (concat-at f size same n i (offset + k) l (omega arith) ∙ g .byte k m);
+    }
 
--- and is read there, at the same offset however it is written
+-- at the same offset however it is written
+pub field-there : {s : List ℕ} {offset place w x : ℕ} → offset ≡ place → Field s offset w x → Field s place w x
+field-there e f = record { byte = λ k l. rw (← e) (f .byte k l) }
+
+-- and is read there
 pub field-number : (s : List ℕ) (offset place w x : ℕ) → offset ≡ place → x < 256 ^ w → Field s offset w x → numberOf s place w ≡ x
 field-number s offset place w x e h f =
     number-same s (bytesOf w x) place 0 w (λ k l. let z : 0 + k ≡ k = omega arith in rw (z, ← e) (f .byte k l)) ∙ number-bytes w x h

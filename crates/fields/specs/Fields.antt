@@ -1,21 +1,46 @@
 -- docs/MODEL.md, 'The record': where each field stands, and the numbers, columns and rows that the bytes give. Assumes nothing.
+use mathlib.Core.Bool.{cond}
 use mathlib.Core.List.{List, [], _∷_, _++_}
 use Prim.Native.Nat.{ℕ, zero, suc, _+_, _*_, _/_, _%_, _≤_}
+use lib.Dec.{eqb}
 use lib.ListN.{length}
 use Rattle.numbers.specs.Lists.{at}
 use Rattle.road.specs.Road.{mostCells, zeros}
 use Rattle.rows.specs.Rows.{fillOf, listOf}
 
+-- all fields are big-endian and unsigned: the number in the w bytes from i, the highest byte first
+unfoldable pub numberOf : List ℕ → ℕ → ℕ → ℕ
+numberOf s i zero = 0
+numberOf s i (suc w) = numberOf s i w * 256 + at s (i + w)
+
+-- the other way round: the w bytes of a number
+unfoldable pub bytesOf : ℕ → ℕ → List ℕ
+bytesOf zero x = []
+bytesOf (suc w) x = bytesOf w (x / 256) ++ (x % 256 ∷ [])
+
+-- a number has four bytes, a short one two
+abbrev pub numberSize : ℕ
+numberSize = 4
+
+abbrev pub shortSize : ℕ
+shortSize = 2
+
 -- bytes 0 to 3: the number of bytes that follow them
 abbrev pub countSize : ℕ
 countSize = 4
 
--- byte 4: version 1
+-- byte 4: the version, 1 or 2
 abbrev pub versionOffset : ℕ
 versionOffset = 4
 
-abbrev pub recordVersion : ℕ
-recordVersion = 1
+abbrev pub firstVersion : ℕ
+firstVersion = 1
+
+abbrev pub secondVersion : ℕ
+secondVersion = 2
+
+abbrev pub versionOf : List ℕ → ℕ
+versionOf s = numberOf s versionOffset 1
 
 -- byte 5: n
 abbrev pub cellsOffset : ℕ
@@ -25,26 +50,30 @@ cellsOffset = 5
 abbrev pub stepsOffset : ℕ
 stepsOffset = 6
 
--- bytes 8 to 11: gate capacity
-abbrev pub gateCapacityOffset : ℕ
-gateCapacityOffset = 8
+-- version 2 has two more bytes after byte 7, the step's seconds, and all that follows stands two bytes later; other versions have none
+abbrev pub secondsOffset : ℕ
+secondsOffset = 8
 
--- bytes 12 to 15: gate queue
-abbrev pub gateQueueOffset : ℕ
-gateQueueOffset = 12
+unfoldable pub secondsSize : ℕ → ℕ
+secondsSize version = cond (eqb version secondVersion) shortSize 0
+
+-- bytes 8 to 11 of version 1: gate capacity
+abbrev pub gateCapacityOffset : ℕ → ℕ
+gateCapacityOffset version = 8 + secondsSize version
+
+-- bytes 12 to 15 of version 1: gate queue
+abbrev pub gateQueueOffset : ℕ → ℕ
+gateQueueOffset version = 12 + secondsSize version
 
 -- all that before the cells
-abbrev pub headerSize : ℕ
-headerSize = 16
+abbrev pub headerSize : ℕ → ℕ
+headerSize version = 16 + secondsSize version
 
 -- then 24 bytes a cell
 abbrev pub cellSize : ℕ
 cellSize = 24
 
 -- v, w, b, ramp mark, two bytes each
-abbrev pub shortSize : ℕ
-shortSize = 2
-
 abbrev pub speedOffset : ℕ
 speedOffset = 0
 
@@ -58,9 +87,6 @@ abbrev pub rampOffset : ℕ
 rampOffset = 6
 
 -- J, C, held, ramp queue, four bytes each
-abbrev pub numberSize : ℕ
-numberSize = 4
-
 abbrev pub jamOffset : ℕ
 jamOffset = 8
 
@@ -80,23 +106,17 @@ ratesSize = 8
 abbrev pub rowSize : ℕ → ℕ
 rowSize n = numberSize + ratesSize * n
 
--- where the row of step t starts; the whole is 16 + 24n + T × (4 + 8n) bytes
-abbrev pub rowStart : ℕ → ℕ → ℕ
-rowStart n t = headerSize + cellSize * n + t * rowSize n
+-- where the row of step t starts; the whole is 16 + 24n + T × (4 + 8n) bytes, in version 2 two more
+abbrev pub rowStart : ℕ → ℕ → ℕ → ℕ
+rowStart version n t = headerSize version + cellSize * n + t * rowSize n
 
--- all fields are big-endian and unsigned: the number in the w bytes from i, the highest byte first
-unfoldable pub numberOf : List ℕ → ℕ → ℕ → ℕ
-numberOf s i zero = 0
-numberOf s i (suc w) = numberOf s i w * 256 + at s (i + w)
-
--- the other way round: the w bytes of a number
-unfoldable pub bytesOf : ℕ → ℕ → List ℕ
-bytesOf zero x = []
-bytesOf (suc w) x = bytesOf w (x / 256) ++ (x % 256 ∷ [])
+-- the step's seconds, 0 where the version has none
+abbrev pub secondsOf : List ℕ → ℕ
+secondsOf s = numberOf s secondsOffset (secondsSize (versionOf s))
 
 -- the field of w bytes at an offset into the cell at i
 abbrev pub fieldOf : List ℕ → ℕ → ℕ → ℕ → ℕ
-fieldOf s offset w i = numberOf s (headerSize + cellSize * i + offset) w
+fieldOf s offset w i = numberOf s (headerSize (versionOf s) + cellSize * i + offset) w
 
 -- one field of each of the n cells, in an array of 64; entries past cell n are 0
 abbrev pub columnOf : List ℕ → ℕ → ℕ → ℕ → List ℕ
@@ -104,7 +124,7 @@ columnOf s offset w n = fillOf (fieldOf s offset w) n zeros
 
 -- number k of the row of step t
 abbrev pub entryOf : List ℕ → ℕ → ℕ → ℕ → ℕ
-entryOf s n t k = numberOf s (rowStart n t + numberSize * k) numberSize
+entryOf s n t k = numberOf s (rowStart (versionOf s) n t + numberSize * k) numberSize
 
 -- how many numbers a row of n cells has
 abbrev pub rowNumbers : ℕ → ℕ
@@ -117,4 +137,4 @@ recordRow s n t = listOf (entryOf s n t) (rowNumbers n)
 -- what taking the row of step t of n cells asks: the bytes hold it
 pub record HoldsRow (s : List ℕ) (n t : ℕ) : Type 0 where
   pub cells : n ≤ mostCells
-  pub row : rowStart n t + rowSize n ≤ length s
+  pub row : rowStart (versionOf s) n t + rowSize n ≤ length s

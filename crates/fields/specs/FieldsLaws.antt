@@ -1,18 +1,22 @@
 -- Laws of the record's fields. Assumes nothing.
 use mathlib.Core.Path.{_≡_, refl, ap, _∙_}
+use mathlib.Core.Bool.{Bool, true, false, cond}
 use mathlib.Core.List.{List}
 use Prim.Native.Nat.{ℕ, _+_, _*_, _^_, _≤_, _<_}
-use native.Mathlib.Nat.{pow-suc, pow-le-pow-right, mul-le-mul-right, suc-mul}
+use native.Mathlib.Nat.{pow-suc, pow-le-pow-right, mul-le-mul, mul-le-mul-right, suc-mul}
 use native.Mathlib.Numerals.{add-one}
 use native.Mathlib.Omega.{arith}
+use lib.Dec.{eqb}
+use borrow.Author.Tests.{eq-eqb, ne-eqb}
 use lib.ListN.{length, take, drop, set, replicate, length-replicate}
 use lib.Seq.{take-at}
 use Rattle.numbers.specs.Lists.{at}
-use Rattle.road.specs.Road.{mostCells, zeros}
+use Rattle.road.specs.Road.{mostCells, mostSteps, zeros}
 use Rattle.road.specs.RoadLaws.{length-zeros, zeros-at}
 use Rattle.rows.specs.Rows.{fillOf}
 use Rattle.rows.specs.RowsLaws.{fill-at, fill-more, fill-past, fill-list, length-fill, length-list, list-at}
-use Rattle.fields.specs.Fields.{rowSize, rowStart, numberOf, fieldOf, columnOf, entryOf, recordRow, HoldsRow}
+use Rattle.fields.specs.Fields.{shortSize, secondVersion, versionOf, secondsSize, cellSize, rowSize, rowStart}
+use Rattle.fields.specs.Fields.{numberOf, fieldOf, columnOf, entryOf, recordRow, HoldsRow}
 
 pub number-more : (s : List ℕ) (i w : ℕ) → numberOf s i (w + 1) ≡ numberOf s i w * 256 + at s (i + w)
 unfolding numberOf
@@ -24,6 +28,26 @@ power-more k r b h l = rw (add-one, pow-suc) (omega arith)
 
 pub power-small : (k : ℕ) → k ≤ 3 → 256 ^ k ≤ 16777216
 power-small k h = let p : 0 < 256 = omega arith in pow-le-pow-right p h
+
+pub power-short : (k : ℕ) → k ≤ shortSize → 256 ^ k ≤ 65536
+power-short k h = let p : 0 < 256 = omega arith in pow-le-pow-right p h
+
+-- the bytes of the step's seconds: two in version 2, none in any other
+pub seconds-second : (version : ℕ) → version ≡ secondVersion → secondsSize version ≡ shortSize
+unfolding secondsSize
+seconds-second version e = rw (eq-eqb version secondVersion e)
+
+pub seconds-none : (version : ℕ) → (version ≡ secondVersion → ⊥) → secondsSize version ≡ 0
+unfolding secondsSize
+seconds-none version h = rw (ne-eqb version secondVersion h)
+
+pub seconds-most : (version : ℕ) → secondsSize version ≤ shortSize
+unfolding secondsSize
+seconds-most version = go (eqb version secondVersion)
+  where
+    go : (b : Bool) → cond b shortSize 0 ≤ shortSize
+    go true = omega arith
+    go false = omega arith
 
 -- a column l of n cells: an entry up to cell n is that cell's field, and an entry past it is 0
 pub record Column (s : List ℕ) (offset w n : ℕ) (l : List ℕ) : Type 0 where
@@ -64,12 +88,21 @@ length-row s n t = length-list (entryOf s n t) (1 + 2 * n)
 pub row-at : (s : List ℕ) (n t k : ℕ) → k < 1 + 2 * n → at (recordRow s n t) k ≡ entryOf s n t k
 row-at s n t k l = list-at (entryOf s n t) (1 + 2 * n) k l
 
-pub row-within : (n t T : ℕ) → t < T → rowStart n t + rowSize n ≤ rowStart n T
-row-within n t T h = omega (arith, suc-mul t (rowSize n), mul-le-mul-right (rowSize n) h)
+pub row-within : (version n t T : ℕ) → t < T → rowStart version n t + rowSize n ≤ rowStart version n T
+row-within version n t T h = omega (arith, suc-mul t (rowSize n), mul-le-mul-right (rowSize n) h)
+
+-- with n and t within their limits it starts at a number that is small to a machine
+abbrev pub mostSize : ℕ
+mostSize = 16 + shortSize + cellSize * mostCells + mostSteps * rowSize mostCells
+
+pub start-small : (version n t : ℕ) → n ≤ mostCells → t ≤ mostSteps → rowStart version n t ≤ mostSize
+start-small version n t h l =
+    let k : rowSize n ≤ rowSize mostCells = omega arith in
+    omega (arith, seconds-most version, mul-le-mul l k)
 
 -- bytes that hold T rows hold each
-pub holds-row : (s : List ℕ) (n t T : ℕ) → n ≤ mostCells → rowStart n T ≤ length s → t < T → HoldsRow s n t
-holds-row s n t T h k l = record { cells = h; row = omega (arith, row-within n t T l) }
+pub holds-row : (s : List ℕ) (n t T : ℕ) → n ≤ mostCells → rowStart (versionOf s) n T ≤ length s → t < T → HoldsRow s n t
+holds-row s n t T h k l = record { cells = h; row = omega (arith, row-within (versionOf s) n t T l) }
 
 -- the numbers of a row, taken from the array that they were stored in
 pub row-taken : (s : List ℕ) (n t : ℕ) (r : List ℕ) → n ≤ 64

@@ -5,7 +5,7 @@ use Prim.Native.Nat.{ℕ, suc, _+_, _/_, _%_}
 use native.Mathlib.Numerals.{add-one}
 use native.Mathlib.Omega.{arith}
 use lib.ListN.{length, set}
-use Rattle.rows.specs.Placed.{placed, length-placed, Puts}
+use Rattle.rows.specs.Placed.{placed, placed-none, length-placed, Puts}
 use Rattle.fields.specs.Fields.{bytesOf}
 use Rattle.fields.specs.BytesLaws.{length-bytes}
 
@@ -17,6 +17,11 @@ pub record Stored (before : List ℕ) (at w x : ℕ) (after : List ℕ) (end : �
 
 pub stored : (before : List ℕ) (at w x : ℕ) (after : List ℕ) → after ≡ placed before at (bytesOf w x) → Stored before at w x after (at + w)
 stored before at w x after e = record { next = refl; same = rw e (length-placed before at (bytesOf w x)); bytes = e }
+
+-- a number without bytes leaves all as it was
+pub stored-none : (before : List ℕ) (at x : ℕ) {w : ℕ} → w ≡ 0 → Stored before at w x before at
+unfolding bytesOf
+stored-none before at x e = rw e (record { next = omega arith; same = refl; bytes = sym (placed-none before at) })
 
 pub stored-puts : {before : List ℕ} {at w x : ℕ} {after : List ℕ} {end : ℕ} → Stored before at w x after end → Puts before at (bytesOf w x) after end
 stored-puts {w = w} {x = x} h = (omega (arith, h .next, length-bytes w x), h .bytes)

@@ -2,13 +2,16 @@
 ghost use mathlib.Core.Path.{_≡_};
 ghost use Prim.Native.Nat.{_+_, _*_, _^_, _≤_, _<_};
 ghost use lib.ListN.{length, take};
-ghost use Rattle.fields.specs.Fields.{shortSize, numberSize, cellSize, rowStart, numberOf, columnOf, recordRow, HoldsRow};
+ghost use Rattle.fields.specs.Fields.{shortSize, numberSize, versionOffset, versionOf, secondsSize, secondsOf, headerSize, cellSize, rowStart};
+ghost use Rattle.fields.specs.Fields.{numberOf, columnOf, recordRow, HoldsRow};
 ghost use Rattle.fields.specs.Stored.{Stored};
 
-// The version of the layout below.
-pub const VERSION: u32 = 1;
+// The versions of the layout: version 2 has two more bytes after byte 7, and all that follows stands two bytes later.
+pub const FIRST_VERSION: u8 = 1;
 
-// Sizes in bytes: of the header, of its first field, of a cell, and of a cell's two numbers in a row.
+pub const SECOND_VERSION: u8 = 2;
+
+// Sizes in bytes: of version 1's header, of its first field, of a cell, and of a cell's two numbers in a row.
 pub const HEADER_SIZE: usize = 16;
 
 pub const COUNT_SIZE: usize = 4;
@@ -17,17 +20,19 @@ const CELL_SIZE: usize = 24;
 
 const RATES_SIZE: usize = 8;
 
-// Sizes of a field: v, w, b, the ramp mark and T have two bytes, the other numbers four.
+// Sizes of a field: v, w, b, the ramp mark, T and the seconds have two bytes, the other numbers four.
 pub const SHORT_SIZE: usize = 2;
 
 pub const NUMBER_SIZE: usize = 4;
 
-// The header's fields, each at the byte where it starts: the version, n, T, the gate's capacity and queue.
+// The header's fields, each at the byte where it starts: the version, n, T, version 2's seconds, and the gate's capacity and queue in version 1.
 pub const VERSION_OFFSET: usize = 4;
 
 pub const CELLS_OFFSET: usize = 5;
 
 pub const STEPS_OFFSET: usize = 6;
+
+const SECONDS_OFFSET: usize = 8;
 
 pub const GATE_CAPACITY_OFFSET: usize = 8;
 
@@ -79,15 +84,49 @@ pub fn short(bytes: &[u8], i: usize) -> u16
     number(bytes, i, SHORT_SIZE) as u16
 }
 
+// The version that the bytes name.
+pub fn version(bytes: &[u8]) -> u8
+    requires { ⌜ versionOffset + 1 ≤ length (now bytes) ⌝ }
+    ensures { λ r. ⌜ r ≡ versionOf (now (bytes .entry)) ⌝ }
+{
+    number(bytes, VERSION_OFFSET, 1) as u8
+}
+
+// How many bytes a version has for the step's seconds, and how much later what follows them stands.
+pub fn seconds_size(version: u8) -> usize
+    ensures { λ r. ⌜ r ≡ secondsSize version ⌝ }
+{
+    if version == SECOND_VERSION {
+        return SHORT_SIZE;
+    }
+    0
+}
+
+// The bytes before the cells.
+pub fn header_size(version: u8) -> usize
+    ensures { λ r. ⌜ r ≡ headerSize version ⌝ }
+{
+    HEADER_SIZE + seconds_size(version)
+}
+
+// The step's seconds, 0 where the version has none.
+pub fn seconds(bytes: &[u8]) -> u16
+    requires { ⌜ headerSize (versionOf (now bytes)) ≤ length (now bytes) ⌝ }
+    ensures { λ r. ⌜ r ≡ secondsOf (now (bytes .entry)) ⌝ }
+{
+    number(bytes, SECONDS_OFFSET, seconds_size(version(bytes))) as u16
+}
+
 // A field of two bytes, `offset` into each of the n cells.
 pub fn short_column(bytes: &[u8], offset: usize, n: usize) -> [u16; 64]
-    requires { ⌜ (offset + shortSize ≤ cellSize) × ((n ≤ 64) × (rowStart n 0 ≤ length (now bytes))) ⌝ }
+    requires { ⌜ (offset + shortSize ≤ cellSize) × ((n ≤ 64) × (rowStart (versionOf (now bytes)) n 0 ≤ length (now bytes))) ⌝ }
     ensures { λ r. ⌜ r ≡ columnOf (now (bytes .entry)) offset shortSize n ⌝ }
 {
+    let header = header_size(version(bytes));
     let mut r = [0u16; 64];
     let mut i = 0;
     while i < n {
-        r[i] = short(bytes, HEADER_SIZE + CELL_SIZE * i + offset);
+        r[i] = short(bytes, header + CELL_SIZE * i + offset);
         i += 1;
     }
     r
@@ -95,24 +134,25 @@ pub fn short_column(bytes: &[u8], offset: usize, n: usize) -> [u16; 64]
 
 // A field of four bytes, `offset` into each of the n cells.
 pub fn column(bytes: &[u8], offset: usize, n: usize) -> [u32; 64]
-    requires { ⌜ (offset + numberSize ≤ cellSize) × ((n ≤ 64) × (rowStart n 0 ≤ length (now bytes))) ⌝ }
+    requires { ⌜ (offset + numberSize ≤ cellSize) × ((n ≤ 64) × (rowStart (versionOf (now bytes)) n 0 ≤ length (now bytes))) ⌝ }
     ensures { λ r. ⌜ r ≡ columnOf (now (bytes .entry)) offset numberSize n ⌝ }
 {
+    let header = header_size(version(bytes));
     let mut r = [0u32; 64];
     let mut i = 0;
     while i < n {
-        r[i] = number(bytes, HEADER_SIZE + CELL_SIZE * i + offset, NUMBER_SIZE);
+        r[i] = number(bytes, header + CELL_SIZE * i + offset, NUMBER_SIZE);
         i += 1;
     }
     r
 }
 
 // The byte at which the row of step `t` starts; at T, the record's size.
-pub fn row_start(n: usize, t: usize) -> usize
-    requires { ⌜ rowStart n t < 2 ^ 64 ⌝ }
-    ensures { λ r. ⌜ r ≡ rowStart n t ⌝ }
+pub fn row_start(version: u8, n: usize, t: usize) -> usize
+    requires { ⌜ rowStart version n t < 2 ^ 64 ⌝ }
+    ensures { λ r. ⌜ r ≡ rowStart version n t ⌝ }
 {
-    HEADER_SIZE + CELL_SIZE * n + t * (NUMBER_SIZE + RATES_SIZE * n)
+    header_size(version) + CELL_SIZE * n + t * (NUMBER_SIZE + RATES_SIZE * n)
 }
 
 // The row of step `t` in the first 1 + 2n numbers: gate arrivals, then each cell's arrivals and release.
@@ -120,7 +160,7 @@ pub fn row(bytes: &[u8], n: usize, t: usize) -> [u32; 129]
     requires { ⌜ HoldsRow (now bytes) n t ⌝ }
     ensures { λ r. ⌜ take (1 + 2 * n) r ≡ recordRow (now (bytes .entry)) n t ⌝ }
 {
-    let start = row_start(n, t);
+    let start = row_start(version(bytes), n, t);
     let mut r = [0u32; 129];
     let mut k = 0;
     while k < 1 + 2 * n {
@@ -147,6 +187,17 @@ pub fn put_short(target: &mut [u8], at: usize, x: u16) -> usize
     target[at] = (x / 256 % 256) as u8;
     target[at + 1] = (x % 256) as u8;
     at + SHORT_SIZE
+}
+
+// Stores the step's seconds where the version has them.
+pub fn put_seconds(target: &mut [u8], at: usize, version: u8, seconds: u16) -> usize
+    requires { ⌜ at + secondsSize version ≤ length (now target) ⌝ }
+    ensures { λ e. ⌜ Stored (now (target .entry)) at (secondsSize version) seconds (now (target .exit)) e ⌝ }
+{
+    if version == SECOND_VERSION {
+        return put_short(target, at, seconds);
+    }
+    at
 }
 
 // Stores a number of four bytes from `at` on, the highest first.

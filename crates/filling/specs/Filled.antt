@@ -93,7 +93,7 @@ module _ {laws : List Law} {bytes : List ℕ} {a : Study} {list : List ℕ} wher
 
       pub fills : {y : List ℕ} → length y ≡ places a → FillsRow now laws q m k y
       fills p = record {
-        held = record { cells = omega (arith, cells, ok .readable .row k l .cells); row = rw cells (omega (arith, ok .readable .row k l .row, same-bytes)) };
+        held = record { cells = omega (arith, cells, ok .readable .row k l .cells); row = rw (cells, put .version) (omega (arith, ok .readable .row k l .row, same-bytes)) };
         step = rw row-is (record {
           input = step-input this-step;
           sized = step-sized this-step;

@@ -10,7 +10,7 @@ use Rattle.numbers.specs.Lists.{at}
 use Rattle.numbers.specs.First.{oneOf}
 use Rattle.road.specs.Refusals.{began}
 use Rattle.road.specs.Study.{Study, roadAt, tableSize}
-use Rattle.fields.specs.Fields.{numberSize, recordRow}
+use Rattle.fields.specs.Fields.{numberSize, versionOf, recordRow}
 use Rattle.meter.specs.declared.Law.{Law}
 use Rattle.reading.specs.Reading.{readingOf, studyOf}
 use Rattle.model.specs.Places.{gateArrivals, arrivalsAt}
@@ -33,7 +33,8 @@ pub record OnlyReleases (bytes after : List ℕ) : Type 0 where
   pub size : length after ≡ length bytes
   -- every byte that is no release's is as it was
   pub byte : (b : ℕ)
-      → ((t i : ℕ) → t < readingOf bytes .steps → i < readingOf bytes .road .n → Outside b (entryStart (readingOf bytes .road .n) t (releaseNumber i)) numberSize)
+      → ((t i : ℕ) → t < readingOf bytes .steps → i < readingOf bytes .road .n
+      → Outside b (entryStart (versionOf bytes) (readingOf bytes .road .n) t (releaseNumber i)) numberSize)
       → at after b ≡ at bytes b
   -- road, T and start read the same, and so do the arrivals
   pub reads : readingOf after ≡ readingOf bytes

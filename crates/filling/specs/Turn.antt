@@ -14,7 +14,7 @@ use Rattle.meter.specs.declared.Law.{Law}
 use Rattle.model.specs.Rules.{outflowsOf}
 use Rattle.moves.specs.Asked.{Steppable}
 use Rattle.releasing.specs.Releases.{putReleases}
-use Rattle.releasing.specs.ReleasesLaws.{put-releases, put-same}
+use Rattle.releasing.specs.ReleasesLaws.{PutRow, put-releases, put-same}
 use Rattle.metering.specs.declared.Metered.{Metered}
 use Rattle.metering.specs.Metering.{grantedAt, filledRow, nextMetered, meteredOf}
 use Rattle.metering.specs.MeteringLaws.{granted-small}
@@ -43,14 +43,19 @@ module _ {bytes : List ℕ} {laws : List Law} {r : Road} {m : Metered} {k : ℕ}
   pub given-put : put ≡ putReleases bytes (r .n) k (grantedAt laws r m (recordRow bytes (r .n) k)) (r .n)
   given-put = g .puts ∙ put-same bytes (r .n) k (at given) (grantedAt laws r m row) (r .n) same
 
+  -- they changed the releases of the step alone
+  changed : PutRow bytes put (r .n) k (grantedAt laws r m row) (r .n)
+  changed = rw given-put (put-releases bytes (r .n) k (grantedAt laws r m row) (r .n) (le-refl (r .n)) (g .held) (λ i l. granted-small laws r m row i))
+
+  -- so the bytes still hold the row
+  pub given-held : HoldsRow put (r .n) k
+  given-held = record { cells = g .held .cells; row = rw (changed .version) (omega (arith, changed .size, g .held .row)) }
+
   module _ {filled : List ℕ} (again : filled ≡ recordRow put (r .n) k) where
     -- the row read again is the filled one
     pub given-row : filled ≡ filledRow laws r m (recordRow bytes (r .n) k)
     unfolding filledRow
-    given-row =
-        again
-        ∙ ap (λ (x : List ℕ). recordRow x (r .n) k) given-put
-        ∙ put-releases bytes (r .n) k (grantedAt laws r m row) (r .n) (le-refl (r .n)) (g .held) (λ i l. granted-small laws r m row i) .row
+    given-row = again ∙ changed .row
 
     -- what the step by it leaves is what the next step's wishes go by
     pub given-next : {next : Metered} → next ≡ nextMetered r m filled given → next ≡ meteredOf laws r m (recordRow bytes (r .n) k)

@@ -54,7 +54,8 @@ fn fill_rows(
     out: &mut [u32],
 ) -> State
     requires { ⌜ Fillable (now bytes) (studyBy (now bytes) (now table) r s steps) (now out) ⌝ }
-    ensures releases { λ t. ⌜ now (bytes .exit) ≡ putTable (now (bytes .entry)) (r .n) (grantedIn laws (studyBy (now (bytes .entry)) (now (table .entry)) r s steps)) steps ⌝ }
+    ensures releases { λ t. ⌜ now (bytes .exit)
+        ≡ putTable (now (bytes .entry)) (r .n) (grantedIn laws (studyBy (now (bytes .entry)) (now (table .entry)) r s steps)) steps ⌝ }
     ensures list { λ t. ⌜ now (out .exit) ≡ tableOf (filledStudy laws (studyBy (now (bytes .entry)) (now (table .entry)) r s steps)) (now (out .entry)) steps ⌝ }
     ensures state { λ t. ⌜ t ≡ meteredAfter laws (studyBy (now (bytes .entry)) (now (table .entry)) r s steps) steps .state ⌝ }
 {

@@ -88,7 +88,7 @@ pub fn numbers(bytes: &[u8], to: &mut [u32]) {
     }
 }
 
-// The road at the front of a frame, byte by byte: n, the gate's capacity, v, w, b and the ramp mark by cell, J and C by cell.
+// The road at the front of a frame, byte by byte: n, the gate's capacity, v, w, b and the ramp mark by cell, J and C by cell, version and seconds.
 pub fn road(bytes: &[u8]) -> Road {
     let speed = short_column(bytes, 8, 8);
     let wave = short_column(bytes, 10, 8);
@@ -98,6 +98,8 @@ pub fn road(bytes: &[u8]) -> Road {
     let capacity = column(bytes, 524, 8);
     Road {
         n: number(bytes, 0) as usize,
+        version: (number(bytes, 1032) % 256) as u8,
+        seconds: short(bytes, 1038),
         gate_capacity: number(bytes, 4),
         speed: speed,
         wave: wave,
@@ -110,16 +112,16 @@ pub fn road(bytes: &[u8]) -> Road {
 
 // The state after the road: steps done, gate, road and ramp time, the gate's queue and F, then held, queue and F by cell.
 pub fn state(bytes: &[u8]) -> State {
-    let held = column(bytes, 1068, 12);
-    let queue = column(bytes, 1072, 12);
-    let cumulative = column(bytes, 1076, 12);
+    let held = column(bytes, 1076, 12);
+    let queue = column(bytes, 1080, 12);
+    let cumulative = column(bytes, 1084, 12);
     State {
-        done: number(bytes, 1032) as usize,
-        gate_time: long(bytes, 1036),
-        road_time: long(bytes, 1044),
-        ramp_time: long(bytes, 1052),
-        gate_queue: number(bytes, 1060),
-        gate_cumulative: number(bytes, 1064),
+        done: number(bytes, 1040) as usize,
+        gate_time: long(bytes, 1044),
+        road_time: long(bytes, 1052),
+        ramp_time: long(bytes, 1060),
+        gate_queue: number(bytes, 1068),
+        gate_cumulative: number(bytes, 1072),
         held: held,
         queue: queue,
         cumulative: cumulative,
@@ -128,15 +130,15 @@ pub fn state(bytes: &[u8]) -> State {
 
 // T, where it stands after the road.
 pub fn steps(bytes: &[u8]) -> usize {
-    number(bytes, 1032) as usize
+    number(bytes, 1040) as usize
 }
 
 // The start after T: the gate's queue, then held and queue by cell.
 pub fn start(bytes: &[u8]) -> Start {
-    let held = column(bytes, 1040, 8);
-    let queue = column(bytes, 1044, 8);
+    let held = column(bytes, 1048, 8);
+    let queue = column(bytes, 1052, 8);
     Start {
-        gate_queue: number(bytes, 1036),
+        gate_queue: number(bytes, 1044),
         held: held,
         queue: queue,
     }

@@ -48,7 +48,7 @@ fn judge_rows(
     Ended::complete(r, u)
 }
 
-// Judges a proposed schedule under a table of lanes: 1 to 6 as in reading, 17, 18, 12, then 9 or 10 and 13 or 14 step by step.
+// Judges a proposed schedule under a table of lanes: the refusals of reading, 17, 18, 12, then 9 or 10 and 13 or 14 step by step.
 pub fn judge(bytes: &[u8], table: &[u8], schedule: &[u32]) -> Ended
     ensures { λ e. ⌜ endAnswer e ≡ judgingOf (now (bytes .entry)) (now (table .entry)) (now (schedule .entry)) ⌝ }
 {

@@ -1,7 +1,7 @@
 -- docs/MODEL.md, 'A run printed whole': the listing's lines, as bytes. Assumes nothing.
 use mathlib.Core.Bool.{cond}
 use mathlib.Core.List.{List, [], _∷_, _++_}
-use Prim.Native.Nat.{ℕ, zero, suc, _+_, _/_, _%_}
+use Prim.Native.Nat.{ℕ, zero, suc, _+_, _*_, _/_, _%_}
 use lib.Dec.{ltb}
 use Rattle.road.specs.declared.State.{State}
 use Rattle.numbers.specs.Lists.{at}
@@ -44,10 +44,18 @@ mostLine = 105
 abbrev pub mostLast : ℕ
 mostLast = mostLine + 27
 
+-- and the line of the seconds: a word and 8 bytes of its name
+abbrev pub mostTime : ℕ
+mostTime = mostWord + 8
+
 -- `step place outflow held queue`
 unfoldable pub headerLine : List ℕ
 headerLine =
-    115 ∷ 116 ∷ 101 ∷ 112 ∷ 32 ∷ 112 ∷ 108 ∷ 97 ∷ 99 ∷ 101 ∷ 32 ∷ 111 ∷ 117 ∷ 116 ∷ 102 ∷ 108 ∷ 111 ∷ 119 ∷ 32 ∷ 104 ∷ 101 ∷ 108 ∷ 100 ∷ 32 ∷ 113 ∷ 117 ∷ 101 ∷ 117 ∷ 101 ∷ 10 ∷ []
+    115 ∷ 116 ∷ 101 ∷ 112 ∷ 32
+    ∷ 112 ∷ 108 ∷ 97 ∷ 99 ∷ 101 ∷ 32
+    ∷ 111 ∷ 117 ∷ 116 ∷ 102 ∷ 108 ∷ 111 ∷ 119 ∷ 32
+    ∷ 104 ∷ 101 ∷ 108 ∷ 100 ∷ 32
+    ∷ 113 ∷ 117 ∷ 101 ∷ 117 ∷ 101 ∷ 10 ∷ []
 
 -- one line a place, separated by blanks: step, place, outflow in the step, held after the step, ramp queue after it
 unfoldable pub lineOf : ℕ → ℕ → ℕ → ℕ → ℕ → List ℕ
@@ -83,6 +91,10 @@ rampWord = 114 ∷ 97 ∷ 109 ∷ 112 ∷ 32 ∷ []
 abbrev pub exitsWord : List ℕ
 exitsWord = 101 ∷ 120 ∷ 105 ∷ 116 ∷ 115 ∷ 32 ∷ []
 
+-- `seconds `
+abbrev pub secondsWord : List ℕ
+secondsWord = 115 ∷ 101 ∷ 99 ∷ 111 ∷ 110 ∷ 100 ∷ 115 ∷ 32 ∷ []
+
 -- `refused `
 abbrev pub refusedWord : List ℕ
 refusedWord = 114 ∷ 101 ∷ 102 ∷ 117 ∷ 115 ∷ 101 ∷ 100 ∷ 32 ∷ []
@@ -92,6 +104,14 @@ unfoldable pub totalLine : ℕ → ℕ → ℕ → ℕ → ℕ → List ℕ
 totalLine total gate road ramp exits =
     namedOf totalWord total blank
     ++ (namedOf gateWord gate blank ++ (namedOf roadWord road blank ++ (namedOf rampWord ramp blank ++ namedOf exitsWord exits newline)))
+
+-- what a total of part-steps is in vehicle-seconds, at so many seconds a step: total × seconds ÷ 1,000 rounded down
+unfoldable pub vehicleSeconds : ℕ → ℕ → ℕ
+vehicleSeconds total seconds = total * seconds / 1000
+
+-- in version 2 one line more: `seconds` and that number
+unfoldable pub secondsLine : ℕ → List ℕ
+secondsLine time = namedOf secondsWord time newline
 
 -- a refusal prints only `refused`, number, step, place
 unfoldable pub refusedLine : ℕ → ℕ → ℕ → List ℕ

@@ -13,9 +13,9 @@ use Rattle.io.specs.Digits.{digits, Fewest}
 use Rattle.road.specs.declared.State.{State}
 use Rattle.numbers.specs.Lists.{at}
 use Rattle.rows.specs.Placed.{Puts, placed-none, puts-more, Room, room, room-more, Text, text-room}
-use Rattle.listing.specs.Listing.{blank, newline, mostWord, mostLine, mostLast, digitsOf, decimalOf, wordOf, namedOf, refusedWord}
-use Rattle.listing.specs.Listing.{totalWord, gateWord, roadWord, rampWord, exitsWord}
-use Rattle.listing.specs.Listing.{headerLine, lineOf, cellLines, linesOf, totalLine, refusedLine}
+use Rattle.listing.specs.Listing.{blank, newline, mostWord, mostLine, mostLast, mostTime, digitsOf, decimalOf, wordOf, namedOf, refusedWord}
+use Rattle.listing.specs.Listing.{totalWord, gateWord, roadWord, rampWord, exitsWord, secondsWord}
+use Rattle.listing.specs.Listing.{headerLine, lineOf, cellLines, linesOf, totalLine, vehicleSeconds, secondsLine, refusedLine}
 
 one-or-more : (b : Bool) (x y : ℕ) (front : List ℕ) (most : ℕ) → length front ≤ most → length (cond b (x ∷ []) (front ++ (y ∷ []))) ≤ suc most
 one-or-more true x y front most h = omega arith
@@ -158,15 +158,14 @@ pub header-room : (a : List ℕ) (start : ℕ) (b : List ℕ) (m : ℕ) → Puts
 unfolding headerLine
 header-room a start b m p = room a start headerLine b m mostLine p (omega arith)
 
-pub total-room : (a : List ℕ) (start total gate road ramp exits : ℕ) (b : List ℕ) (m : ℕ) → Puts a start (totalLine total gate road ramp exits) b m
-    → Room a start b m mostLast
+pub total-length : (total gate road ramp exits : ℕ) → length (totalLine total gate road ramp exits) ≤ mostLast
 unfolding totalLine
-total-room a start total gate road ramp exits b m p =
+total-length total gate road ramp exits =
     let e = namedOf exitsWord exits newline in
     let d = namedOf rampWord ramp blank ++ e in
     let c = namedOf roadWord road blank ++ d in
     let g = namedOf gateWord gate blank ++ c in
-    room a start (totalLine total gate road ramp exits) b m mostLast p (omega (
+    omega (
       arith,
       length-append (namedOf totalWord total blank) g,
       length-append (namedOf gateWord gate blank) c,
@@ -177,7 +176,21 @@ total-room a start total gate road ramp exits b m p =
       named-length roadWord road blank,
       named-length rampWord ramp blank,
       named-length exitsWord exits newline,
-    ))
+    )
+
+pub total-room : (a : List ℕ) (start total gate road ramp exits : ℕ) (b : List ℕ) (m : ℕ) → Puts a start (totalLine total gate road ramp exits) b m
+    → Room a start b m mostLast
+total-room a start total gate road ramp exits b m p =
+    room a start (totalLine total gate road ramp exits) b m mostLast p (total-length total gate road ramp exits)
+
+-- 33,098 part-steps of 20 seconds are 661.96 vehicle-seconds, and 661 are told; of 900 seconds 29,788.2; 999 of a second are none
+pub on-paper : vehicleSeconds 33098 20 ∷ vehicleSeconds 33098 900 ∷ vehicleSeconds 999 1 ∷ [] ≡ 661 ∷ 29788 ∷ 0 ∷ []
+unfolding vehicleSeconds
+on-paper = refl
+
+pub seconds-length : (time : ℕ) → length (secondsLine time) ≤ mostTime
+unfolding secondsLine
+seconds-length time = omega (arith, named-length secondsWord time newline)
 
 pub refused-room : (a : List ℕ) (start number step place : ℕ) (b : List ℕ) (m : ℕ) → Puts a start (refusedLine number step place) b m
     → Room a start b m mostLine

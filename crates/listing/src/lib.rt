@@ -2,7 +2,8 @@
 use road::State;
 ghost use Prim.Native.Nat.{_+_, _*_, _≤_, _<_};
 ghost use lib.ListN.{length};
-ghost use Rattle.listing.specs.Listing.{mostWord, mostLine, mostLast, wordOf, namedOf, headerLine, lineOf, linesOf, totalLine, refusedLine};
+ghost use Rattle.listing.specs.Listing.{mostWord, mostLine, mostLast, mostTime, wordOf, namedOf, headerLine, lineOf, linesOf, totalLine};
+ghost use Rattle.listing.specs.Listing.{secondsLine, refusedLine};
 ghost use Rattle.rows.specs.Placed.{Puts};
 
 // Copies a text into the buffer from `at` on, and gives the index after it.
@@ -113,6 +114,14 @@ pub fn total(
     let to_ramp = named(buffer, to_road, b"road ", road, b' ');
     let to_exits = named(buffer, to_ramp, b"ramp ", ramp, b' ');
     named(buffer, to_exits, b"exits ", exits, b'\n')
+}
+
+// The line of the seconds, after the last.
+pub fn seconds(buffer: &mut [u8], at: usize, time: u64) -> usize
+    requires { ⌜ at + mostTime ≤ length (now buffer) ⌝ }
+    ensures { λ r. ⌜ Puts (now (buffer .entry)) at (secondsLine time) (now (buffer .exit)) r ⌝ }
+{
+    named(buffer, at, b"seconds ", time, b'\n')
 }
 
 // The only line of a refusal.

@@ -41,6 +41,8 @@ past n = replicate n 0
 unfoldable pub road : Road
 road = record {
   n = 2;
+  version = 1;
+  seconds = 0;
   «gate_capacity» = 2000;
   speed = 500 ∷ 500 ∷ past 62;
   wave = 250 ∷ 250 ∷ past 62;

@@ -16,4 +16,5 @@ pub mod Runs
 pub mod Level
 pub mod Behind
 pub mod RunsLaws
+pub mod Stamped
 pub mod Edges

@@ -1,5 +1,5 @@
 -- Laws of the first number at which a test fails. Assumes nothing.
-use mathlib.Core.Path.{_≡_, refl, sym}
+use mathlib.Core.Path.{_≡_, refl, sym, ap, _∙_}
 use mathlib.Core.Bool.{Bool, true, false, cond}
 use mathlib.Core.Logic.{⊎-elim}
 use Prim.Native.Nat.{ℕ, zero, suc, _+_, _≤_, _<_}
@@ -68,6 +68,16 @@ first-stop f n i l h e = sym (first-is f n i (record { within = omega arith; bef
 pub first-none : (f : ℕ → Bool) (n : ℕ) → ((j : ℕ) → j < n → f j ≡ true) → firstOf f n ≡ n
 first-none f n h = first-is f n n (record { within = le-refl n; before = h; stops = λ l. absurd (omega arith) })
 
+-- tests that agree below n have the same first
+pub first-same : (f g : ℕ → Bool) (n : ℕ) → ((i : ℕ) → i < n → f i ≡ g i) → firstOf f n ≡ firstOf g n
+first-same f g n h =
+    let a = first g n in
+    first-is f n (firstOf g n) (record {
+      within = a .within;
+      before = λ j l. h j (omega (arith, a .within)) ∙ a .before j l;
+      stops = λ l. h (firstOf g n) l ∙ a .stops l;
+    })
+
 -- all, taken apart and put together
 pub all-at : (f : ℕ → Bool) (n : ℕ) → allOf f n ≡ true → (i : ℕ) → i < n → f i ≡ true
 all-at f n h i l = first f n .before i (omega (arith, eqb-true (firstOf f n) n h))
@@ -114,3 +124,8 @@ module _ (f : ℕ → ℕ) (n : ℕ) where
   fault-far i l h =
       let m : firstFault f n < i → ⊥ = λ k. fault-there (omega arith) (h (firstFault f n) k) in
       omega arith
+
+-- faults that agree below n have the same first
+pub fault-same : (f g : ℕ → ℕ) (n : ℕ) → ((i : ℕ) → i < n → f i ≡ g i) → firstFault f n ≡ firstFault g n
+unfolding firstFault
+fault-same f g n h = first-same (λ i. eqb (f i) 0) (λ i. eqb (g i) 0) n (λ i l. ap (λ (x : ℕ). eqb x 0) (h i l))

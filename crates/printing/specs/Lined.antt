@@ -1,17 +1,22 @@
 -- What printing asks, and what its loop over the steps knows. Assumes nothing.
 use mathlib.Core.Path.{_≡_, refl, sym, _∙_}
-use mathlib.Core.List.{List, [], _++_}
-use Prim.Native.Nat.{ℕ, suc, _+_, _*_, min, _≤_, _<_}
+use mathlib.Core.Bool.{Bool, true, false, cond}
+use mathlib.Core.List.{List, [], _++_, append-nil}
+use Prim.Native.Nat.{ℕ, suc, _+_, _*_, _/_, min, _≤_, _<_}
+use native.Mathlib.Nat.{mul-le-mul}
 use native.Mathlib.Numerals.{add-one}
 use native.Mathlib.Omega.{arith}
-use lib.ListN.{length}
+use lib.Dec.{eqb}
+use lib.ListN.{length, length-append}
 use lib.Seq.{length-take-le}
 use borrow.Author.Tests.{eq-eqb, ne-eqb}
 use Rattle.rows.specs.TablesLaws.{row-ends, mul-more}
 use Rattle.road.specs.declared.Road.{Road}
 use Rattle.road.specs.declared.State.{State}
-use Rattle.road.specs.Road.{mostLong, totalOf}
+use Rattle.road.specs.Road.{mostSteps, mostSeconds, mostLong, totalOf}
 use Rattle.road.specs.Study.{Study, places, tableSize}
+use Rattle.fields.specs.Fields.{secondVersion}
+use Rattle.limits.specs.Limits.{mostTotal}
 use Rattle.model.specs.Move.{nextOf, exitsOf}
 use Rattle.model.specs.Rules.{outflowsOf}
 use Rattle.model.specs.Step.{Fault, releasesOf}
@@ -22,19 +27,70 @@ use Rattle.reading.specs.Table.{mostOutflows}
 use Rattle.schedules.specs.Schedules.{EndAnswer, ended, runEnd}
 use Rattle.schedules.specs.Readable.{Readable}
 use Rattle.running.specs.Ran.{Ran, RanTurn, ran-reached, ran-none, ran-more, row-is, ends-ran, all-ran}
-use Rattle.listing.specs.Listing.{mostLine, mostLast, headerLine, linesOf, totalLine, refusedLine}
-use Rattle.rows.specs.Placed.{Puts, placed-none, puts-first, puts-more, Room, Holds}
-use Rattle.listing.specs.ListingLaws.{header-room, lines-room, total-room, refused-room}
-use Rattle.printing.specs.Printed.{stepsLines, lastOf, printedEnd, printedRun, printedOf}
+use Rattle.listing.specs.Listing.{mostLine, mostLast, mostTime, headerLine, linesOf, totalLine, vehicleSeconds, secondsLine, refusedLine}
+use Rattle.rows.specs.Placed.{Puts, placed-none, puts-first, puts-more, Room, room, Holds}
+use Rattle.listing.specs.ListingLaws.{header-room, lines-room, total-length, total-room, seconds-length, refused-room}
+use Rattle.printing.specs.Printed.{stepsLines, timeOf, lastOf, printedEnd, printedRun, printedOf}
 
--- how long a text may be: a line for each outflow, a header and a last line
+-- how long a text may be: a line for each outflow, a header, a last line and one of the seconds
 abbrev pub mostText : ℕ
-mostText = mostLine * mostOutflows + mostLine + mostLast
+mostText = mostLine * mostOutflows + mostLine + (mostLast + mostTime)
 
 -- a record that reads, and a buffer long enough
 pub record Printable (bytes : List ℕ) (a : Study) (buffer : List ℕ) : Type 0 where
   pub readable : Readable bytes a
   pub enough : mostText ≤ length buffer
+
+-- room for the last lines, with a total and seconds within their limits
+pub record Ending (r : Road) (u : State) (buffer : List ℕ) (at : ℕ) : Type 0 where
+  pub enough : at + (mostLast + mostTime) ≤ length buffer
+  pub total : totalOf u ≤ mostTotal mostSteps
+  pub seconds : r .seconds ≤ mostSeconds
+
+module _ {r : Road} {u : State} {buffer : List ℕ} {at : ℕ} (h : Ending r u buffer at) {total : ℕ} (e : total ≡ min (totalOf u) mostLong) where
+  -- the total is within its limit, so it is given as it is
+  pub total-is : total ≡ totalOf u
+  total-is = omega (arith, e, h .total)
+
+  -- and its product with the seconds is at most 2.592 × 10^17, which a machine number holds
+  pub time-small : total * r .seconds ≤ mostTotal mostSteps * mostSeconds
+  time-small = let l : total ≤ mostTotal mostSteps = omega (arith, total-is, h .total) in mul-le-mul l (h .seconds)
+
+  module _ {exits : ℕ} (x : exits ≡ exitsOf r u) {after : List ℕ} {m : ℕ}
+      (p : Puts buffer at (totalLine total (u .«gate_time») (u .«road_time») (u .«ramp_time») exits) after m) where
+    -- room for the line of the seconds
+    pub time-fits : m + mostTime ≤ length after
+    time-fits = let z = total-room buffer at _ _ _ _ _ after m p in omega (arith, z .end, z .same, h .enough)
+
+    last-line : Puts buffer at (totalLine (totalOf u) (u .«gate_time») (u .«road_time») (u .«ramp_time») (exitsOf r u)) after m
+    last-line = rw (total-is, x) at p
+
+    -- the last line alone, and both
+    pub ends-untimed : (r .version ≡ secondVersion → ⊥) → Puts buffer at (lastOf r u) after m
+    unfolding timeOf
+    ends-untimed k =
+        rw (ne-eqb (r .version) secondVersion k, append-nil (totalLine (totalOf u) (u .«gate_time») (u .«road_time») (u .«ramp_time») (exitsOf r u))) last-line
+
+    pub ends-timed : r .version ≡ secondVersion → {end : List ℕ} {to : ℕ} → Puts after m (secondsLine (total * r .seconds / 1000)) end to
+        → Puts buffer at (lastOf r u) end to
+    unfolding timeOf vehicleSeconds
+    ends-timed k {end} {to} q =
+        rw (eq-eqb (r .version) secondVersion k) (puts-more buffer at _ after m _ end to last-line (rw total-is at q))
+
+-- how long they are
+last-length : (r : Road) (u : State) → length (lastOf r u) ≤ mostLast + mostTime
+unfolding timeOf
+last-length r u =
+    omega (
+      arith,
+      length-append (totalLine (totalOf u) (u .«gate_time») (u .«road_time») (u .«ramp_time») (exitsOf r u)) (timeOf r u),
+      total-length (totalOf u) (u .«gate_time») (u .«road_time») (u .«ramp_time») (exitsOf r u),
+      go (eqb (r .version) secondVersion),
+    )
+  where
+    go : (b : Bool) → length (cond b (secondsLine (vehicleSeconds (totalOf u) (r .seconds))) []) ≤ mostTime
+    go true = seconds-length (vehicleSeconds (totalOf u) (r .seconds))
+    go false = omega arith
 
 -- when k steps are made: their lines stand in the buffer after the header, which ends at `start`
 pub record Lined (a : Study) (before : List ℕ) (start : ℕ) (buffer : List ℕ) (u : State) (end k : ℕ) : Type 0 where
@@ -63,16 +119,17 @@ module _ {a : Study} {before : List ℕ} {start : ℕ} where
     pub line-fits : 0 + mostLine ≤ length buffer
     line-fits = omega (arith, h .room .same, h .enough)
 
-    -- and after all steps for the last line
-    pub last-fits : tableSize a ≤ mostOutflows → a .steps ≤ k → end + mostLast ≤ length buffer
-    last-fits m l =
+    -- and after all steps for the last lines
+    pub lines-end : StudyOk a → tableSize a ≤ mostOutflows → a .road .seconds ≤ mostSeconds → a .steps ≤ k → Ending (a .road) u buffer end
+    lines-end ok m seconds l =
         let e : k ≡ a .steps = all-ran (h .ran) l in
         let f : k * places a ≡ a .steps * places a = rw e in
-        omega (arith, h .room .end, h .room .same, h .top, h .enough, f)
-
-    -- the total is within its limit, so it is given as it is
-    pub total-is : StudyOk a → {total : ℕ} → total ≡ min (totalOf u) mostLong → total ≡ totalOf u
-    total-is ok e = let z = ran-reached ok (h .ran) .state in omega (arith, e, z .total, z .done)
+        let z = ran-reached ok (h .ran) .state in
+        record {
+          enough = omega (arith, h .room .end, h .room .same, h .top, h .enough, f);
+          total = omega (arith, z .total, z .done);
+          seconds = seconds;
+        }
 
     module _ {q : Road} {row : List ℕ} (t : RanTurn a u k q row) {f : Fault} (e : f ≡ releasesOf q u row) (z : f .number ≡ 0) where
       -- one step more is made and put
@@ -113,22 +170,19 @@ module _ {a : Study} {before start-buffer : List ℕ} {start : ℕ} {buffer : Li
       let t : printedEnd a (runEnd a) ≡ refusedLine (e .number) (e .step) (e .place) = rw (← ee, ne-eqb (e .number) 0 n) in
       record { first = w .first ∙ sym t; within = w .within; counted = w .counted; same = w .same ∙ h .room .same ∙ s }
 
-  -- the header, the steps and the last line, put one after the other
+  -- the header, the steps and the last lines, put one after the other
   pub holds-run : Puts before 0 headerLine start-buffer start → Lined a start-buffer start buffer u end k → a .steps ≤ k → tableSize a ≤ mostOutflows
-      → {total exits : ℕ} {after : List ℕ} {m : ℕ} → total ≡ totalOf u → exits ≡ exitsOf (a .road) u
-      → Puts buffer end (totalLine total (u .«gate_time») (u .«road_time») (u .«ramp_time») exits) after m
-      → Holds before (printedRun a) after m
+      → {after : List ℕ} {m : ℕ} → Puts buffer end (lastOf (a .road) u) after m → Holds before (printedRun a) after m
   unfolding printedRun
-  holds-run p h l most {after = after} {m} et ex q =
+  holds-run p h l most {after} {m} q =
       let e : ended 0 0 0 (a .road) u ≡ runEnd a = ends-ran (h .ran) l refl in
       let i : k ≡ a .steps = all-ran (h .ran) l in
       let j : k * places a ≡ a .steps * places a = rw i in
-      let g : Puts buffer end (lastOf (a .road) u) after m = rw (et, ex) at q in
       let lines : Puts start-buffer start (stepsLines a (a .steps)) buffer end = rw i at (h .puts) in
       let y = header-room before 0 start-buffer start p in
-      let w = total-room buffer end (totalOf u) (u .«gate_time») (u .«road_time») (u .«ramp_time») (exitsOf (a .road) u) after m g in
+      let w = room buffer end (lastOf (a .road) u) after m (mostLast + mostTime) q (last-length (a .road) u) in
       let t : printedEnd a (runEnd a) ≡ headerLine ++ (stepsLines a (a .steps) ++ lastOf (a .road) u) = rw (← e) in
-      let all = puts-more before 0 headerLine start-buffer start _ after m p (puts-more start-buffer start (stepsLines a (a .steps)) buffer end _ after m lines g) in
+      let all = puts-more before 0 headerLine start-buffer start _ after m p (puts-more start-buffer start (stepsLines a (a .steps)) buffer end _ after m lines q) in
       let v = holds before _ after m mostText all
       (record { end = omega (arith, w .end, h .room .end, h .top, most, j); same = w .same ∙ h .room .same ∙ y .same })
       (omega (arith, h .enough, y .same)) in

@@ -11,11 +11,14 @@ ghost use Rattle.moves.specs.Asked.{Steppable};
 ghost use Rattle.reading.specs.Reading.{studyBy};
 ghost use Rattle.rows.specs.Placed.{Puts, Holds};
 ghost use Rattle.listing.specs.Listing.{mostLine, linesOf};
-ghost use Rattle.printing.specs.Printed.{printedRun, printedOf};
-ghost use Rattle.printing.specs.Lined.{mostText, Printable};
+ghost use Rattle.printing.specs.Printed.{lastOf, printedRun, printedOf};
+ghost use Rattle.printing.specs.Lined.{mostText, Printable, Ending};
 
 // The bytes of a text: no record that reads needs more.
-pub const TEXT: usize = 924132;
+pub const TEXT: usize = 924161;
+
+// A vehicle's parts.
+const PARTS: u64 = 1000;
 
 // A step that was made and put: the state after it, and the index after its lines.
 struct Put {
@@ -46,7 +49,29 @@ fn step_lines(
     }
 }
 
-// The header, the lines of each step as it is made, and the last line; a fault leaves a refusal's line instead.
+// The last line, and in version 2 the line of the seconds.
+fn last_lines(buffer: &mut [u8], at: usize, r: Road, u: State) -> usize
+    requires { ⌜ Ending r u (now buffer) at ⌝ }
+    ensures { λ e. ⌜ Puts (now (buffer .entry)) at (lastOf r u) (now (buffer .exit)) e ⌝ }
+{
+    let total = u.total();
+    let exits = moves::exits(r, u);
+    let end = listing::total(
+        buffer,
+        at,
+        total,
+        u.gate_time,
+        u.road_time,
+        u.ramp_time,
+        exits,
+    );
+    if r.version == fields::SECOND_VERSION {
+        return listing::seconds(buffer, end, total * r.seconds as u64 / PARTS);
+    }
+    end
+}
+
+// The header, the lines of each step as it is made, and the last lines; a fault leaves a refusal's line instead.
 fn run_lines(bytes: &[u8], r: Road, s: State, steps: usize, buffer: &mut [u8]) -> usize
     requires { ⌜ Printable (now bytes) (studyBy (now bytes) [] r s steps) (now buffer) ⌝ }
     ensures { λ e. ⌜ Holds (now (buffer .entry)) (printedRun (studyBy (now (bytes .entry)) [] r s steps)) (now (buffer .exit)) e ⌝ }
@@ -71,17 +96,7 @@ fn run_lines(bytes: &[u8], r: Road, s: State, steps: usize, buffer: &mut [u8]) -
         end = put.end;
         k += 1;
     }
-    let total = u.total();
-    let exits = moves::exits(r, u);
-    listing::total(
-        buffer,
-        end,
-        total,
-        u.gate_time,
-        u.road_time,
-        u.ramp_time,
-        exits,
-    )
+    last_lines(buffer, end, r, u)
 }
 
 // Puts all that is printed of a record at the start of the buffer, and gives its length.

@@ -15,36 +15,42 @@ use Rattle.road.specs.declared.Road.{Road}
 use Rattle.road.specs.declared.State.{State}
 use Rattle.road.specs.Road.{mostCells}
 use Rattle.road.specs.Study.{Study}
-use Rattle.fields.specs.Fields.{recordVersion, countSize, headerSize, cellSize, shortSize, numberSize, rowNumbers, rowSize, bytesOf}
+use Rattle.fields.specs.Fields.{countSize, secondsSize, headerSize, cellSize, shortSize, numberSize, rowNumbers, rowSize, bytesOf}
 use Rattle.fields.specs.BytesLaws.{length-bytes}
 use Rattle.fields.specs.Stored.{Stored, stored-puts}
 use Rattle.reading.specs.Reading.{sizeOf}
 use Rattle.reading.specs.ReadingLaws.{Counts}
-use Rattle.putting.specs.Record.{headerOf, cellOf, numbersOf, headerBytes, cellBytes, rowBytes, recordOf}
+use Rattle.putting.specs.Record.{headerOf, cellOf, numbersOf, recordSize, headerBytes, cellBytes, rowBytes, recordOf}
 
 -- how long the parts are
-pub length-header : (n T capacity queue : ℕ) → length (headerOf n T capacity queue) ≡ headerSize
+pub length-header : (version n T seconds capacity queue : ℕ) → length (headerOf version n T seconds capacity queue) ≡ headerSize version
 unfolding headerOf
-length-header n T capacity queue =
-    let e = bytesOf numberSize queue in
-    let d = bytesOf numberSize capacity ++ e in
+length-header version n T seconds capacity queue =
+    let f = bytesOf numberSize queue in
+    let e = bytesOf numberSize capacity ++ f in
+    let d = bytesOf (secondsSize version) seconds ++ e in
     let c = bytesOf shortSize T ++ d in
     let b = bytesOf 1 n ++ c in
-    let a = bytesOf 1 recordVersion ++ b in
+    let a = bytesOf 1 version ++ b in
     omega (
       arith,
-      length-append (bytesOf countSize (sizeOf n T - countSize)) a,
-      length-append (bytesOf 1 recordVersion) b,
+      length-append (bytesOf countSize (sizeOf version n T - countSize)) a,
+      length-append (bytesOf 1 version) b,
       length-append (bytesOf 1 n) c,
       length-append (bytesOf shortSize T) d,
-      length-append (bytesOf numberSize capacity) e,
-      length-bytes countSize (sizeOf n T - countSize),
-      length-bytes 1 recordVersion,
+      length-append (bytesOf (secondsSize version) seconds) e,
+      length-append (bytesOf numberSize capacity) f,
+      length-bytes countSize (sizeOf version n T - countSize),
+      length-bytes 1 version,
       length-bytes 1 n,
       length-bytes shortSize T,
+      length-bytes (secondsSize version) seconds,
       length-bytes numberSize capacity,
       length-bytes numberSize queue,
     )
+
+pub header-length : (a : Study) → length (headerBytes a) ≡ headerSize (a .road .version)
+header-length a = length-header (a .road .version) (a .road .n) (a .steps) (a .road .seconds) (a .road .«gate_capacity») (a .start .«gate_queue»)
 
 pub length-cell : (speed wave share ramp jam capacity held queue : ℕ) → length (cellOf speed wave share ramp jam capacity held queue) ≡ cellSize
 unfolding cellOf
@@ -83,17 +89,18 @@ length-row n rows t = length-numbers (rows t) (rowNumbers n) ∙ omega arith
 
 -- the parts of the header and of a cell, one after the other
 module _ {a : List ℕ} {start : ℕ} {b : List ℕ} {p : ℕ} {c : List ℕ} {q : ℕ} {d : List ℕ} {u : ℕ} {e : List ℕ} {v : ℕ} {f : List ℕ} {w : ℕ} where
-  pub header-puts : {n T capacity queue size : ℕ} {g : List ℕ} {x : ℕ} → size ≡ sizeOf n T
-      → Stored a start countSize (size - countSize) b p → Stored b p 1 recordVersion c q → Stored c q 1 n d u
-      → Stored d u shortSize T e v → Stored e v numberSize capacity f w → Stored f w numberSize queue g x
-      → Puts a start (headerOf n T capacity queue) g x
+  pub header-puts : {version n T seconds capacity queue size : ℕ} {g : List ℕ} {x : ℕ} {h : List ℕ} {y : ℕ} → size ≡ sizeOf version n T
+      → Stored a start countSize (size - countSize) b p → Stored b p 1 version c q → Stored c q 1 n d u
+      → Stored d u shortSize T e v → Stored e v (secondsSize version) seconds f w → Stored f w numberSize capacity g x
+      → Stored g x numberSize queue h y → Puts a start (headerOf version n T seconds capacity queue) h y
   unfolding headerOf
-  header-puts {n = n} {T = T} {g = g} {x = x} es h i j k l m =
-      let first : Stored a start countSize (sizeOf n T - countSize) b p = rw es at h in
-      puts-more a start _ b p _ g x (stored-puts first)
-      (puts-more b p _ c q _ g x (stored-puts i)
-      (puts-more c q _ d u _ g x (stored-puts j)
-      (puts-more d u _ e v _ g x (stored-puts k) (puts-more e v _ f w _ g x (stored-puts l) (stored-puts m)))))
+  header-puts {version} {n} {T} {g = g} {x = x} {h = h} {y = y} es h1 h2 h3 h4 h5 h6 h7 =
+      let first : Stored a start countSize (sizeOf version n T - countSize) b p = rw es at h1 in
+      puts-more a start _ b p _ h y (stored-puts first)
+      (puts-more b p _ c q _ h y (stored-puts h2)
+      (puts-more c q _ d u _ h y (stored-puts h3)
+      (puts-more d u _ e v _ h y (stored-puts h4)
+      (puts-more e v _ f w _ h y (stored-puts h5) (puts-more f w _ g x _ h y (stored-puts h6) (stored-puts h7))))))
 
   pub cell-puts : {speed wave share ramp jam capacity held queue : ℕ} {g : List ℕ} {x : ℕ} {k : List ℕ} {y : ℕ} {l : List ℕ} {z : ℕ}
       → Stored a start shortSize speed b p → Stored b p shortSize wave c q → Stored c q shortSize share d u → Stored d u shortSize ramp e v
@@ -140,16 +147,16 @@ module _ (before : List ℕ) (start : ℕ) (f : ℕ → List ℕ) (w : ℕ) wher
   putting-fits i n h l m = omega (arith, h .next, h .same, row-ends i n w l)
 
 -- a record put at the start of a target: its bytes, and what stood beyond them
-pub record-stands : (a : Study) (target after : List ℕ) (end : ℕ) → length (recordOf a) ≡ sizeOf (a .road .n) (a .steps)
-    → sizeOf (a .road .n) (a .steps) ≤ length target → Puts target 0 (recordOf a) after end
-    → (end ≡ sizeOf (a .road .n) (a .steps)) × (after ≡ recordOf a ++ drop (sizeOf (a .road .n) (a .steps)) target)
+pub record-stands : (a : Study) (target after : List ℕ) (end : ℕ) → length (recordOf a) ≡ recordSize a
+    → recordSize a ≤ length target → Puts target 0 (recordOf a) after end
+    → (end ≡ recordSize a) × (after ≡ recordOf a ++ drop (recordSize a) target)
 record-stands a target after end l m p =
-    let z : 0 + length (recordOf a) ≡ sizeOf (a .road .n) (a .steps) = omega (arith, l) in (
+    let z : 0 + length (recordOf a) ≡ recordSize a = omega (arith, l) in (
       p .0 ∙ z,
       p .1 ∙ placed-there target 0 (recordOf a) (omega (arith, l)) ∙ ap (λ (k : ℕ). recordOf a ++ drop k target) z,
     )
 
-pub length-record : (a : Study) → length (recordOf a) ≡ sizeOf (a .road .n) (a .steps)
+pub length-record : (a : Study) → length (recordOf a) ≡ recordSize a
 unfolding recordOf
 length-record a =
     let cells = concatOf (cellBytes (a .road) (a .start)) (a .road .n) in
@@ -158,7 +165,7 @@ length-record a =
       arith,
       length-append (headerBytes a) (cells ++ rows),
       length-append cells rows,
-      length-header (a .road .n) (a .steps) (a .road .«gate_capacity») (a .start .«gate_queue»),
+      header-length a,
       length-concat (cellBytes (a .road) (a .start)) cellSize (λ i. length-cell _ _ _ _ _ _ _ _) (a .road .n),
       length-concat (rowBytes (a .road .n) (a .rows)) (rowSize (a .road .n)) (length-row (a .road .n) (a .rows)) (a .steps),
     )
@@ -172,7 +179,7 @@ pub record Rows (rows : List ℕ) (n T : ℕ) : Type 0 where
 pub record Fits (a : Study) (rows target : List ℕ) : Type 0 where
   pub counts : Counts (a .road .n) (a .steps)
   pub all : length rows ≡ a .steps * rowNumbers (a .road .n)
-  pub room : sizeOf (a .road .n) (a .steps) ≤ length target
+  pub room : recordSize a ≤ length target
 
 -- the loop over the rows: those of t steps are put, and the next begins at `from`
 pub record Rowing (before : List ℕ) (start : ℕ) (rows : List ℕ) (n T t from : ℕ) (after : List ℕ) (end : ℕ) : Type 0 where
@@ -207,14 +214,14 @@ module _ {before : List ℕ} {start : ℕ} {rows : List ℕ} {n T : ℕ} where
 
 -- the whole record: where the header and the cells end, and the three one after the other
 module _ (a : Study) (target b : List ℕ) (p : ℕ) (header : Puts target 0 (headerBytes a) b p) where
-  pub header-ends : (p ≡ headerSize) × (length b ≡ length target)
+  pub header-ends : (p ≡ headerSize (a .road .version)) × (length b ≡ length target)
   header-ends = (
-    omega (arith, header .0, length-header (a .road .n) (a .steps) (a .road .«gate_capacity») (a .start .«gate_queue»)),
+    omega (arith, header .0, header-length a),
     ap length (header .1) ∙ length-placed target 0 (headerBytes a),
   )
 
   module _ (c : List ℕ) (q : ℕ) (cells : Puts b p (concatOf (cellBytes (a .road) (a .start)) (a .road .n)) c q) where
-    pub cells-end : (q ≡ headerSize + a .road .n * cellSize) × (length c ≡ length target)
+    pub cells-end : (q ≡ headerSize (a .road .version) + a .road .n * cellSize) × (length c ≡ length target)
     cells-end = (
       omega (arith, cells .0, header-ends .0, length-concat (cellBytes (a .road) (a .start)) cellSize (λ i. length-cell _ _ _ _ _ _ _ _) (a .road .n)),
       ap length (cells .1) ∙ length-placed b p (concatOf (cellBytes (a .road) (a .start)) (a .road .n)) ∙ header-ends .1,

@@ -9,18 +9,19 @@ use Rattle.road.specs.declared.State.{State}
 use Rattle.road.specs.declared.Start.{Start}
 use Rattle.road.specs.Road.{startState}
 use Rattle.road.specs.Study.{Study, study}
-use Rattle.fields.specs.Fields.{recordVersion, countSize, shortSize, numberSize, rowNumbers, bytesOf}
+use Rattle.fields.specs.Fields.{countSize, shortSize, numberSize, secondsSize, rowNumbers, bytesOf}
 use Rattle.reading.specs.Reading.{sizeOf}
 
--- the number of bytes that follow the first field; version; n; T; gate capacity and queue
-unfoldable pub headerOf : ℕ → ℕ → ℕ → ℕ → List ℕ
-headerOf n T capacity queue =
-    bytesOf countSize (sizeOf n T - countSize)
-    ++ (bytesOf 1 recordVersion
+-- the number of bytes that follow the first field; version; n; T; the step's seconds, where the version has them; gate capacity and queue
+unfoldable pub headerOf : ℕ → ℕ → ℕ → ℕ → ℕ → ℕ → List ℕ
+headerOf version n T seconds capacity queue =
+    bytesOf countSize (sizeOf version n T - countSize)
+    ++ (bytesOf 1 version
     ++ (bytesOf 1 n
     ++ (bytesOf shortSize T
+    ++ (bytesOf (secondsSize version) seconds
     ++ (bytesOf numberSize capacity
-    ++ bytesOf numberSize queue))))
+    ++ bytesOf numberSize queue)))))
 
 -- a cell: v, w, b, ramp mark, two bytes each; J, C, held, ramp queue, four bytes each
 unfoldable pub cellOf : ℕ → ℕ → ℕ → ℕ → ℕ → ℕ → ℕ → ℕ → List ℕ
@@ -38,9 +39,12 @@ cellOf speed wave share ramp jam capacity held queue =
 abbrev pub numbersOf : List ℕ → ℕ → List ℕ
 numbersOf row count = concatOf (λ k. bytesOf numberSize (at row k)) count
 
--- of a study: its header, the cell at i and the row of step t
+-- of a study: its record's size, its header, the cell at i and the row of step t
+abbrev pub recordSize : Study → ℕ
+recordSize a = sizeOf (a .road .version) (a .road .n) (a .steps)
+
 abbrev pub headerBytes : Study → List ℕ
-headerBytes a = headerOf (a .road .n) (a .steps) (a .road .«gate_capacity») (a .start .«gate_queue»)
+headerBytes a = headerOf (a .road .version) (a .road .n) (a .steps) (a .road .seconds) (a .road .«gate_capacity») (a .start .«gate_queue»)
 
 abbrev pub cellBytes : Road → State → ℕ → List ℕ
 cellBytes r s i =

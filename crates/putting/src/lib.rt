@@ -12,22 +12,25 @@ ghost use Rattle.reading.specs.ReadingLaws.{Counts};
 ghost use Rattle.putting.specs.Record.{headerOf, cellOf, numbersOf, cellBytes, rowBytes, recordOf, given};
 ghost use Rattle.putting.specs.Putting.{Rows, Fits};
 
-// The header: the count of bytes after its first field, the version, n, T, the gate's capacity and queue.
+// The header: the count of bytes after its first field, the version, n, T, the version's seconds, the gate's capacity and queue.
 fn put_header(
     target: &mut [u8],
+    version: u8,
     n: usize,
     steps: usize,
+    seconds: u16,
     gate_capacity: u32,
     gate_queue: u32,
 ) -> usize
-    requires { ⌜ (Counts n steps) × (headerSize ≤ length (now target)) ⌝ }
-    ensures { λ e. ⌜ Puts (now (target .entry)) 0 (headerOf n steps «gate_capacity» «gate_queue») (now (target .exit)) e ⌝ }
+    requires { ⌜ (Counts n steps) × (headerSize version ≤ length (now target)) ⌝ }
+    ensures { λ e. ⌜ Puts (now (target .entry)) 0 (headerOf version n steps seconds «gate_capacity» «gate_queue») (now (target .exit)) e ⌝ }
 {
-    let size = fields::row_start(n, steps);
+    let size = fields::row_start(version, n, steps);
     let to_version = fields::put_number(target, 0, (size - fields::COUNT_SIZE) as u32);
-    let to_cells = fields::put_byte(target, to_version, fields::VERSION as u8);
+    let to_cells = fields::put_byte(target, to_version, version);
     let to_steps = fields::put_byte(target, to_cells, n as u8);
-    let to_capacity = fields::put_short(target, to_steps, steps as u16);
+    let to_seconds = fields::put_short(target, to_steps, steps as u16);
+    let to_capacity = fields::put_seconds(target, to_seconds, version, seconds);
     let to_queue = fields::put_number(target, to_capacity, gate_capacity);
     fields::put_number(target, to_queue, gate_queue)
 }
@@ -122,7 +125,15 @@ pub fn put_record(road: Road, steps: usize, start: Start, rows: &[u32], target: 
     ensures { λ e. ⌜ Puts (now (target .entry)) 0 (recordOf (given road steps start (now (rows .entry)))) (now (target .exit)) e ⌝ }
 {
     let n = road.n;
-    let to_cells = put_header(target, n, steps, road.gate_capacity, start.gate_queue);
+    let to_cells = put_header(
+        target,
+        road.version,
+        n,
+        steps,
+        road.seconds,
+        road.gate_capacity,
+        start.gate_queue,
+    );
     let to_rows = put_cells(target, to_cells, road, start);
     put_rows(target, to_rows, n, rows, steps)
 }

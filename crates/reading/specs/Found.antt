@@ -12,13 +12,14 @@ use Rattle.road.specs.declared.State.{State}
 use Rattle.road.specs.Road.{mostSteps, mostBytes}
 use Rattle.road.specs.Refusals.{inHeader}
 use Rattle.numbers.specs.First.{unless, oneOf, firstOf, allOf}
-use Rattle.fields.specs.Fields.{recordVersion, countSize, headerSize, numberOf, recordRow}
+use Rattle.fields.specs.Fields.{versionOf, secondsOf, countSize, numberOf, recordRow}
 use Rattle.fields.specs.FieldsLaws.{length-row}
 use Rattle.numbers.specs.Tests.{le-head}
 use Rattle.numbers.specs.FirstLaws.{First, first, all-at}
 use Rattle.limits.specs.Limits.{placeOk}
 use Rattle.limits.specs.LimitsLaws.{RoadOk, StateOk, RowOk, places-road, places-state, row-facts}
-use Rattle.reading.specs.Reading.{ReadAnswer, versionOf, cellsOf, stepsOf, sizeOf, roadOf, startOf, lengthOk, cellsAndStepsOk, stepOk, refusedOf, acceptedOf, readingOf}
+use Rattle.reading.specs.Reading.{ReadAnswer, cellsOf, stepsOf, sizeOf, roadOf, startOf, bothVersions, lengthOk, cellsAndStepsOk, secondsOk, stepOk}
+use Rattle.reading.specs.Reading.{refusedOf, acceptedOf, readingBy, readingOf}
 use Rattle.reading.specs.ReadingLaws.{length-facts, counts-facts}
 
 -- a number below n at which a test fails, as it does nowhere below
@@ -33,10 +34,11 @@ lowest test n h =
 
 -- what holds of the road, T and the state of a record that reads
 pub record Accepted (s : List ℕ) (T : ℕ) (r : Road) (q : State) : Type 0 where
-  pub size : length s ≡ sizeOf (r .n) T
+  pub size : length s ≡ sizeOf (versionOf s) (r .n) T
   pub bytes : length s ≤ mostBytes
   pub count : numberOf s 0 countSize ≡ length s - countSize
-  pub version : versionOf s ≡ recordVersion
+  pub version : oneOf bothVersions (r .version) ≡ true
+  pub seconds : secondsOk (r .version) (r .seconds) ≡ true
   pub someSteps : 1 ≤ T
   pub steps : T ≤ mostSteps
   pub road : RoadOk r
@@ -51,52 +53,72 @@ pub data Found (s : List ℕ) : ReadAnswer → Type 0 where
   clear : Accepted s (stepsOf s) (roadOf s) (startOf s) → Found s (acceptedOf (stepsOf s) (roadOf s) (startOf s))
 
 module _ (s : List ℕ) where
-  accepted : lengthOk s ≡ true → eqb (versionOf s) recordVersion ≡ true → cellsAndStepsOk (cellsOf s) (stepsOf s) ≡ true → eqb (length s) (sizeOf (cellsOf s) (stepsOf s)) ≡ true
-      → allOf (placeOk (roadOf s) (startOf s)) (cellsOf s + 1) ≡ true → allOf (stepOk s (roadOf s)) (stepsOf s) ≡ true
+  -- the tests of the header, of the places and of the rows
+  abbrev lengths : Bool
+  lengths = lengthOk bothVersions s
+
+  abbrev version : Bool
+  version = oneOf bothVersions (versionOf s)
+
+  abbrev counts : Bool
+  counts = cellsAndStepsOk (cellsOf s) (stepsOf s)
+
+  abbrev seconds : Bool
+  seconds = secondsOk (versionOf s) (secondsOf s)
+
+  abbrev size : Bool
+  size = eqb (length s) (sizeOf (versionOf s) (cellsOf s) (stepsOf s))
+
+  abbrev places : Bool
+  places = allOf (placeOk (roadOf s) (startOf s)) (cellsOf s + 1)
+
+  abbrev rows : Bool
+  rows = allOf (stepOk s (roadOf s)) (stepsOf s)
+
+  accepted : lengths ≡ true → version ≡ true → counts ≡ true → seconds ≡ true → size ≡ true → places ≡ true → rows ≡ true
       → Accepted s (stepsOf s) (roadOf s) (startOf s)
-  accepted a b c d e f =
+  accepted a b c d e f g =
       let n = counts-facts (cellsOf s) (stepsOf s) c in
-      let first = le-head headerSize (length s) _ a in
-      let counted = eqb-true (numberOf s 0 countSize) (length s - countSize) (le-head (length s) mostBytes _ (first .1) .1) in
-      let places = all-at (placeOk (roadOf s) (startOf s)) (cellsOf s + 1) e in
-      let road = places-road (roadOf s) (startOf s) places (n .someCells) (n .cells) in
+      let counted = eqb-true (numberOf s 0 countSize) (length s - countSize) (le-head (length s) mostBytes _ (le-head _ (length s) _ a .1) .1) in
+      let all = all-at (placeOk (roadOf s) (startOf s)) (cellsOf s + 1) f in
+      let road = places-road (roadOf s) (startOf s) all (n .someCells) (n .cells) in
       record {
-        size = eqb-true (length s) (sizeOf (cellsOf s) (stepsOf s)) d;
+        size = eqb-true (length s) (sizeOf (versionOf s) (cellsOf s) (stepsOf s)) e;
         bytes = length-facts s a .1;
         count = counted;
-        version = eqb-true (versionOf s) recordVersion b;
+        version = b;
+        seconds = d;
         someSteps = n .someSteps;
         steps = n .steps;
         road = road;
-        state = places-state (roadOf s) (startOf s) places (omega arith) (omega arith);
-        row = λ t l. row-facts (roadOf s) (recordRow s (cellsOf s) t) (length-row s (cellsOf s) t) (road .ramp) (all-at (stepOk s (roadOf s)) (stepsOf s) f t l);
+        state = places-state (roadOf s) (startOf s) all (omega arith) (omega arith);
+        row = λ t l. row-facts (roadOf s) (recordRow s (cellsOf s) t) (length-row s (cellsOf s) t) (road .ramp) (all-at (stepOk s (roadOf s)) (stepsOf s) g t l);
       }
 
   pub read-found : Found s (readingOf s)
-  unfolding readingOf inHeader oneOf
-  read-found =
-      go (lengthOk s) (eqb (versionOf s) recordVersion) (cellsAndStepsOk (cellsOf s) (stepsOf s)) (eqb (length s) (sizeOf (cellsOf s) (stepsOf s)))
-      (allOf (placeOk (roadOf s) (startOf s)) (cellsOf s + 1)) (allOf (stepOk s (roadOf s)) (stepsOf s)) refl refl refl refl refl refl
+  unfolding readingBy inHeader oneOf
+  read-found = go lengths version counts seconds size places rows refl refl refl refl refl refl refl
     where
-      go : (a b c d e f : Bool) → lengthOk s ≡ a → eqb (versionOf s) recordVersion ≡ b → cellsAndStepsOk (cellsOf s) (stepsOf s) ≡ c
-          → eqb (length s) (sizeOf (cellsOf s) (stepsOf s)) ≡ d
-          → allOf (placeOk (roadOf s) (startOf s)) (cellsOf s + 1) ≡ e → allOf (stepOk s (roadOf s)) (stepsOf s) ≡ f
+      go : (a b c d e f g : Bool) → lengths ≡ a → version ≡ b → counts ≡ c → seconds ≡ d → size ≡ e → places ≡ f → rows ≡ g
           → Found s
           (unless a (refusedOf 1 0)
           (unless b (refusedOf 2 0)
           (unless c (refusedOf 3 0)
-          (unless d (refusedOf 4 0)
-          (unless e (refusedOf 5 (firstOf (placeOk (roadOf s) (startOf s)) (cellsOf s + 1)))
-          (unless f (refusedOf 6 (firstOf (stepOk s (roadOf s)) (stepsOf s)))
-          (acceptedOf (stepsOf s) (roadOf s) (startOf s))))))))
-      go false b c d e f ea eb ec ed ee ef = early 1 refl
-      go true false c d e f ea eb ec ed ee ef = early 2 refl
-      go true true false d e f ea eb ec ed ee ef = early 3 refl
-      go true true true false e f ea eb ec ed ee ef = early 4 refl
-      go true true true true false f ea eb ec ed ee ef =
-          atPlace (firstOf (placeOk (roadOf s) (startOf s)) (cellsOf s + 1)) (lowest (placeOk (roadOf s) (startOf s)) (cellsOf s + 1) ee)
-      go true true true true true false ea eb ec ed ee ef = atStep (firstOf (stepOk s (roadOf s)) (stepsOf s)) (lowest (stepOk s (roadOf s)) (stepsOf s) ef)
-      go true true true true true true ea eb ec ed ee ef = clear (accepted ea eb ec ed ee ef)
+          (unless d (refusedOf 19 0)
+          (unless e (refusedOf 4 0)
+          (unless f (refusedOf 5 (firstOf (placeOk (roadOf s) (startOf s)) (cellsOf s + 1)))
+          (unless g (refusedOf 6 (firstOf (stepOk s (roadOf s)) (stepsOf s)))
+          (acceptedOf (stepsOf s) (roadOf s) (startOf s)))))))))
+      go false b c d e f g ea eb ec ed ee ef eg = early 1 refl
+      go true false c d e f g ea eb ec ed ee ef eg = early 2 refl
+      go true true false d e f g ea eb ec ed ee ef eg = early 3 refl
+      go true true true false e f g ea eb ec ed ee ef eg = early 19 refl
+      go true true true true false f g ea eb ec ed ee ef eg = early 4 refl
+      go true true true true true false g ea eb ec ed ee ef eg =
+          atPlace (firstOf (placeOk (roadOf s) (startOf s)) (cellsOf s + 1)) (lowest (placeOk (roadOf s) (startOf s)) (cellsOf s + 1) ef)
+      go true true true true true true false ea eb ec ed ee ef eg =
+          atStep (firstOf (stepOk s (roadOf s)) (stepsOf s)) (lowest (stepOk s (roadOf s)) (stepsOf s) eg)
+      go true true true true true true true ea eb ec ed ee ef eg = clear (accepted ea eb ec ed ee ef eg)
 
 -- none of the header's refusals is 0, 5 or 6
 module _ {number : ℕ} (h : inHeader number ≡ true) where

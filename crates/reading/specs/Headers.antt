@@ -5,25 +5,27 @@ use mathlib.Core.List.{List}
 use Prim.Native.Nat.{ℕ, _≤_}
 use lib.ListN.{length}
 use Rattle.road.specs.Road.{mostCells}
-use Rattle.fields.specs.Fields.{recordVersion, rowStart}
-use Rattle.reading.specs.Reading.{versionOf, cellsOf, stepsOf, sizeOf, lengthOk, cellsAndStepsOk}
+use Rattle.numbers.specs.First.{oneOf}
+use Rattle.fields.specs.Fields.{versionOf, secondsOf, rowStart}
+use Rattle.reading.specs.Reading.{cellsOf, stepsOf, sizeOf, bothVersions, lengthOk, cellsAndStepsOk, secondsOk}
 
 -- a record that holds the fields of its n cells
 pub record Cells (s : List ℕ) (n : ℕ) : Type 0 where
   pub count : n ≡ cellsOf s
   pub most : n ≤ mostCells
-  pub held : rowStart n 0 ≤ length s
+  pub held : rowStart (versionOf s) n 0 ≤ length s
 
 -- a record that holds the rows of T steps
 pub record Steps (s : List ℕ) (n T : ℕ) : Type 0 where
   pub most : n ≤ mostCells
-  pub held : rowStart n T ≤ length s
+  pub held : rowStart (versionOf s) n T ≤ length s
 
--- a record that refusals 1 to 4 let through
+-- a record that refusals 1, 2, 3, 19 and 4 let through
 pub record Header (s : List ℕ) (n T : ℕ) : Type 0 where
-  pub lengths : lengthOk s ≡ true
-  pub version : versionOf s ≡ recordVersion
+  pub lengths : lengthOk bothVersions s ≡ true
+  pub version : oneOf bothVersions (versionOf s) ≡ true
   pub cells : n ≡ cellsOf s
   pub steps : T ≡ stepsOf s
   pub counts : cellsAndStepsOk n T ≡ true
-  pub size : length s ≡ sizeOf n T
+  pub seconds : secondsOk (versionOf s) (secondsOf s) ≡ true
+  pub size : length s ≡ sizeOf (versionOf s) n T

@@ -4,5 +4,6 @@ pub mod ReadingLaws
 pub mod Found
 pub mod Within
 pub mod Numbers
+pub mod Versions
 pub mod Table
 pub mod Sample

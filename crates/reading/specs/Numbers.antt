@@ -7,7 +7,7 @@ use lib.ListN.{length}
 use Rattle.road.specs.declared.Road.{Road}
 use Rattle.road.specs.declared.State.{State}
 use Rattle.road.specs.Road.{zeros}
-use Rattle.fields.specs.Fields.{shortSize, numberSize, numberOf}
+use Rattle.fields.specs.Fields.{shortSize, numberSize, numberOf, versionOf, secondsOf}
 use Rattle.fields.specs.Fields.{gateCapacityOffset, gateQueueOffset, speedOffset, waveOffset, shareOffset, rampOffset, jamOffset, capacityOffset, heldOffset, queueOffset}
 use Rattle.fields.specs.FieldsLaws.{Column, column}
 use Rattle.road.specs.RoadLaws.{length-zeros}
@@ -17,14 +17,16 @@ use Rattle.reading.specs.Found.{Found, read-found, early-refused}
 pub record Numbers (s : List ℕ) (T : ℕ) (r : Road) (q : State) : Type 0 where
   pub cells : r .n ≡ cellsOf s
   pub steps : T ≡ stepsOf s
-  pub gateCapacity : r .«gate_capacity» ≡ numberOf s gateCapacityOffset numberSize
+  pub version : r .version ≡ versionOf s
+  pub seconds : r .seconds ≡ secondsOf s
+  pub gateCapacity : r .«gate_capacity» ≡ numberOf s (gateCapacityOffset (versionOf s)) numberSize
   pub speed : Column s speedOffset shortSize (r .n) (r .speed)
   pub wave : Column s waveOffset shortSize (r .n) (r .wave)
   pub share : Column s shareOffset shortSize (r .n) (r .share)
   pub ramp : Column s rampOffset shortSize (r .n) (r .ramp)
   pub jam : Column s jamOffset numberSize (r .n) (r .jam)
   pub capacity : Column s capacityOffset numberSize (r .n) (r .capacity)
-  pub gateQueue : q .«gate_queue» ≡ numberOf s gateQueueOffset numberSize
+  pub gateQueue : q .«gate_queue» ≡ numberOf s (gateQueueOffset (versionOf s)) numberSize
   pub held : Column s heldOffset numberSize (r .n) (q .held)
   pub queue : Column s queueOffset numberSize (r .n) (q .queue)
   -- the state before step 0, with every F, every time and the steps done 0
@@ -45,6 +47,8 @@ found-numbers s (Found.clear w) h =
     record {
       cells = refl;
       steps = refl;
+      version = refl;
+      seconds = refl;
       gateCapacity = refl;
       speed = column s speedOffset shortSize n m;
       wave = column s waveOffset shortSize n m;

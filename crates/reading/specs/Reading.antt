@@ -1,17 +1,17 @@
 -- docs/MODEL.md, 'The operations and their refusals', reading: its refusals in order, and what it gives. Assumes nothing.
-use mathlib.Core.Bool.{Bool, _&&_}
-use mathlib.Core.List.{List}
+use mathlib.Core.Bool.{Bool, true, cond, _&&_}
+use mathlib.Core.List.{List, [], _∷_}
 use Prim.Native.Nat.{ℕ, _+_, _-_}
 use lib.Dec.{leb, eqb}
 use lib.ListN.{length}
 use Rattle.road.specs.declared.Road.{Road}
 use Rattle.road.specs.declared.State.{State}
-use Rattle.road.specs.Road.{zeros, emptyRoad, emptyState, mostCells, mostSteps, mostBytes}
-use Rattle.numbers.specs.First.{unless, unlessFirst, firstOf, allOf}
+use Rattle.road.specs.Road.{zeros, emptyRoad, emptyState, mostCells, mostSteps, mostBytes, mostSeconds}
+use Rattle.numbers.specs.First.{unless, oneOf, unlessFirst, firstOf, allOf}
 use Rattle.road.specs.Refusals.{refusalNumber}
 use Rattle.road.specs.Study.{Study, study}
-use Rattle.fields.specs.Fields.{recordVersion, countSize, shortSize, numberSize, headerSize, rowStart, numberOf, columnOf, recordRow}
-use Rattle.fields.specs.Fields.{versionOffset, cellsOffset, stepsOffset, gateCapacityOffset, gateQueueOffset}
+use Rattle.fields.specs.Fields.{firstVersion, secondVersion, countSize, shortSize, numberSize, headerSize, rowStart, numberOf, columnOf, recordRow}
+use Rattle.fields.specs.Fields.{versionOf, secondsOf, cellsOffset, stepsOffset, gateCapacityOffset, gateQueueOffset}
 use Rattle.fields.specs.Fields.{speedOffset, waveOffset, shareOffset, rampOffset, jamOffset, capacityOffset, heldOffset, queueOffset}
 use Rattle.limits.specs.Limits.{placeOk, rowOk}
 use Rattle.road.specs.declared.Reading.{Reading}
@@ -34,25 +34,24 @@ readAnswer a = record {
   state = a .state;
 }
 
--- the header's version, n and T
-abbrev pub versionOf : List ℕ → ℕ
-versionOf s = numberOf s versionOffset 1
-
+-- the header's n and T
 abbrev pub cellsOf : List ℕ → ℕ
 cellsOf s = numberOf s cellsOffset 1
 
 abbrev pub stepsOf : List ℕ → ℕ
 stepsOf s = numberOf s stepsOffset shortSize
 
--- the whole is 16 + 24n + T × (4 + 8n) bytes
-abbrev pub sizeOf : ℕ → ℕ → ℕ
-sizeOf n T = rowStart n T
+-- the whole is 16 + 24n + T × (4 + 8n) bytes, in version 2 two more
+abbrev pub sizeOf : ℕ → ℕ → ℕ → ℕ
+sizeOf version n T = rowStart version n T
 
--- the road that the gate's capacity and the cells' fields give
+-- the road that the header and the cells' fields give
 abbrev pub roadOf : List ℕ → Road
 roadOf s = record {
   n = cellsOf s;
-  «gate_capacity» = numberOf s gateCapacityOffset numberSize;
+  version = versionOf s;
+  seconds = secondsOf s;
+  «gate_capacity» = numberOf s (gateCapacityOffset (versionOf s)) numberSize;
   speed = columnOf s speedOffset shortSize (cellsOf s);
   wave = columnOf s waveOffset shortSize (cellsOf s);
   share = columnOf s shareOffset shortSize (cellsOf s);
@@ -68,20 +67,36 @@ startOf s = record {
   «gate_time» = 0;
   «road_time» = 0;
   «ramp_time» = 0;
-  «gate_queue» = numberOf s gateQueueOffset numberSize;
+  «gate_queue» = numberOf s (gateQueueOffset (versionOf s)) numberSize;
   «gate_cumulative» = 0;
   held = columnOf s heldOffset numberSize (cellsOf s);
   queue = columnOf s queueOffset numberSize (cellsOf s);
   cumulative = zeros;
 }
 
--- 1: 16 to 65,536 bytes, and the first field is the count of bytes after it (of 16 or more, so the difference cuts nothing off)
-abbrev pub lengthOk : List ℕ → Bool
-lengthOk s = leb headerSize (length s) && (leb (length s) mostBytes && eqb (numberOf s 0 countSize) (length s - countSize))
+-- the versions that a reader knows: both, and version 1 alone
+abbrev pub bothVersions : List ℕ
+bothVersions = firstVersion ∷ secondVersion ∷ []
+
+abbrev pub firstAlone : List ℕ
+firstAlone = firstVersion ∷ []
+
+-- 1's least size: that of the version's header, or of version 1's for a version that the reader doesn't know
+abbrev pub leastSize : List ℕ → ℕ → ℕ
+leastSize known version = headerSize (cond (oneOf known version) version firstVersion)
+
+-- 1: from the least size to 65,536 bytes, and the first field is the count of bytes after it (of 16 or more, so the difference cuts nothing off)
+abbrev pub lengthOk : List ℕ → List ℕ → Bool
+lengthOk known s =
+    leb (leastSize known (versionOf s)) (length s) && (leb (length s) mostBytes && eqb (numberOf s 0 countSize) (length s - countSize))
 
 -- 3: n and T are within their limits
 abbrev pub cellsAndStepsOk : ℕ → ℕ → Bool
 cellsAndStepsOk n T = leb 1 n && (leb n mostCells && (leb 1 T && leb T mostSteps))
+
+-- 19: in version 2 the step's seconds are 1 to 900; in another they are not looked at
+abbrev pub secondsOk : ℕ → ℕ → Bool
+secondsOk version seconds = cond (eqb version secondVersion) (leb 1 seconds && leb seconds mostSeconds) true
 
 -- 6: the row of step t is within the limits
 abbrev pub stepOk : List ℕ → Road → ℕ → Bool
@@ -95,16 +110,24 @@ refusedOf number place = record { number = number; place = place; steps = 0; roa
 abbrev pub acceptedOf : ℕ → Road → State → ReadAnswer
 acceptedOf T r s = record { number = 0; place = 0; steps = T; road = r; state = s }
 
--- refusals, in order; the place is the lowest cell (0 for the gate) for 5, the first step for 6, and 0 otherwise
-unfoldable pub readingOf : List ℕ → ReadAnswer
-readingOf s =
-    unless (lengthOk s) (refusedOf 1 0)
-    (unless (eqb (versionOf s) recordVersion) (refusedOf 2 0)
+-- refusals of a reader that knows these versions, in order; the place is the lowest cell (0 for the gate) for 5, the first step for 6, and 0 otherwise
+unfoldable pub readingBy : List ℕ → List ℕ → ReadAnswer
+readingBy known s =
+    unless (lengthOk known s) (refusedOf 1 0)
+    (unless (oneOf known (versionOf s)) (refusedOf 2 0)
     (unless (cellsAndStepsOk (cellsOf s) (stepsOf s)) (refusedOf 3 0)
-    (unless (eqb (length s) (sizeOf (cellsOf s) (stepsOf s))) (refusedOf 4 0)
+    (unless (secondsOk (versionOf s) (secondsOf s)) (refusedOf 19 0)
+    (unless (eqb (length s) (sizeOf (versionOf s) (cellsOf s) (stepsOf s))) (refusedOf 4 0)
     (unlessFirst (placeOk (roadOf s) (startOf s)) (cellsOf s + 1) (refusedOf 5)
     (unlessFirst (stepOk s (roadOf s)) (stepsOf s) (refusedOf 6)
-    (acceptedOf (stepsOf s) (roadOf s) (startOf s)))))))
+    (acceptedOf (stepsOf s) (roadOf s) (startOf s))))))))
+
+-- reading knows both versions, and the first reader knew version 1 alone
+abbrev pub readingOf : List ℕ → ReadAnswer
+readingOf s = readingBy bothVersions s
+
+abbrev pub firstReadingOf : List ℕ → ReadAnswer
+firstReadingOf s = readingBy firstAlone s
 
 -- the study of a record that gave this road, start and T, under a table of lanes: its rows stand in the bytes
 abbrev pub studyBy : List ℕ → List ℕ → Road → State → ℕ → Study

@@ -1,42 +1,83 @@
 -- Laws of reading that its code goes by. Assumes nothing.
-use mathlib.Core.Path.{_≡_, sym, ap, _∙_}
-use mathlib.Core.Bool.{Bool, true, false}
+use mathlib.Core.Path.{_≡_, refl, sym, ap, _∙_}
+use mathlib.Core.Bool.{Bool, true, false, cond, _&&_, _||_}
 use mathlib.Core.List.{List}
 use Prim.Native.Nat.{ℕ, _+_, _-_, _*_, _≤_, _<_}
-use native.Mathlib.Nat.{mul-le-mul}
 use native.Mathlib.Omega.{arith}
 use borrow.Author.Count.{below-more, below-none}
-use lib.Dec.{eqb}
+use lib.Dec.{leb, eqb}
 use lib.ListN.{length}
-use borrow.Author.Tests.{leb-true, le-leb, lt-leb, eq-eqb, ne-eqb}
+use borrow.Author.Tests.{leb-true, le-leb, lt-leb, eqb-true, eqb-false, eq-eqb, ne-eqb}
 use Rattle.road.specs.declared.Road.{Road}
 use Rattle.road.specs.declared.State.{State}
-use Rattle.road.specs.Road.{mostCells, mostSteps, mostBytes}
-use Rattle.fields.specs.Fields.{recordVersion, countSize, headerSize, rowSize, numberOf, recordRow, HoldsRow}
-use Rattle.fields.specs.FieldsLaws.{holds-row}
+use Rattle.road.specs.Road.{mostCells, mostSteps, mostBytes, mostSeconds}
+use Rattle.fields.specs.Fields.{firstVersion, secondVersion, versionOf, secondsOf, countSize, headerSize, rowSize, numberOf, recordRow, HoldsRow}
+use Rattle.fields.specs.FieldsLaws.{seconds-none, mostSize, start-small, holds-row}
 use Rattle.numbers.specs.Tests.{le-head}
-use Rattle.numbers.specs.First.{firstOf}
+use Rattle.numbers.specs.First.{oneOf, firstOf}
 use Rattle.numbers.specs.FirstLaws.{first-stop, first-none}
 use Rattle.limits.specs.Limits.{placeOk, rowOk}
 use Rattle.numbers.specs.First.{unlessFirst}
 use Rattle.reading.specs.Headers.{Cells, Steps, Header}
-use Rattle.reading.specs.Reading.{versionOf, cellsOf, stepsOf, sizeOf, roadOf, startOf}
-use Rattle.reading.specs.Reading.{lengthOk, cellsAndStepsOk, stepOk, ReadAnswer, refusedOf, acceptedOf, readingOf}
+use Rattle.reading.specs.Reading.{cellsOf, stepsOf, sizeOf, roadOf, startOf, bothVersions, leastSize}
+use Rattle.reading.specs.Reading.{lengthOk, cellsAndStepsOk, secondsOk, stepOk, ReadAnswer, refusedOf, acceptedOf, readingBy, readingOf}
+
+-- both versions are known: in code, by one test or the other
+pub known-both : (version : ℕ) → eqb version firstVersion || eqb version secondVersion ≡ oneOf bothVersions version
+unfolding oneOf
+known-both version = go (eqb version firstVersion) (eqb version secondVersion)
+  where
+    go : (a b : Bool) → a || b ≡ cond a true (cond b true false)
+    go true b = refl
+    go false true = refl
+    go false false = refl
+
+-- and no version above 2 is
+pub known-most : (version : ℕ) → oneOf bothVersions version ≡ true → version ≤ secondVersion
+unfolding oneOf
+known-most version = go (eqb version firstVersion) (eqb version secondVersion) refl refl
+  where
+    go : (a b : Bool) → eqb version firstVersion ≡ a → eqb version secondVersion ≡ b → cond a true (cond b true false) ≡ true → version ≤ secondVersion
+    go true b e f h = omega (arith, eqb-true version firstVersion e)
+    go false true e f h = omega (arith, eqb-true version secondVersion f)
+    go false false e f h = absurd (let z : _≡_ {A = ℕ} 0 1 = cc in omega arith)
+
+-- to a reader that knows both, the least size is that of the version's own header: 16 for all but version 2
+pub least-both : (version : ℕ) → leastSize bothVersions version ≡ headerSize version
+unfolding oneOf
+least-both version = go (eqb version firstVersion) (eqb version secondVersion) refl refl
+  where
+    go : (a b : Bool) → eqb version firstVersion ≡ a → eqb version secondVersion ≡ b
+        → headerSize (cond (cond a true (cond b true false)) version firstVersion) ≡ headerSize version
+    go true b e f = refl
+    go false true e f = refl
+    go false false e f = omega (arith, seconds-none firstVersion (λ z. omega (arith, z)), seconds-none version (eqb-false version secondVersion f))
 
 -- the length of a record
-pub length-facts : (s : List ℕ) → lengthOk s ≡ true → (headerSize ≤ length s) × (length s ≤ mostBytes)
-length-facts s h = let a = le-head _ _ _ h in (a .0, le-head _ _ _ (a .1) .0)
+pub length-facts : (s : List ℕ) → lengthOk bothVersions s ≡ true → (headerSize (versionOf s) ≤ length s) × (length s ≤ mostBytes)
+length-facts s h =
+    let a = le-head (leastSize bothVersions (versionOf s)) (length s) _ h in
+    (omega (arith, a .0, least-both (versionOf s)), le-head _ _ _ (a .1) .0)
 
 -- the length's test, from what the code finds
 module _ (s : List ℕ) where
-  pub length-short : length s < headerSize → false ≡ lengthOk s
-  length-short h = rw (lt-leb headerSize (length s) h)
+  pub length-short : length s < headerSize (versionOf s) → false ≡ lengthOk bothVersions s
+  length-short h = rw (least-both (versionOf s), lt-leb (headerSize (versionOf s)) (length s) h)
 
-  pub length-long : headerSize ≤ length s → mostBytes < length s → false ≡ lengthOk s
-  length-long h l = rw (le-leb headerSize (length s) h, lt-leb (length s) mostBytes l)
+  module _ (h : headerSize (versionOf s) ≤ length s) where
+    pub length-long : mostBytes < length s → false ≡ lengthOk bothVersions s
+    length-long l = rw (least-both (versionOf s), le-leb (headerSize (versionOf s)) (length s) h, lt-leb (length s) mostBytes l)
 
-  pub length-counted : (m : ℕ) → headerSize ≤ length s → length s ≤ mostBytes → m ≡ numberOf s 0 countSize → eqb m (length s - countSize) ≡ lengthOk s
-  length-counted m h l e = rw (le-leb headerSize (length s) h, le-leb (length s) mostBytes l, e)
+    pub length-counted : (m : ℕ) → length s ≤ mostBytes → m ≡ numberOf s 0 countSize → eqb m (length s - countSize) ≡ lengthOk bothVersions s
+    length-counted m l e = rw (least-both (versionOf s), le-leb (headerSize (versionOf s)) (length s) h, le-leb (length s) mostBytes l, e)
+
+-- 19's test: in version 2, and in any other
+module _ (version seconds : ℕ) where
+  pub seconds-tested : version ≡ secondVersion → leb 1 seconds && leb seconds mostSeconds ≡ secondsOk version seconds
+  seconds-tested e = rw (eq-eqb version secondVersion e)
+
+  pub seconds-unread : (version ≡ secondVersion → ⊥) → true ≡ secondsOk version seconds
+  seconds-unread h = rw (ne-eqb version secondVersion h)
 
 -- n and T within their limits
 pub record Counts (n T : ℕ) : Type 0 where
@@ -53,8 +94,8 @@ counts-facts n T h =
     record { someCells = a .0; cells = b .0; someSteps = c .0; steps = leb-true _ _ (c .1) }
 
 -- and then the size fits a machine number
-pub size-small : {n T : ℕ} → Counts n T → T * rowSize n ≤ mostSteps * rowSize mostCells
-size-small {n} {T} c = let k : rowSize n ≤ rowSize mostCells = omega (arith, c .cells) in mul-le-mul (c .steps) k
+pub size-small : (version : ℕ) {n T : ℕ} → Counts n T → sizeOf version n T ≤ mostSize
+size-small version {n} {T} c = start-small version n T (c .cells) (c .steps)
 
 -- what the header asks is what the cells and the rows ask
 module _ {s : List ℕ} {n T : ℕ} (h : Header s n T) where
@@ -83,40 +124,47 @@ module _ {s : List ℕ} {n T : ℕ} (h : Header s n T) where
 
 -- the refusals of the header, each from the tests on the way to it
 module _ (s : List ℕ) where
-  pub answer-length : {x : ReadAnswer} → lengthOk s ≡ false → x ≡ refusedOf 1 0 → x ≡ readingOf s
-  unfolding readingOf
+  pub answer-length : {x : ReadAnswer} → lengthOk bothVersions s ≡ false → x ≡ refusedOf 1 0 → x ≡ readingOf s
+  unfolding readingBy
   answer-length h g = g ∙ rw h
 
-  pub answer-version : {x : ReadAnswer} {v : ℕ} → lengthOk s ≡ true → v ≡ versionOf s → (v ≡ recordVersion → ⊥) → x ≡ refusedOf 2 0 → x ≡ readingOf s
-  unfolding readingOf
-  answer-version {v = v} h e k g = g ∙ rw (h, ← e, ne-eqb v recordVersion k)
+  pub answer-version : {x : ReadAnswer} → lengthOk bothVersions s ≡ true → oneOf bothVersions (versionOf s) ≡ false → x ≡ refusedOf 2 0 → x ≡ readingOf s
+  unfolding readingBy
+  answer-version h k g = g ∙ rw (h, k)
 
 -- a record that refusals 1 and 2 let through, with its n and T
 pub record Opened (s : List ℕ) (n T : ℕ) : Type 0 where
-  pub lengths : lengthOk s ≡ true
-  pub version : versionOf s ≡ recordVersion
+  pub lengths : lengthOk bothVersions s ≡ true
+  pub version : oneOf bothVersions (versionOf s) ≡ true
   pub cells : n ≡ cellsOf s
   pub steps : T ≡ stepsOf s
 
 module _ {s : List ℕ} {n T : ℕ} (h : Opened s n T) where
   pub answer-counts : {x : ReadAnswer} → cellsAndStepsOk n T ≡ false → x ≡ refusedOf 3 0 → x ≡ readingOf s
-  unfolding readingOf
-  answer-counts k g = g ∙ rw (h .lengths, eq-eqb (versionOf s) recordVersion (h .version), ← h .cells, ← h .steps, k)
+  unfolding readingBy
+  answer-counts k g = g ∙ rw (h .lengths, h .version, ← h .cells, ← h .steps, k)
 
-  module _ (k : cellsAndStepsOk n T ≡ true) {size : ℕ} (e : size ≡ sizeOf n T) where
-    pub answer-size : {x : ReadAnswer} → (length s ≡ size → ⊥) → x ≡ refusedOf 4 0 → x ≡ readingOf s
-    unfolding readingOf
-    answer-size z g = g ∙ rw (
-      h .lengths,
-      eq-eqb (versionOf s) recordVersion (h .version),
-      ← h .cells,
-      ← h .steps,
-      k,
-      ne-eqb (length s) (sizeOf n T) (λ x. z (x ∙ sym e)),
-    )
+  module _ (k : cellsAndStepsOk n T ≡ true) where
+    pub answer-seconds : {x : ReadAnswer} → secondsOk (versionOf s) (secondsOf s) ≡ false → x ≡ refusedOf 19 0 → x ≡ readingOf s
+    unfolding readingBy
+    answer-seconds l g = g ∙ rw (h .lengths, h .version, ← h .cells, ← h .steps, k, l)
 
-    pub header-passed : length s ≡ size → Header s n T
-    header-passed z = record { lengths = h .lengths; version = h .version; cells = h .cells; steps = h .steps; counts = k; size = z ∙ e }
+    module _ (l : secondsOk (versionOf s) (secondsOf s) ≡ true) {size : ℕ} (e : size ≡ sizeOf (versionOf s) n T) where
+      pub answer-size : {x : ReadAnswer} → (length s ≡ size → ⊥) → x ≡ refusedOf 4 0 → x ≡ readingOf s
+      unfolding readingBy
+      answer-size z g =
+          g ∙ rw (h .lengths, h .version, ← h .cells, ← h .steps, k, l, ne-eqb (length s) (sizeOf (versionOf s) n T) (λ x. z (x ∙ sym e)))
+
+      pub header-passed : length s ≡ size → Header s n T
+      header-passed z = record {
+        lengths = h .lengths;
+        version = h .version;
+        cells = h .cells;
+        steps = h .steps;
+        counts = k;
+        seconds = l;
+        size = z ∙ e;
+      }
 
 -- what follows the header
 abbrev bodyOf : List ℕ → ℕ → Road → State → ReadAnswer
@@ -125,7 +173,7 @@ bodyOf s T r q =
     (unlessFirst (stepOk s r) T (refusedOf 6)
     (acceptedOf T r q))
 
--- a record that refusals 1 to 4 let through, with its road, its start and the lowest place at fault
+-- a record that the header's refusals let through, with its road, its start and the lowest place at fault
 pub record Body (s : List ℕ) (n T : ℕ) (r : Road) (q : State) (p : ℕ) : Type 0 where
   pub header : Header s n T
   pub road : r ≡ roadOf s
@@ -134,18 +182,19 @@ pub record Body (s : List ℕ) (n T : ℕ) (r : Road) (q : State) (p : ℕ) : Ty
 
 module _ {s : List ℕ} {n T : ℕ} {r : Road} {q : State} {p : ℕ} (b : Body s n T r q p) where
   body : bodyOf s T r q ≡ readingOf s
-  unfolding readingOf
+  unfolding readingBy
   body =
       let h = b .header in
       rw (
         b .road,
         b .start,
         h .lengths,
-        eq-eqb (versionOf s) recordVersion (h .version),
+        h .version,
         ← h .cells,
         ← h .steps,
         h .counts,
-        eq-eqb (length s) (sizeOf n T) (h .size),
+        h .seconds,
+        eq-eqb (length s) (sizeOf (versionOf s) n T) (h .size),
       )
 
   places : r .n ≡ n

@@ -2,16 +2,16 @@
 use mathlib.Core.Path.{_≡_, refl}
 use mathlib.Core.Bool.{true, false}
 use mathlib.Core.List.{List, [], _∷_, _++_, map}
-use Prim.Native.Nat.{ℕ}
+use Prim.Native.Nat.{ℕ, _+_}
 use lib.ListN.{length, set, replicate}
 use Rattle.road.specs.declared.Road.{Road}
 use Rattle.road.specs.declared.State.{State}
 use Rattle.road.specs.Road.{zeros}
 use Rattle.rows.specs.Rows.{fillOf, listOf}
-use Rattle.fields.specs.Fields.{numberOf, recordRow}
-use Rattle.numbers.specs.First.{firstFrom, firstOf}
+use Rattle.fields.specs.Fields.{gateCapacityOffset, gateQueueOffset, headerSize, numberOf, secondsSize, recordRow}
+use Rattle.numbers.specs.First.{oneOf, firstFrom, firstOf}
 use Rattle.limits.specs.Limits.{placeOk, rowOk}
-use Rattle.reading.specs.Reading.{cellsAndStepsOk, acceptedOf, readingOf}
+use Rattle.reading.specs.Reading.{bothVersions, cellsAndStepsOk, acceptedOf, readingBy, readingOf}
 
 -- 120 bytes follow the first field; version 1, n 2, T 3; gate capacity 2000, queue 3000
 unfoldable pub header : List ℕ
@@ -43,6 +43,8 @@ cells a b = a ∷ b ∷ replicate 62 0
 road : Road
 road = record {
   n = 2;
+  version = 1;
+  seconds = 0;
   «gate_capacity» = 2000;
   speed = cells 500 500;
   wave = cells 250 250;
@@ -66,11 +68,11 @@ start = record {
 }
 
 accepted : readingOf sample ≡ acceptedOf 3 road start
-unfolding sample header upstream downstream row cells road start readingOf numberOf fillOf listOf firstFrom firstOf placeOk rowOk
+unfolding sample header upstream downstream row cells road start readingBy oneOf numberOf secondsSize fillOf listOf firstFrom firstOf placeOk rowOk
 accepted = refl
 
 rows : map (recordRow sample 2) (0 ∷ 1 ∷ 2 ∷ []) ≡ replicate 3 (1000 ∷ 0 ∷ 0 ∷ 500 ∷ 300 ∷ [])
-unfolding sample header upstream downstream row numberOf listOf
+unfolding sample header upstream downstream row numberOf secondsSize listOf
 rows = refl
 
 -- n 64 and T 1,440 pass their check; 65, 0 and 1,441 are 3
@@ -82,18 +84,69 @@ counts = refl
 fault : ℕ → ℕ → List ℕ
 fault i byte = readingOf (set sample i byte) .number ∷ readingOf (set sample i byte) .place ∷ []
 
--- the first field one off; version 2; T 0; n 3
-faults-header : fault 3 121 ∷ fault 4 2 ∷ fault 7 0 ∷ fault 5 3 ∷ [] ≡ (1 ∷ 0 ∷ []) ∷ (2 ∷ 0 ∷ []) ∷ (3 ∷ 0 ∷ []) ∷ (4 ∷ 0 ∷ []) ∷ []
-unfolding fault sample header upstream downstream row readingOf numberOf fillOf listOf firstFrom firstOf placeOk rowOk
+-- the first field one off; version 3; T 0; n 3
+faults-header : fault 3 121 ∷ fault 4 3 ∷ fault 7 0 ∷ fault 5 3 ∷ [] ≡ (1 ∷ 0 ∷ []) ∷ (2 ∷ 0 ∷ []) ∷ (3 ∷ 0 ∷ []) ∷ (4 ∷ 0 ∷ []) ∷ []
+unfolding fault sample header upstream downstream row readingBy oneOf numberOf secondsSize fillOf listOf firstFrom firstOf placeOk rowOk
 faults-header = refl
 
 -- the gate's queue above its limit; at cell 1 mark 256, held above J, a queue without a ramp; at cell 2 a share other than 0, and a queue above its limit
 faults-place : fault 12 60 ∷ fault 22 1 ∷ fault 34 32 ∷ fault 39 1 ∷ fault 45 1 ∷ fault 60 60 ∷ []
     ≡ (5 ∷ 0 ∷ []) ∷ (5 ∷ 1 ∷ []) ∷ (5 ∷ 1 ∷ []) ∷ (5 ∷ 1 ∷ []) ∷ (5 ∷ 2 ∷ []) ∷ (5 ∷ 2 ∷ []) ∷ []
-unfolding fault sample header upstream downstream row readingOf numberOf fillOf listOf firstFrom firstOf placeOk rowOk
+unfolding fault sample header upstream downstream row readingBy oneOf numberOf secondsSize fillOf listOf firstFrom firstOf placeOk rowOk
 faults-place = refl
 
 -- gate arrivals above 1,000,000 in step 0; a release at cell 1, which has no ramp, in step 1; ramp arrivals above 1,000,000 at cell 2 in step 2
 faults-step : fault 65 16 ∷ fault 95 1 ∷ fault 117 16 ∷ [] ≡ (6 ∷ 0 ∷ []) ∷ (6 ∷ 1 ∷ []) ∷ (6 ∷ 2 ∷ []) ∷ []
-unfolding fault sample header upstream downstream row readingOf numberOf fillOf listOf firstFrom firstOf placeOk rowOk
+unfolding fault sample header upstream downstream row readingBy oneOf numberOf secondsSize fillOf listOf firstFrom firstOf placeOk rowOk
 faults-step = refl
+
+-- where version 1 and version 2 have the gate's capacity, its queue and the first cell
+layouts : map gateCapacityOffset bothVersions ∷ map gateQueueOffset bothVersions ∷ map headerSize bothVersions ∷ []
+    ≡ (8 ∷ 10 ∷ []) ∷ (12 ∷ 14 ∷ []) ∷ (16 ∷ 18 ∷ []) ∷ []
+unfolding secondsSize
+layouts = refl
+
+-- the same in version 2: 122 bytes follow the first field; n 2, T 3; 20 seconds a step; gate capacity 2000, queue 3000
+timedHeader : ℕ → ℕ → List ℕ
+timedHeader high low = 0 ∷ 0 ∷ 0 ∷ 122 ∷ 2 ∷ 2 ∷ 0 ∷ 3 ∷ high ∷ low ∷ 0 ∷ 0 ∷ 7 ∷ 208 ∷ 0 ∷ 0 ∷ 11 ∷ 184 ∷ []
+
+timed : ℕ → ℕ → List ℕ
+timed high low = timedHeader high low ++ (upstream ++ (downstream ++ (row ++ (row ++ row))))
+
+timedRoad : ℕ → Road
+timedRoad seconds = record {
+  n = 2;
+  version = 2;
+  seconds = seconds;
+  «gate_capacity» = 2000;
+  speed = cells 500 500;
+  wave = cells 250 250;
+  share = cells 750 0;
+  ramp = cells 0 1;
+  jam = cells 8000 8000;
+  capacity = cells 2000 1000;
+}
+
+timed-accepted : readingOf (timed 0 20) ≡ acceptedOf 3 (timedRoad 20) start
+unfolding timed timedHeader timedRoad upstream downstream row cells start
+    readingBy oneOf numberOf secondsSize fillOf listOf firstFrom firstOf placeOk rowOk
+timed-accepted = refl
+
+-- 1 and 900 seconds pass; 0 and 901 are 19; 256, whose bytes read the other way round are 1, passes
+timed-seconds : map (λ (s : List ℕ). readingOf s .number) (timed 0 1 ∷ timed 3 132 ∷ timed 0 0 ∷ timed 3 133 ∷ timed 1 0 ∷ []) ≡ 0 ∷ 0 ∷ 19 ∷ 19 ∷ 0 ∷ []
+unfolding timed timedHeader upstream downstream row readingBy oneOf numberOf secondsSize fillOf listOf firstFrom firstOf placeOk rowOk
+timed-seconds = refl
+
+-- 19 comes after 3 and before 4: 0 seconds with T 0, and with n 3
+timed-order : map (λ (s : List ℕ). readingOf s .number) (set (timed 0 0) 7 0 ∷ set (timed 0 0) 5 3 ∷ set (timed 0 20) 5 3 ∷ []) ≡ 3 ∷ 19 ∷ 4 ∷ []
+unfolding timed timedHeader upstream downstream row readingBy oneOf numberOf secondsSize fillOf listOf firstFrom firstOf placeOk rowOk
+timed-order = refl
+
+-- of 16, 17 and 18 bytes alone, the first field right: in version 2 the first two are 1; in version 1 and in version 3 no length is
+alone : ℕ → ℕ → ℕ
+alone version rest = readingOf (0 ∷ 0 ∷ 0 ∷ (12 + rest) ∷ version ∷ replicate (11 + rest) 0) .number
+
+alone-numbers : map (alone 2) (0 ∷ 1 ∷ 2 ∷ []) ++ (map (alone 1) (0 ∷ 1 ∷ 2 ∷ []) ++ map (alone 3) (0 ∷ 1 ∷ 2 ∷ []))
+    ≡ 1 ∷ 1 ∷ 3 ∷ 3 ∷ 3 ∷ 3 ∷ 2 ∷ 2 ∷ 2 ∷ []
+unfolding alone readingBy oneOf numberOf secondsSize fillOf listOf firstFrom firstOf placeOk rowOk
+alone-numbers = refl

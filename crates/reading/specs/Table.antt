@@ -8,7 +8,7 @@ use native.Mathlib.Omega.{arith}
 use lib.Dec.{leb}
 use borrow.Author.Tests.{leb-true, leb-false}
 use Rattle.road.specs.Road.{mostSteps, mostBytes}
-use Rattle.fields.specs.Fields.{rowSize}
+use Rattle.fields.specs.Fields.{versionOf, rowSize}
 use Rattle.reading.specs.Reading.{ReadAnswer, sizeOf, readingOf}
 use Rattle.reading.specs.Within.{read-within}
 
@@ -20,24 +20,24 @@ few : (n T : ℕ) → n ≤ 5 → T ≤ mostSteps → T * (n + 1) ≤ mostOutflo
 few n T h l = let k : n + 1 ≤ 6 = omega arith in omega (arith, mul-le-mul l k)
 
 -- from 6 on the limit of bytes: at 6 there are at most 1,257 steps
-six : (n T : ℕ) → n ≡ 6 → sizeOf n T ≤ mostBytes → T * (n + 1) ≤ mostOutflows
-six n T e h = let k : sizeOf 6 T ≤ mostBytes = rw e at h in rw e (omega arith)
+six : (version n T : ℕ) → n ≡ 6 → sizeOf version n T ≤ mostBytes → T * (n + 1) ≤ mostOutflows
+six version n T e h = let k : sizeOf version 6 T ≤ mostBytes = rw e at h in rw e (omega arith)
 
 -- and from 7 on at most 1,089
-many : (n T : ℕ) → 7 ≤ n → sizeOf n T ≤ mostBytes → T * (n + 1) ≤ mostOutflows
-many n T h l =
+many : (version n T : ℕ) → 7 ≤ n → sizeOf version n T ≤ mostBytes → T * (n + 1) ≤ mostOutflows
+many version n T h l =
     let k : 60 ≤ rowSize n = omega arith in
     omega (arith, mul-le-mul-left T k, mul-add T n 1, mul-add T 4 (8 * n))
 
-pub table-most : (n T : ℕ) → T ≤ mostSteps → sizeOf n T ≤ mostBytes → T * (n + 1) ≤ mostOutflows
-table-most n T h l = go (leb n 5) (leb 7 n) refl refl
+pub table-most : (version n T : ℕ) → T ≤ mostSteps → sizeOf version n T ≤ mostBytes → T * (n + 1) ≤ mostOutflows
+table-most version n T h l = go (leb n 5) (leb 7 n) refl refl
   where
     go : (a b : Bool) → leb n 5 ≡ a → leb 7 n ≡ b → T * (n + 1) ≤ mostOutflows
     go true b e f = few n T (leb-true n 5 e) h
-    go false true e f = many n T (leb-true 7 n f) l
-    go false false e f = six n T (omega (arith, leb-false n 5 e, leb-false 7 n f)) l
+    go false true e f = many version n T (leb-true 7 n f) l
+    go false false e f = six version n T (omega (arith, leb-false n 5 e, leb-false 7 n f)) l
 
 pub read-table : (s : List ℕ) (a : ReadAnswer) → a ≡ readingOf s → a .number ≡ 0 → a .steps * (a .road .n + 1) ≤ mostOutflows
 read-table s a e h =
     let w = read-within s a e h in
-    table-most (a .road .n) (a .steps) (w .steps) (omega (arith, w .size, w .bytes))
+    table-most (versionOf s) (a .road .n) (a .steps) (w .steps) (omega (arith, w .size, w .bytes))

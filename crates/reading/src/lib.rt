@@ -5,15 +5,18 @@ use road::Road;
 use road::State;
 ghost use mathlib.Core.Path.{_≡_};
 ghost use Rattle.road.specs.Refusals.{refusalNumber};
-ghost use Rattle.numbers.specs.First.{firstOf};
-ghost use Rattle.reading.specs.Reading.{lengthOk, cellsAndStepsOk, roadOf, startOf, stepOk, refusedOf, readAnswer, readingOf};
+ghost use Rattle.numbers.specs.First.{oneOf, firstOf};
+ghost use Rattle.reading.specs.Reading.{bothVersions, lengthOk, cellsAndStepsOk, secondsOk, roadOf, startOf, stepOk, refusedOf, readAnswer, readingOf};
 ghost use Rattle.reading.specs.Headers.{Cells, Steps, Header};
 
 // Whether the length is within its limits and the first field counts the bytes after it.
 fn length_within(bytes: &[u8]) -> bool
-    ensures { λ r. ⌜ r ≡ lengthOk (now (bytes .entry)) ⌝ }
+    ensures { λ r. ⌜ r ≡ lengthOk bothVersions (now (bytes .entry)) ⌝ }
 {
     if bytes.len() < fields::HEADER_SIZE {
+        return false;
+    }
+    if bytes.len() < fields::header_size(fields::version(bytes)) {
         return false;
     }
     if Road::BYTES < bytes.len() {
@@ -22,10 +25,27 @@ fn length_within(bytes: &[u8]) -> bool
     fields::number(bytes, 0, fields::COUNT_SIZE) as usize == bytes.len() - fields::COUNT_SIZE
 }
 
+// Whether a record may have this version.
+pub fn version_known(version: u8) -> bool
+    ensures { λ r. ⌜ r ≡ oneOf bothVersions version ⌝ }
+{
+    (version == fields::FIRST_VERSION) | (version == fields::SECOND_VERSION)
+}
+
 pub fn cells_and_steps_within(n: usize, steps: usize) -> bool
     ensures { λ r. ⌜ r ≡ cellsAndStepsOk n steps ⌝ }
 {
     (1 <= n) & ((n <= Road::CELLS) & ((1 <= steps) & (steps <= Road::STEPS)))
+}
+
+// Whether the step's seconds are within their limits, where the version has them.
+pub fn seconds_within(version: u8, seconds: u16) -> bool
+    ensures { λ r. ⌜ r ≡ secondsOk version seconds ⌝ }
+{
+    if version == fields::SECOND_VERSION {
+        return (1 <= seconds) & (seconds <= Road::SECONDS);
+    }
+    true
 }
 
 // The road of a record of n cells.
@@ -33,9 +53,13 @@ fn road_of(bytes: &[u8], n: usize) -> Road
     requires { ⌜ Cells (now bytes) n ⌝ }
     ensures { λ r. ⌜ r ≡ roadOf (now (bytes .entry)) ⌝ }
 {
+    let version = fields::version(bytes);
+    let gate = fields::GATE_CAPACITY_OFFSET + fields::seconds_size(version);
     Road {
         n: n,
-        gate_capacity: fields::number(bytes, fields::GATE_CAPACITY_OFFSET, fields::NUMBER_SIZE),
+        version: version,
+        seconds: fields::seconds(bytes),
+        gate_capacity: fields::number(bytes, gate, fields::NUMBER_SIZE),
         speed: fields::short_column(bytes, fields::SPEED_OFFSET, n),
         wave: fields::short_column(bytes, fields::WAVE_OFFSET, n),
         share: fields::short_column(bytes, fields::SHARE_OFFSET, n),
@@ -50,12 +74,13 @@ fn start_of(bytes: &[u8], n: usize) -> State
     requires { ⌜ Cells (now bytes) n ⌝ }
     ensures { λ r. ⌜ r ≡ startOf (now (bytes .entry)) ⌝ }
 {
+    let gate = fields::GATE_QUEUE_OFFSET + fields::seconds_size(fields::version(bytes));
     State {
         done: 0,
         gate_time: 0,
         road_time: 0,
         ramp_time: 0,
-        gate_queue: fields::number(bytes, fields::GATE_QUEUE_OFFSET, fields::NUMBER_SIZE),
+        gate_queue: fields::number(bytes, gate, fields::NUMBER_SIZE),
         gate_cumulative: 0,
         held: fields::column(bytes, fields::HELD_OFFSET, n),
         queue: fields::column(bytes, fields::QUEUE_OFFSET, n),
@@ -117,14 +142,15 @@ fn body(bytes: &[u8], n: usize, steps: usize) -> Reading
     }
 }
 
-// Reads a record of any length; refusals 1 to 4 come first.
+// Reads a record of any length; refusals 1, 2, 3, 19 and 4 come first.
 pub fn read(bytes: &[u8]) -> Reading
     ensures { λ a. ⌜ readAnswer a ≡ readingOf (now (bytes .entry)) ⌝ }
 {
     if !length_within(bytes) {
         return refused(Refusal::Length, 0);
     }
-    if fields::number(bytes, fields::VERSION_OFFSET, 1) != fields::VERSION {
+    let version = fields::version(bytes);
+    if !version_known(version) {
         return refused(Refusal::Version, 0);
     }
     let n = fields::number(bytes, fields::CELLS_OFFSET, 1) as usize;
@@ -132,7 +158,10 @@ pub fn read(bytes: &[u8]) -> Reading
     if !cells_and_steps_within(n, steps) {
         return refused(Refusal::Counts, 0);
     }
-    if bytes.len() != fields::row_start(n, steps) {
+    if !seconds_within(version, fields::seconds(bytes)) {
+        return refused(Refusal::Seconds, 0);
+    }
+    if bytes.len() != fields::row_start(version, n, steps) {
         return refused(Refusal::Size, 0);
     }
     body(bytes, n, steps)

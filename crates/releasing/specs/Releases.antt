@@ -3,15 +3,15 @@ use mathlib.Core.List.{List}
 use Prim.Native.Nat.{ℕ, zero, suc, _+_, _*_}
 use lib.ListN.{set}
 use Rattle.rows.specs.Placed.{placed}
-use Rattle.fields.specs.Fields.{numberSize, rowStart, bytesOf}
+use Rattle.fields.specs.Fields.{numberSize, versionOf, rowStart, bytesOf}
 
--- the byte at which number k of the row of step t starts
-abbrev pub entryStart : ℕ → ℕ → ℕ → ℕ
-entryStart n t k = rowStart n t + numberSize * k
+-- the byte at which number k of the row of step t starts in a version's layout
+abbrev pub entryStart : ℕ → ℕ → ℕ → ℕ → ℕ
+entryStart version n t k = rowStart version n t + numberSize * k
 
 -- x put as number k of the row of step t
 abbrev pub putEntry : List ℕ → ℕ → ℕ → ℕ → ℕ → List ℕ
-putEntry s n t k x = placed s (entryStart n t k) (bytesOf numberSize x)
+putEntry s n t k x = placed s (entryStart (versionOf s) n t k) (bytesOf numberSize x)
 
 -- the release of the cell at i is number 2i + 2 of a row
 abbrev pub releaseNumber : ℕ → ℕ

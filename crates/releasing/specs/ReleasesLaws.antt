@@ -9,22 +9,22 @@ use lib.ListN.{length, set, length-set}
 use lib.Seq.{getD-set-same, getD-set-other, ext-getD}
 use Rattle.numbers.specs.Lists.{at}
 use Rattle.rows.specs.Placed.{length-placed}
-use Rattle.fields.specs.Fields.{numberSize, rowSize, rowStart, bytesOf, entryOf, recordRow, HoldsRow}
+use Rattle.fields.specs.Fields.{numberSize, versionOffset, versionOf, rowSize, rowStart, bytesOf, entryOf, recordRow, HoldsRow}
 use Rattle.fields.specs.FieldsLaws.{length-row, row-at, row-within}
 use Rattle.releasing.specs.Releases.{entryStart, putEntry, releaseNumber, putReleases, putTable, releasedRow}
 use Rattle.releasing.specs.Bytes.{Outside, Apart, compare, byte-other, number-placed, number-apart}
 
 -- the rows do not overlap, and neither do the numbers of a row
-entries-apart : (n t k q j : ℕ) → k < 1 + 2 * n → j < 1 + 2 * n → (q ≡ t → j ≡ k → ⊥)
-    → Apart (entryStart n q j) numberSize (entryStart n t k) numberSize
-entries-apart n t k q j hk hj d = ⊎-elim
+entries-apart : (version n t k q j : ℕ) → k < 1 + 2 * n → j < 1 + 2 * n → (q ≡ t → j ≡ k → ⊥)
+    → Apart (entryStart version n q j) numberSize (entryStart version n t k) numberSize
+entries-apart version n t k q j hk hj d = ⊎-elim
     (λ (e : q ≡ t). rw e (⊎-elim
     (λ (f : j ≡ k). absurd (d e f))
     (λ (o : (j < k) ⊎ (k < j)). ⊎-elim (λ (l : j < k). inl (omega arith)) (λ (l : k < j). inr (omega arith)) o)
     (compare j k)))
     (λ (o : (q < t) ⊎ (t < q)). ⊎-elim
-    (λ (l : q < t). inl (omega (arith, row-within n q t l)))
-    (λ (l : t < q). inr (omega (arith, row-within n t q l))) o)
+    (λ (l : q < t). inl (omega (arith, row-within version n q t l)))
+    (λ (l : t < q). inr (omega (arith, row-within version n t q l))) o)
     (compare q t)
 
 -- a row whose numbers are those of another list
@@ -36,8 +36,9 @@ row-by s n t list size h =
 -- u is s with x put as number k of the row of step t: exactly that number is changed
 pub record Put (s u : List ℕ) (n t k x : ℕ) : Type 0 where
   pub size : length u ≡ length s
+  pub version : versionOf u ≡ versionOf s
   -- every byte outside its four is as it was
-  pub byte : (b : ℕ) → Outside b (entryStart n t k) numberSize → at u b ≡ at s b
+  pub byte : (b : ℕ) → Outside b (entryStart (versionOf s) n t k) numberSize → at u b ≡ at s b
   -- it is there, and every other number of every row is as it was
   pub number : entryOf u n t k ≡ x
   pub others : (q j : ℕ) → j < 1 + 2 * n → (q ≡ t → j ≡ k → ⊥) → entryOf u n q j ≡ entryOf s n q j
@@ -49,14 +50,22 @@ module _ (s : List ℕ) (n t k x : ℕ) (l : k < 1 + 2 * n) (held : HoldsRow s n
   abbrev u : List ℕ
   u = putEntry s n t k x
 
-  room : entryStart n t k + numberSize ≤ length s
+  abbrev start : ℕ
+  start = entryStart (versionOf s) n t k
+
+  room : entryStart (versionOf s) n t k + numberSize ≤ length s
   room = omega (arith, held .row)
 
+  -- the header, and so the layout, is as it was
+  kept : versionOf u ≡ versionOf s
+  kept = number-apart s start numberSize x room versionOffset 1 (inl (omega arith))
+
   number : entryOf u n t k ≡ x
-  number = number-placed s (entryStart n t k) numberSize x room (omega arith)
+  number = rw kept (number-placed s start numberSize x room (omega arith))
 
   others : (q j : ℕ) → j < 1 + 2 * n → (q ≡ t → j ≡ k → ⊥) → entryOf u n q j ≡ entryOf s n q j
-  others q j a d = number-apart s (entryStart n t k) numberSize x room (entryStart n q j) numberSize (entries-apart n t k q j l a d)
+  others q j a d =
+      rw kept (number-apart s start numberSize x room (entryStart (versionOf s) n q j) numberSize (entries-apart (versionOf s) n t k q j l a d))
 
   entry : (j : ℕ) → j < 1 + 2 * n → entryOf u n t j ≡ at (set (recordRow s n t) k x) j
   entry j m = ⊎-elim
@@ -68,8 +77,9 @@ module _ (s : List ℕ) (n t k x : ℕ) (l : k < 1 + 2 * n) (held : HoldsRow s n
 
   pub put-entry : Put s (putEntry s n t k x) n t k x
   put-entry = record {
-    size = length-placed s (entryStart n t k) (bytesOf numberSize x);
-    byte = byte-other s (entryStart n t k) numberSize x room;
+    size = length-placed s start (bytesOf numberSize x);
+    version = kept;
+    byte = byte-other s start numberSize x room;
     number = number;
     others = others;
     row = row-by u n t (set (recordRow s n t) k x) (length-set (recordRow s n t) k x ∙ length-row s n t) entry;
@@ -106,7 +116,8 @@ released-arrivals f c row i = released-other f c row (2 * i + 1) (λ j l e. omeg
 -- u is s with the releases of the first c cells, given by f, put into the row of step t
 pub record PutRow (s u : List ℕ) (n t : ℕ) (f : ℕ → ℕ) (c : ℕ) : Type 0 where
   pub size : length u ≡ length s
-  pub byte : (b : ℕ) → ((i : ℕ) → i < c → Outside b (entryStart n t (releaseNumber i)) numberSize) → at u b ≡ at s b
+  pub version : versionOf u ≡ versionOf s
+  pub byte : (b : ℕ) → ((i : ℕ) → i < c → Outside b (entryStart (versionOf s) n t (releaseNumber i)) numberSize) → at u b ≡ at s b
   pub row : recordRow u n t ≡ releasedRow f c (recordRow s n t)
   pub rows : (q : ℕ) → (q ≡ t → ⊥) → recordRow u n q ≡ recordRow s n q
 
@@ -115,7 +126,8 @@ put-more : {s u v : List ℕ} {n t : ℕ} {f : ℕ → ℕ} (c : ℕ) → PutRow
 unfolding releasedRow
 put-more {f = f} c p q = record {
   size = q .size ∙ p .size;
-  byte = λ b o. q .byte b (o c (omega arith)) ∙ p .byte b (λ i l. o i (omega arith));
+  version = q .version ∙ p .version;
+  byte = λ b o. q .byte b (rw (p .version) (o c (omega arith))) ∙ p .byte b (λ i l. o i (omega arith));
   row = q .row ∙ ap (λ (x : List ℕ). set x (releaseNumber c) (f c)) (p .row);
   rows = λ j d. q .rows j d ∙ p .rows j d;
 }
@@ -123,10 +135,10 @@ put-more {f = f} c p q = record {
 pub put-releases : (s : List ℕ) (n t : ℕ) (f : ℕ → ℕ) (c : ℕ) → c ≤ n → HoldsRow s n t → ((i : ℕ) → i < c → f i < 2 ^ 32)
     → PutRow s (putReleases s n t f c) n t f c
 unfolding putReleases releasedRow
-put-releases s n t f zero h l m = record { size = refl; byte = λ b o. refl; row = refl; rows = λ q d. refl }
+put-releases s n t f zero h l m = record { size = refl; version = refl; byte = λ b o. refl; row = refl; rows = λ q d. refl }
 put-releases s n t f (suc c) h l m =
     let p = put-releases s n t f c (omega arith) l (λ i a. m i (omega arith)) in
-    let held : HoldsRow (putReleases s n t f c) n t = record { cells = l .cells; row = omega (arith, p .size, l .row) } in
+    let held : HoldsRow (putReleases s n t f c) n t = record { cells = l .cells; row = rw (p .version) (omega (arith, p .size, l .row)) } in
     put-more c p (put-entry (putReleases s n t f c) n t (releaseNumber c) (f c) (omega arith) held (m c (omega arith)))
 
 -- only the releases of those cells matter
@@ -138,7 +150,8 @@ put-same s n t f g (suc c) h = rw (put-same s n t f g c (λ i l. h i (omega arit
 -- u is s with the releases f put into the rows of the first k steps
 pub record PutTable (s u : List ℕ) (n : ℕ) (f : ℕ → ℕ → ℕ) (k : ℕ) : Type 0 where
   pub size : length u ≡ length s
-  pub byte : (b : ℕ) → ((t i : ℕ) → t < k → i < n → Outside b (entryStart n t (releaseNumber i)) numberSize) → at u b ≡ at s b
+  pub version : versionOf u ≡ versionOf s
+  pub byte : (b : ℕ) → ((t i : ℕ) → t < k → i < n → Outside b (entryStart (versionOf s) n t (releaseNumber i)) numberSize) → at u b ≡ at s b
   pub row : (t : ℕ) → t < k → recordRow u n t ≡ releasedRow (f t) n (recordRow s n t)
   pub later : (t : ℕ) → k ≤ t → recordRow u n t ≡ recordRow s n t
 
@@ -146,7 +159,8 @@ pub record PutTable (s u : List ℕ) (n : ℕ) (f : ℕ → ℕ → ℕ) (k : �
 table-more : {s u v : List ℕ} {n : ℕ} {f : ℕ → ℕ → ℕ} (k : ℕ) → PutTable s u n f k → PutRow u v n k (f k) n → PutTable s v n f (suc k)
 table-more {n = n} {f = f} k p q = record {
   size = q .size ∙ p .size;
-  byte = λ b o. q .byte b (λ i l. o k i (omega arith) l) ∙ p .byte b (λ t i l m. o t i (omega arith) m);
+  version = q .version ∙ p .version;
+  byte = λ b o. q .byte b (λ i l. rw (p .version) (o k i (omega arith) l)) ∙ p .byte b (λ t i l m. o t i (omega arith) m);
   row = λ t l. ⊎-elim
       (λ (e : t ≡ k). rw e (q .row ∙ ap (releasedRow (f k) n) (p .later k (omega arith))))
       (λ (m : t < k). q .rows t (λ e. omega arith) ∙ p .row t m)
@@ -157,13 +171,20 @@ table-more {n = n} {f = f} k p q = record {
 pub put-table : (s : List ℕ) (n : ℕ) (f : ℕ → ℕ → ℕ) (k : ℕ) → ((t : ℕ) → t < k → HoldsRow s n t)
     → ((t i : ℕ) → t < k → i < n → f t i < 2 ^ 32) → PutTable s (putTable s n f k) n f k
 unfolding putTable
-put-table s n f zero h m = record { size = refl; byte = λ b o. refl; row = λ t l. absurd (not-suc-le-zero l); later = λ t l. refl }
+put-table s n f zero h m = record {
+  size = refl;
+  version = refl;
+  byte = λ b o. refl;
+  row = λ t l. absurd (not-suc-le-zero l);
+  later = λ t l. refl;
+}
 put-table s n f (suc k) h m =
     let w : HoldsRow s n k = h k (omega arith) in
     let p = put-table s n f k (λ t a. h t (omega arith)) (λ t i a b. m t i (omega arith) b) in
-    let held : HoldsRow (putTable s n f k) n k = record { cells = w .cells; row = omega (arith, p .size, w .row) } in
+    let held : HoldsRow (putTable s n f k) n k = record { cells = w .cells; row = rw (p .version) (omega (arith, p .size, w .row)) } in
     table-more k p (put-releases (putTable s n f k) n k (f k) n (le-refl n) held (λ i a. m k i (omega arith) a))
 
 -- the bytes before the rows are as they were
-pub table-head : {s u : List ℕ} {n : ℕ} {f : ℕ → ℕ → ℕ} {k : ℕ} → PutTable s u n f k → (b : ℕ) → b < rowStart n 0 → at u b ≡ at s b
+pub table-head : {s u : List ℕ} {n : ℕ} {f : ℕ → ℕ → ℕ} {k : ℕ} → PutTable s u n f k → (b : ℕ) → b < rowStart (versionOf s) n 0
+    → at u b ≡ at s b
 table-head {n = n} p b l = p .byte b (λ t i h m. inl (omega (arith, mul-le-mul-right {m = 0} {n = t} (rowSize n) (omega arith))))

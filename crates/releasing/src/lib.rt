@@ -9,7 +9,7 @@ pub fn put_releases(bytes: &mut [u8], n: usize, t: usize, releases: &[u32; 64])
     requires { ⌜ HoldsRow (now bytes) n t ⌝ }
     ensures { λ _. ⌜ now (bytes .exit) ≡ putReleases (now (bytes .entry)) n t (at (now (releases .entry))) n ⌝ }
 {
-    let start = fields::row_start(n, t);
+    let start = fields::row_start(fields::version(bytes), n, t);
     let mut i = 0;
     while i < n {
         fields::put_number(

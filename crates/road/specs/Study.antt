@@ -26,6 +26,8 @@ study road start steps rows lanes = record { road = road; start = start; steps =
 abbrev pub withCapacity : Road → List ℕ → Road
 withCapacity r capacity = record {
   n = r .n;
+  version = r .version;
+  seconds = r .seconds;
   «gate_capacity» = r .«gate_capacity»;
   speed = r .speed;
   wave = r .wave;

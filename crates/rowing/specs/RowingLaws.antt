@@ -2,14 +2,13 @@
 use mathlib.Core.Path.{_≡_, refl, sym, ap, _∙_}
 use mathlib.Core.List.{List}
 use Prim.Native.Nat.{ℕ, _+_, _*_, _≤_, _<_}
-use native.Mathlib.Nat.{mul-le-mul}
 use native.Mathlib.Omega.{arith}
 use borrow.Author.Tests.{le-leb, lt-leb}
-use lib.ListN.{length, set, take}
+use lib.ListN.{length, set, take, List·getD-eq-default}
 use Rattle.road.specs.Road.{mostCells, mostSteps}
 use Rattle.rows.specs.Rows.{fillOf}
 use Rattle.rows.specs.RowsLaws.{fill-more, fill-same}
-use Rattle.fields.specs.Fields.{numberSize, numberOf, rowSize, rowStart, rowNumbers, entryOf, recordRow, HoldsRow}
+use Rattle.fields.specs.Fields.{versionOffset, numberSize, numberOf, versionOf, rowStart, rowNumbers, entryOf, recordRow, HoldsRow}
 use Rattle.fields.specs.FieldsLaws.{row-taken, holds-row}
 use Rattle.reading.specs.Reading.{ReadAnswer, stepsOf, readingOf}
 use Rattle.reading.specs.Found.{Found, Accepted, read-found, early-refused}
@@ -24,6 +23,11 @@ module _ (s : List ℕ) (i : ℕ) where
   pub entry-none : length s < i + numberSize → 0 ≡ entryOr s i
   unfolding entryOr
   entry-none h = rw (lt-leb (i + numberSize) (length s) h)
+
+-- bytes that end before byte 4 name no version
+pub version-none : (s : List ℕ) → length s ≤ versionOffset → 0 ≡ versionOf s
+unfolding numberOf
+version-none s h = omega (arith, List·getD-eq-default s 0 h)
 
 -- the array: outside the limits, and within them
 module _ (s : List ℕ) (n t : ℕ) where
@@ -42,13 +46,6 @@ module _ (s : List ℕ) (n t : ℕ) where
   array-numbers h l e =
       let k : t + 1 ≤ mostSteps = omega arith in
       e ∙ rw (le-leb n mostCells h, le-leb (t + 1) mostSteps k)
-
--- within the limits a row's start fits a machine number
-pub start-small : (n t : ℕ) → n ≤ mostCells → t < mostSteps → t * rowSize n ≤ mostSteps * rowSize mostCells
-start-small n t h l =
-    let k : rowSize n ≤ rowSize mostCells = omega arith in
-    let m : t ≤ mostSteps = omega arith in
-    mul-le-mul m k
 
 -- the loop over a row's numbers: the first k stand in l
 pub record Taken (s : List ℕ) (n t : ℕ) (l : List ℕ) (k : ℕ) : Type 0 where
@@ -73,7 +70,7 @@ module _ {s : List ℕ} {n t : ℕ} where
 held-numbers : (s : List ℕ) (n t : ℕ) → HoldsRow s n t → numbersAt s n t ≡ fillOf (entryOf s n t) (rowNumbers n) noNumbers
 held-numbers s n t h =
     fill-same (numberAt s n t) (entryOf s n t) (rowNumbers n) noNumbers
-    (λ k l. sym (entry-there s (rowStart n t + numberSize * k) (omega (arith, h .row)) refl))
+    (λ k l. sym (entry-there s (rowStart (versionOf s) n t + numberSize * k) (omega (arith, h .row)) refl))
 
 pub row-held : (s : List ℕ) (n t : ℕ) → t < mostSteps → HoldsRow s n t → take (rowNumbers n) (rowArray s n t) ≡ recordRow s n t
 row-held s n t l h =

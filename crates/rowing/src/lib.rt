@@ -3,6 +3,7 @@ use road::Road;
 ghost use mathlib.Core.Path.{_≡_};
 ghost use Prim.Native.Nat.{_≤_, _<_};
 ghost use Rattle.road.specs.Road.{mostCells, mostSteps};
+ghost use Rattle.fields.specs.Fields.{versionOf};
 ghost use Rattle.rowing.specs.Rowing.{entryOr, numbersAt, rowArray};
 
 // The number in the four bytes from `at`, 0 where they are not all there.
@@ -18,12 +19,22 @@ fn entry(bytes: &[u8], at: usize) -> u32
     fields::number(bytes, at, fields::NUMBER_SIZE)
 }
 
+// The version that the bytes name, 0 where they end before it.
+fn version(bytes: &[u8]) -> u8
+    ensures { λ r. ⌜ r ≡ versionOf (now (bytes .entry)) ⌝ }
+{
+    if bytes.len() <= fields::VERSION_OFFSET {
+        return 0;
+    }
+    fields::version(bytes)
+}
+
 // The row's 1 + 2n numbers, then 0.
 fn numbers(bytes: &[u8], n: usize, t: usize) -> [u32; 129]
     requires { ⌜ (n ≤ mostCells) × (t < mostSteps) ⌝ }
     ensures { λ r. ⌜ r ≡ numbersAt (now (bytes .entry)) n t ⌝ }
 {
-    let start = fields::row_start(n, t);
+    let start = fields::row_start(version(bytes), n, t);
     let mut r = [0u32; 129];
     let mut k = 0;
     while k < 1 + 2 * n {

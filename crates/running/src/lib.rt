@@ -42,7 +42,7 @@ fn run_rows(bytes: &[u8], table: &[u8], r: Road, s: State, steps: usize, out: &m
     Ended::complete(r, u)
 }
 
-// Runs a record under a table of lanes: 1 to 6 as in reading, 17, 18, 11, then 9 or 10 with its step and cell.
+// Runs a record under a table of lanes: the refusals of reading, 17, 18, 11, then 9 or 10 with its step and cell.
 pub fn run(bytes: &[u8], table: &[u8], out: &mut [u32]) -> Ended
     ensures answer { λ e. ⌜ endAnswer e ≡ runningOf (now (bytes .entry)) (now (table .entry)) (now (out .entry)) ⌝ }
     ensures list { λ e. ⌜ now (out .exit) ≡ listAfter (now (bytes .entry)) (now (table .entry)) (now (out .entry)) ⌝ }

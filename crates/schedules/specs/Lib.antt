@@ -10,4 +10,5 @@ pub mod Judged
 pub mod Accounts
 pub mod Returned
 pub mod Unclosed
+pub mod Restamped
 pub mod NotEmpty

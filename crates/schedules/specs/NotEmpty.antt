@@ -4,14 +4,14 @@ use mathlib.Core.List.{List, []}
 use Prim.Native.Nat.{ℕ}
 use native.Mathlib.Omega.{arith}
 use lib.ListN.{length, replicate}
-use Rattle.numbers.specs.First.{firstFrom, firstOf, firstFault}
+use Rattle.numbers.specs.First.{oneOf, firstFrom, firstOf, firstFault}
 use Rattle.flow.specs.Flow.{thousandthsOf, demandOf, gateDemandOf, supplyOf, roomOf, onwardOf, enteringOf, greatestOf, outflowOf}
 use Rattle.rows.specs.Sum.{sumOf}
 use Rattle.rows.specs.Rows.{fillOf, listOf}
 use Rattle.rows.specs.Tables.{rowAt}
 use Rattle.road.specs.Road.{totalOf}
 use Rattle.road.specs.Study.{roadAt, tableSize}
-use Rattle.fields.specs.Fields.{numberOf}
+use Rattle.fields.specs.Fields.{numberOf, secondsSize}
 use Rattle.limits.specs.Limits.{placeOk, rowOk}
 use Rattle.model.specs.Places.{capacityAt, demandAt, mostReleaseAt, shareAt, cumulativeAt}
 use Rattle.model.specs.Move.{movedTo, countedOf, exitsOf}
@@ -19,7 +19,7 @@ use Rattle.model.specs.Rules.{outflowsOf}
 use Rattle.model.specs.Step.{lowestOf, tableFault}
 use Rattle.model.specs.Verdict.{outflowFaultAt, verdictOf}
 use Rattle.model.specs.Runs.{scheduleAfter, engineAfter}
-use Rattle.reading.specs.Reading.{readingOf, studyOf}
+use Rattle.reading.specs.Reading.{readingBy, readingOf, studyOf}
 use Rattle.reading.specs.Sample.{sample, header, upstream, downstream, row}
 use Rattle.schedules.specs.Schedules.{scheduledAt, endOf, runningOf, judgingOf, stepsMade, listAfter}
 use Rattle.schedules.specs.Demand.{Ahead, Taken, Reaches}
@@ -43,7 +43,7 @@ pub record Both : Type 0 where
   pub exits : exitsOf (studyOf sample [] .road) (judgingOf sample [] still .state) ≡ 0
 
 pub both : Both
-unfolding sample header upstream downstream row readingOf numberOf
+unfolding sample header upstream downstream row readingBy oneOf numberOf secondsSize
     thousandthsOf demandOf gateDemandOf supplyOf roomOf onwardOf enteringOf greatestOf outflowOf
     sumOf fillOf listOf firstFrom firstOf firstFault placeOk rowOk
     capacityAt demandAt mostReleaseAt shareAt cumulativeAt movedTo countedOf exitsOf outflowsOf lowestOf outflowFaultAt verdictOf

@@ -3,6 +3,7 @@ use mathlib.Core.Path.{_≡_, refl}
 use mathlib.Core.List.{List, []}
 use Prim.Native.Nat.{ℕ, _≤_, _<_}
 use native.Mathlib.Omega.{arith}
+use Rattle.road.specs.Road.{mostSeconds}
 use Rattle.road.specs.Study.{Study, tableSize}
 use Rattle.fields.specs.Fields.{HoldsRow}
 use Rattle.model.specs.Step.{tableFault}
@@ -14,13 +15,15 @@ use Rattle.reading.specs.Within.{read-within, read-row}
 use Rattle.reading.specs.Numbers.{read-numbers, read-entries}
 use Rattle.reading.specs.Table.{mostOutflows, read-table}
 use Rattle.schedules.specs.Demand.{Taken}
+use Rattle.reading.specs.Versions.{read-seconds}
 
--- the study is within the limits, and the record holds its rows
+-- the study is within the limits, its seconds too, and the record holds its rows
 pub record Readable (bytes : List ℕ) (a : Study) : Type 0 where
   pub ok : StudyOk a
   pub row : (k : ℕ) → k < a .steps → HoldsRow bytes (a .road .n) k
   pub outflows : tableSize a ≤ mostOutflows
   pub table : TableOk (a .lanes) (a .road .n) (a .steps)
+  pub seconds : a .road .seconds ≤ mostSeconds
 
 pub readable : (bytes lanes : List ℕ) (x : ReadAnswer) → x ≡ readingOf bytes → x .number ≡ 0 → tableFault lanes (x .road .n) (x .steps) .number ≡ 0
     → Readable bytes (studyBy bytes lanes (x .road) (x .state) (x .steps))
@@ -46,6 +49,7 @@ readable bytes lanes x e h f =
       row = read-row bytes x e h;
       outflows = read-table bytes x e h;
       table = t;
+      seconds = read-seconds bytes x e h;
     }
 
 -- with the empty table

@@ -75,7 +75,7 @@ judgeEnd a zs = endOf a (judgeSays a zs) (scheduledAt a zs)
 abbrev pub lanesFault : Study → Fault
 lanesFault a = tableFault (a .lanes) (a .road .n) (a .steps)
 
--- running takes a record, a table of lanes and a lent list: 1 to 6 as in reading; 17 and 18; 11, list shorter than T × (n + 1); then 9 or 10 with its
+-- running takes a record, a table of lanes and a lent list: the refusals of reading; 17 and 18; 11, list shorter than T × (n + 1); then 9 or 10 with its
 -- step and cell
 unfoldable pub runningOf : List ℕ → List ℕ → List ℕ → EndAnswer
 runningOf bytes lanes list =
@@ -84,7 +84,7 @@ runningOf bytes lanes list =
     (unless (leb (tableSize (studyOf bytes lanes)) (length list)) (noState 11 0)
     (runEnd (studyOf bytes lanes))))
 
--- judging takes a record, a table of lanes and a proposed schedule: 1 to 6; 17 and 18; 12, list not of length T × (n + 1); then, step by step, 9 or 10,
+-- judging takes a record, a table of lanes and a proposed schedule: the refusals of reading; 17 and 18; 12, list not of length T × (n + 1); then, step by step, 9 or 10,
 -- and 13 or 14
 unfoldable pub judgingOf : List ℕ → List ℕ → List ℕ → EndAnswer
 judgingOf bytes lanes zs =

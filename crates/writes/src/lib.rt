@@ -27,7 +27,7 @@ fn write_line(bytes: &[u8], rows: &[u32], target: &mut [u8], out: &mut [u8], at:
     case::whole(line::of_writing(out, at, written, target))
 }
 
-// The road, T and the start take 1,552 bytes.
+// The road, T and the start take 1,560 bytes.
 pub fn write(
     record: &mut [u8],
     list: &mut [u32],
@@ -35,7 +35,7 @@ pub fn write(
     out: &mut [u8],
     at: usize,
 ) -> Case {
-    let mut bytes = [0u8; 1552];
+    let mut bytes = [0u8; 1560];
     if !input::fills(&mut bytes) {
         return case::cut();
     }

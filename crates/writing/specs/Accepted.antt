@@ -7,7 +7,7 @@ use native.Mathlib.Omega.{arith}
 use lib.Dec.{leb, eqb}
 use lib.ListN.{length, drop}
 use borrow.Author.Tests.{leb-true, eqb-true, eq-eqb, ne-eqb}
-use Rattle.numbers.specs.First.{unless, firstOf, allOf}
+use Rattle.numbers.specs.First.{unless, oneOf, firstOf, allOf}
 use Rattle.numbers.specs.FirstLaws.{all-at}
 use Rattle.rows.specs.Tables.{rowAt}
 use Rattle.rows.specs.TablesLaws.{row-ends}
@@ -18,72 +18,88 @@ use Rattle.road.specs.Road.{mostBytes}
 use Rattle.road.specs.Study.{Study}
 use Rattle.fields.specs.Fields.{rowNumbers}
 use Rattle.limits.specs.Limits.{placeOk}
-use Rattle.reading.specs.Reading.{sizeOf, cellsAndStepsOk}
+use Rattle.reading.specs.Reading.{sizeOf, bothVersions, cellsAndStepsOk, secondsOk}
 use Rattle.reading.specs.ReadingLaws.{Counts, counts-facts}
-use Rattle.putting.specs.Record.{recordOf, given}
+use Rattle.putting.specs.Record.{recordSize, recordOf, given}
 use Rattle.putting.specs.Putting.{Fits, length-record, record-stands}
+use Rattle.writing.specs.Checks.{known, counted, timed, short, whole}
 use Rattle.writing.specs.Writing.{WriteAnswer, unwritten, written, givenOk, numberCount, writingBy, writingOf, targetAfter}
 
 -- no refusal applies
 pub record Accepted (a : Study) (numbers room : ℕ) : Type 0 where
+  pub version : oneOf bothVersions (a .road .version) ≡ true
   pub counts : Counts (a .road .n) (a .steps)
-  pub size : sizeOf (a .road .n) (a .steps) ≤ mostBytes
+  pub seconds : secondsOk (a .road .version) (a .road .seconds) ≡ true
+  pub size : recordSize a ≤ mostBytes
   pub all : numbers ≡ numberCount a
   pub places : (p : ℕ) → p < a .road .n + 1 → placeOk (a .road) (a .start) p ≡ true
   pub rows : (t : ℕ) → t < a .steps → givenOk a t ≡ true
-  pub enough : sizeOf (a .road .n) (a .steps) ≤ room
-  pub answer : writingBy a numbers room ≡ written (sizeOf (a .road .n) (a .steps))
+  pub enough : recordSize a ≤ room
+  pub answer : writingBy a numbers room ≡ written (recordSize a)
 
-pub accepted : (a : Study) (numbers room : ℕ) → writingBy a numbers room .number ≡ 0 → Accepted a numbers room
-accepted a numbers room h =
-    go (cellsAndStepsOk (a .road .n) (a .steps)) (leb (sizeOf (a .road .n) (a .steps)) mostBytes) (eqb numbers (numberCount a))
-    (allOf (placeOk (a .road) (a .start)) (a .road .n + 1)) (allOf (givenOk a) (a .steps)) (leb (sizeOf (a .road .n) (a .steps)) room)
-    refl refl refl refl refl refl h
-  where
-    go : (u v w x y z : Bool) → cellsAndStepsOk (a .road .n) (a .steps) ≡ u → leb (sizeOf (a .road .n) (a .steps)) mostBytes ≡ v
-        → eqb numbers (numberCount a) ≡ w → allOf (placeOk (a .road) (a .start)) (a .road .n + 1) ≡ x → allOf (givenOk a) (a .steps) ≡ y
-        → leb (sizeOf (a .road .n) (a .steps)) room ≡ z
-        → unless u (unwritten 3 0)
-        (unless v (unwritten 1 0)
-        (unless w (unwritten 4 0)
-        (unless x (unwritten 5 (firstOf (placeOk (a .road) (a .start)) (a .road .n + 1)))
-        (unless y (unwritten 6 (firstOf (givenOk a) (a .steps)))
-        (unless z (unwritten 15 0) (written (sizeOf (a .road .n) (a .steps)))))))) .number ≡ 0
-        → Accepted a numbers room
-    go true true true true true true eu ev ew ex ey ez k = record {
-      counts = counts-facts (a .road .n) (a .steps) eu;
-      size = leb-true (sizeOf (a .road .n) (a .steps)) mostBytes ev;
-      all = eqb-true numbers (numberCount a) ew;
-      places = all-at (placeOk (a .road) (a .start)) (a .road .n + 1) ex;
-      rows = all-at (givenOk a) (a .steps) ey;
-      enough = leb-true (sizeOf (a .road .n) (a .steps)) room ez;
-      answer = rw (eu, ev, ew, ex, ey, ez);
-    }
-    go true true true true true false eu ev ew ex ey ez k = absurd (omega arith)
-    go true true true true false z eu ev ew ex ey ez k = absurd (omega arith)
-    go true true true false y z eu ev ew ex ey ez k = absurd (omega arith)
-    go true true false x y z eu ev ew ex ey ez k = absurd (omega arith)
-    go true false w x y z eu ev ew ex ey ez k = absurd (omega arith)
-    go false v w x y z eu ev ew ex ey ez k = absurd (omega arith)
+-- the refusals by their tests, in order
+abbrev answerBy : (q r s t u v w x : Bool) (place step size : ℕ) → WriteAnswer
+answerBy q r s t u v w x place step size =
+    unless q (unwritten 2 0)
+    (unless r (unwritten 3 0)
+    (unless s (unwritten 19 0)
+    (unless t (unwritten 1 0)
+    (unless u (unwritten 4 0)
+    (unless v (unwritten 5 place)
+    (unless w (unwritten 6 step)
+    (unless x (unwritten 15 0) (written size))))))))
 
--- a refusal counts no bytes
-pub refused-count : (a : Study) (numbers room : ℕ) → (writingBy a numbers room .number ≡ 0 → ⊥) → writingBy a numbers room .count ≡ 0
-refused-count a numbers room h =
-    go (cellsAndStepsOk (a .road .n) (a .steps)) (leb (sizeOf (a .road .n) (a .steps)) mostBytes) (eqb numbers (numberCount a))
-    (allOf (placeOk (a .road) (a .start)) (a .road .n + 1)) (allOf (givenOk a) (a .steps)) (leb (sizeOf (a .road .n) (a .steps)) room) _ _ _ h
-  where
-    go : (u v w x y z : Bool) (place step size : ℕ)
-        → (unless u (unwritten 3 0) (unless v (unwritten 1 0) (unless w (unwritten 4 0) (unless x (unwritten 5 place) (unless y (unwritten 6 step)
-        (unless z (unwritten 15 0) (written size)))))) .number ≡ 0 → ⊥)
-        → unless u (unwritten 3 0) (unless v (unwritten 1 0) (unless w (unwritten 4 0) (unless x (unwritten 5 place) (unless y (unwritten 6 step)
-        (unless z (unwritten 15 0) (written size)))))) .count ≡ 0
-    go true true true true true true place step size k = absurd (k refl)
-    go true true true true true false place step size k = refl
-    go true true true true false z place step size k = refl
-    go true true true false y z place step size k = refl
-    go true true false x y z place step size k = refl
-    go true false w x y z place step size k = refl
-    go false v w x y z place step size k = refl
+module _ (a : Study) (numbers room : ℕ) where
+  abbrev placed : Bool
+  placed = allOf (placeOk (a .road) (a .start)) (a .road .n + 1)
+
+  abbrev rated : Bool
+  rated = allOf (givenOk a) (a .steps)
+
+  abbrev roomy : Bool
+  roomy = leb (recordSize a) room
+
+  pub accepted : writingBy a numbers room .number ≡ 0 → Accepted a numbers room
+  accepted h = go (known a numbers) (counted a numbers) (timed a numbers) (short a numbers) (whole a numbers) placed rated roomy refl refl refl refl refl refl refl refl _ _ h
+    where
+      go : (q r s t u v w x : Bool) → known a numbers ≡ q → counted a numbers ≡ r → timed a numbers ≡ s → short a numbers ≡ t → whole a numbers ≡ u
+          → placed ≡ v → rated ≡ w → roomy ≡ x
+          → (place step : ℕ) → answerBy q r s t u v w x place step (recordSize a) .number ≡ 0 → Accepted a numbers room
+      go true true true true true true true true eq er es et eu ev ew ex place step k = record {
+        version = eq;
+        counts = counts-facts (a .road .n) (a .steps) er;
+        seconds = es;
+        size = leb-true (recordSize a) mostBytes et;
+        all = eqb-true numbers (numberCount a) eu;
+        places = all-at (placeOk (a .road) (a .start)) (a .road .n + 1) ev;
+        rows = all-at (givenOk a) (a .steps) ew;
+        enough = leb-true (recordSize a) room ex;
+        answer = rw (eq, er, es, et, eu, ev, ew, ex);
+      }
+      go true true true true true true true false eq er es et eu ev ew ex place step k = absurd (omega arith)
+      go true true true true true true false x eq er es et eu ev ew ex place step k = absurd (omega arith)
+      go true true true true true false w x eq er es et eu ev ew ex place step k = absurd (omega arith)
+      go true true true true false v w x eq er es et eu ev ew ex place step k = absurd (omega arith)
+      go true true true false u v w x eq er es et eu ev ew ex place step k = absurd (omega arith)
+      go true true false t u v w x eq er es et eu ev ew ex place step k = absurd (omega arith)
+      go true false s t u v w x eq er es et eu ev ew ex place step k = absurd (omega arith)
+      go false r s t u v w x eq er es et eu ev ew ex place step k = absurd (omega arith)
+
+  -- a refusal counts no bytes
+  pub refused-count : (writingBy a numbers room .number ≡ 0 → ⊥) → writingBy a numbers room .count ≡ 0
+  refused-count h = go (known a numbers) (counted a numbers) (timed a numbers) (short a numbers) (whole a numbers) placed rated roomy _ _ h
+    where
+      go : (q r s t u v w x : Bool) (place step : ℕ) → (answerBy q r s t u v w x place step (recordSize a) .number ≡ 0 → ⊥)
+          → answerBy q r s t u v w x place step (recordSize a) .count ≡ 0
+      go true true true true true true true true place step k = absurd (k refl)
+      go true true true true true true true false place step k = refl
+      go true true true true true true false x place step k = refl
+      go true true true true true false w x place step k = refl
+      go true true true true false v w x place step k = refl
+      go true true true false u v w x place step k = refl
+      go true true false t u v w x place step k = refl
+      go true false s t u v w x place step k = refl
+      go false r s t u v w x place step k = refl
 
 module _ (road : Road) (T : ℕ) (start : Start) (rows target : List ℕ) where
   abbrev a : Study
@@ -99,7 +115,7 @@ module _ (road : Road) (T : ℕ) (start : Start) (rows target : List ℕ) where
   target-refused h = rw (ne-eqb (writingOf road T start rows target .number) 0 h)
 
   pub target-written : writingOf road T start rows target .number ≡ 0
-      → targetAfter road T start rows target ≡ recordOf (given road T start rows) ++ drop (sizeOf (road .n) T) target
+      → targetAfter road T start rows target ≡ recordOf (given road T start rows) ++ drop (sizeOf (road .version) (road .n) T) target
   unfolding targetAfter
   target-written h = rw (eq-eqb (writingOf road T start rows target .number) 0 h)
 

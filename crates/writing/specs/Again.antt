@@ -15,7 +15,8 @@ use Rattle.road.specs.declared.State.{State}
 use Rattle.road.specs.declared.Start.{Start}
 use Rattle.road.specs.Road.{startState}
 use Rattle.road.specs.Study.{Study}
-use Rattle.fields.specs.Fields.{recordVersion, countSize, headerSize, cellSize, shortSize, numberSize, rowNumbers, rowSize, rowStart, numberOf, recordRow, bytesOf}
+use Rattle.fields.specs.Fields.{countSize, versionOf, secondsSize, headerSize, gateCapacityOffset, gateQueueOffset, cellSize, shortSize, numberSize}
+use Rattle.fields.specs.Fields.{rowNumbers, rowSize, rowStart, numberOf, recordRow, bytesOf}
 use Rattle.fields.specs.FieldsLaws.{Column, row-at}
 use Rattle.fields.specs.BytesLaws.{partOf, part-join, part-next, part-concat, bytes-part}
 use Rattle.reading.specs.Reading.{ReadAnswer, sizeOf, readingOf}
@@ -51,39 +52,55 @@ module _ (s : List ℕ) (small : (i : ℕ) → at s i < 256) (reads : readingOf 
   part : (i w y : ℕ) → i + w ≤ length s → y ≡ numberOf s i w → bytesOf w y ≡ partOf s i w
   part i w y l e = ap (bytesOf w) e ∙ bytes-part s i w small l
 
-  long : headerSize + n * cellSize + T * rowSize n ≤ length s
+  -- the layout is that of the bytes' version
+  abbrev h : ℕ
+  h = headerSize (versionOf s)
+
+  abbrev z : ℕ
+  z = secondsSize (versionOf s)
+
+  long : headerSize (versionOf s) + n * cellSize + T * rowSize n ≤ length s
   long = omega (arith, within .size)
 
   -- the header
-  header : headerBytes a ≡ partOf s 0 headerSize
+  header : headerBytes a ≡ partOf s 0 (headerSize (versionOf s))
   unfolding headerOf
   header =
-      rw (
-        part 0 countSize (sizeOf n T - countSize) (omega (arith, long)) (omega (arith, within .count, within .size)),
-        part 4 1 recordVersion (omega (arith, long)) (sym (within .version)),
+      let next : gateQueueOffset (versionOf s) ≡ 8 + z + 4 = omega arith in
+      let queue : bytesOf numberSize (x .state .«gate_queue») ≡ partOf s (8 + z + 4) numberSize =
+      part (gateQueueOffset (versionOf s)) numberSize (x .state .«gate_queue») (omega (arith, long)) (numbers .gateQueue)
+      ∙ ap (λ (i : ℕ). partOf s i numberSize) next in
+      let all : 4 + (1 + (1 + (2 + (z + 8)))) ≡ 16 + z = omega arith in
+      ap (λ (v : ℕ). headerOf v n T (x .road .seconds) (x .road .«gate_capacity») (x .state .«gate_queue»)) (numbers .version)
+      ∙ rw (
+        part 0 countSize (sizeOf (versionOf s) n T - countSize) (omega (arith, long)) (omega (arith, within .count, within .size)),
+        part 4 1 (versionOf s) (omega (arith, long)) refl,
         part 5 1 n (omega (arith, long)) (numbers .cells),
         part 6 shortSize T (omega (arith, long)) (numbers .steps),
-        part 8 numberSize (x .road .«gate_capacity») (omega (arith, long)) (numbers .gateCapacity),
-        part 12 numberSize (x .state .«gate_queue») (omega (arith, long)) (numbers .gateQueue),
-        part-join s 8 4 4,
-        part-join s 6 2 8,
-        part-join s 5 1 10,
-        part-join s 4 1 11,
-        part-join s 0 4 12,
+        part 8 z (x .road .seconds) (omega (arith, long)) (numbers .seconds),
+        part (8 + z) numberSize (x .road .«gate_capacity») (omega (arith, long)) (numbers .gateCapacity),
+        queue,
+        part-join s (8 + z) 4 4,
+        part-join s 8 z 8,
+        part-join s 6 2 (z + 8),
+        part-join s 5 1 (2 + (z + 8)),
+        part-join s 4 1 (1 + (2 + (z + 8))),
+        part-join s 0 4 (1 + (1 + (2 + (z + 8)))),
+        all,
       )
 
   -- the cells
   module _ (i : ℕ) (l : i < readingOf s .road .n) where
     abbrev b : ℕ
-    b = headerSize + cellSize * i
+    b = h + cellSize * i
 
-    inside : headerSize + cellSize * i + cellSize ≤ length s
+    inside : h + cellSize * i + cellSize ≤ length s
     inside = omega (arith, long, row-ends i n cellSize l)
 
-    cell : cellBytes (x .road) (startState (startIn (x .state))) i ≡ partOf s (headerSize + i * cellSize) cellSize
+    cell : cellBytes (x .road) (startState (startIn (x .state))) i ≡ partOf s (h + i * cellSize) cellSize
     unfolding cellOf
     cell =
-        let z : b + 0 ≡ headerSize + i * cellSize = omega arith in
+        let z : b + 0 ≡ h + i * cellSize = omega arith in
         rw (
           part (b + 0) shortSize (at (x .road .speed) i) (omega (arith, inside)) (numbers .speed .cell i l),
           part (b + 2) shortSize (at (x .road .wave) i) (omega (arith, inside)) (numbers .wave .cell i l),
@@ -103,33 +120,36 @@ module _ (s : List ℕ) (small : (i : ℕ) → at s i < 256) (reads : readingOf 
           z,
         )
 
-  cells : concatOf (cellBytes (x .road) (startState (startIn (x .state)))) n ≡ partOf s headerSize (n * cellSize)
+  cells : concatOf (cellBytes (x .road) (startState (startIn (x .state)))) n ≡ partOf s h (n * cellSize)
   cells =
-      concat-same (cellBytes (x .road) (startState (startIn (x .state)))) (λ j. partOf s (headerSize + j * cellSize) cellSize) n cell
-      ∙ part-concat s headerSize cellSize n
+      concat-same (cellBytes (x .road) (startState (startIn (x .state)))) (λ j. partOf s (h + j * cellSize) cellSize) n cell
+      ∙ part-concat s h cellSize n
 
   -- the rows
-  row : (t : ℕ) → t < T → rowBytes n (a .rows) t ≡ partOf s (headerSize + n * cellSize + t * rowSize n) (rowSize n)
+  row : (t : ℕ) → t < T → rowBytes n (a .rows) t ≡ partOf s (h + n * cellSize + t * rowSize n) (rowSize n)
   row t l =
       let size : rowNumbers n * numberSize ≡ rowSize n = omega arith in
-      let base : rowStart n t ≡ headerSize + n * cellSize + t * rowSize n = omega arith in
-      concat-same (λ k. bytesOf numberSize (at (a .rows t) k)) (λ k. partOf s (rowStart n t + k * numberSize) numberSize) (rowNumbers n)
+      let base : rowStart (versionOf s) n t ≡ h + n * cellSize + t * rowSize n = omega arith in
+      concat-same (λ k. bytesOf numberSize (at (a .rows t) k)) (λ k. partOf s (rowStart (versionOf s) n t + k * numberSize) numberSize) (rowNumbers n)
       (λ k m.
-      let e : rowStart n t + numberSize * k ≡ rowStart n t + k * numberSize = omega arith in
-      let f : at (a .rows t) k ≡ numberOf s (rowStart n t + numberSize * k) numberSize = ap (λ (l : List ℕ). at l k) (same t l) ∙ row-at s n t k m in
-      part (rowStart n t + numberSize * k) numberSize (at (a .rows t) k) (omega (arith, long, row-ends t T (rowSize n) l)) f
+      let e : rowStart (versionOf s) n t + numberSize * k ≡ rowStart (versionOf s) n t + k * numberSize = omega arith in
+      let f : at (a .rows t) k ≡ numberOf s (rowStart (versionOf s) n t + numberSize * k) numberSize = ap (λ (l : List ℕ). at l k) (same t l) ∙ row-at s n t k m in
+      part (rowStart (versionOf s) n t + numberSize * k) numberSize (at (a .rows t) k) (omega (arith, long, row-ends t T (rowSize n) l)) f
       ∙ ap (λ (i : ℕ). partOf s i numberSize) e)
-      ∙ part-concat s (rowStart n t) numberSize (rowNumbers n)
+      ∙ part-concat s (rowStart (versionOf s) n t) numberSize (rowNumbers n)
       ∙ rw (size, base)
 
-  all-rows : concatOf (rowBytes n (a .rows)) T ≡ partOf s (headerSize + n * cellSize) (T * rowSize n)
+  all-rows : concatOf (rowBytes n (a .rows)) T ≡ partOf s (h + n * cellSize) (T * rowSize n)
   all-rows =
-      concat-same (rowBytes n (a .rows)) (λ t. partOf s (headerSize + n * cellSize + t * rowSize n) (rowSize n)) T row
-      ∙ part-concat s (headerSize + n * cellSize) (rowSize n) T
+      concat-same (rowBytes n (a .rows)) (λ t. partOf s (h + n * cellSize + t * rowSize n) (rowSize n)) T row
+      ∙ part-concat s (h + n * cellSize) (rowSize n) T
 
   pub same-bytes : recordOf (given (readingOf s .road) (readingOf s .steps) (startIn (readingOf s .state)) rows) ≡ s
   unfolding recordOf
   same-bytes =
-      let e : headerSize + (n * cellSize + T * rowSize n) ≡ length s = omega (arith, within .size) in
-      rw (header, cells, all-rows, part-join s headerSize (n * cellSize) (T * rowSize n))
-      (part-join s 0 headerSize (n * cellSize + T * rowSize n) ∙ take-all (headerSize + (n * cellSize + T * rowSize n)) s (omega (arith, e)))
+      let e : h + (n * cellSize + T * rowSize n) ≡ length s = omega (arith, within .size) in
+      let first : 0 + h ≡ h = omega arith in
+      let whole : partOf s 0 h ++ partOf s h (n * cellSize + T * rowSize n) ≡ partOf s 0 (h + (n * cellSize + T * rowSize n)) =
+      rw first at (part-join s 0 h (n * cellSize + T * rowSize n)) in
+      rw (header, cells, all-rows, part-join s h (n * cellSize) (T * rowSize n))
+      (whole ∙ take-all (h + (n * cellSize + T * rowSize n)) s (omega (arith, e)))

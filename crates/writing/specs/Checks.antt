@@ -9,7 +9,7 @@ use lib.Dec.{leb, eqb}
 use lib.ListN.{length}
 use borrow.Author.Tests.{leb-true, le-leb, lt-leb, eqb-true, eq-eqb, ne-eqb}
 use borrow.Author.Count.{below-more, below-none}
-use Rattle.numbers.specs.First.{unless, unlessFirst, firstOf}
+use Rattle.numbers.specs.First.{unless, oneOf, unlessFirst, firstOf}
 use Rattle.numbers.specs.FirstLaws.{first-stop, first-none}
 use Rattle.rows.specs.Tables.{rowAt}
 use Rattle.rows.specs.TablesLaws.{row-ends, mul-more}
@@ -19,60 +19,98 @@ use Rattle.road.specs.Road.{mostCells, mostSteps, mostBytes}
 use Rattle.road.specs.Study.{Study}
 use Rattle.fields.specs.Fields.{rowNumbers}
 use Rattle.limits.specs.Limits.{placeOk, rowOk}
-use Rattle.reading.specs.Reading.{sizeOf, cellsAndStepsOk}
+use Rattle.reading.specs.Reading.{sizeOf, bothVersions, cellsAndStepsOk, secondsOk}
 use Rattle.reading.specs.ReadingLaws.{Counts, counts-facts}
 use Rattle.writing.specs.Writing.{WriteAnswer, unwritten, written, rowsOk, givenOk, numberCount, writingBy, writingOf}
-use Rattle.putting.specs.Record.{given}
+use Rattle.putting.specs.Record.{recordSize, given}
 use Rattle.putting.specs.Putting.{Rows}
 
--- 3, 1 and 4, of numbers that belong to no place
-unfoldable pub frameFault : ℕ → ℕ → ℕ → ℕ
-frameFault n T numbers =
-    unless (cellsAndStepsOk n T) 3
-    (unless (leb (sizeOf n T) mostBytes) 1
-    (unless (eqb numbers (T * rowNumbers n)) 4 0))
+-- 2, 3, 19, 1 and 4, of numbers that belong to no place
+unfoldable pub frameFault : ℕ → ℕ → ℕ → ℕ → ℕ → ℕ
+frameFault version seconds n T numbers =
+    unless (oneOf bothVersions version) 2
+    (unless (cellsAndStepsOk n T) 3
+    (unless (secondsOk version seconds) 19
+    (unless (leb (sizeOf version n T) mostBytes) 1
+    (unless (eqb numbers (T * rowNumbers n)) 4 0))))
+
+-- of a study
+abbrev pub frameOf : Study → ℕ → ℕ
+frameOf a numbers = frameFault (a .road .version) (a .road .seconds) (a .road .n) (a .steps) numbers
 
 -- what they let through
 pub record Framed (a : Study) (numbers : ℕ) : Type 0 where
+  pub version : oneOf bothVersions (a .road .version) ≡ true
   pub counts : Counts (a .road .n) (a .steps)
-  pub size : sizeOf (a .road .n) (a .steps) ≤ mostBytes
+  pub seconds : secondsOk (a .road .version) (a .road .seconds) ≡ true
+  pub size : recordSize a ≤ mostBytes
   pub all : numbers ≡ numberCount a
 
-module _ (n T numbers : ℕ) where
-  pub frame-counts : cellsAndStepsOk n T ≡ false → 3 ≡ frameFault n T numbers
+module _ (version seconds n T numbers : ℕ) where
+  pub frame-version : oneOf bothVersions version ≡ false → 2 ≡ frameFault version seconds n T numbers
   unfolding frameFault
-  frame-counts h = rw h
+  frame-version h = rw h
 
-  module _ (h : cellsAndStepsOk n T ≡ true) where
-    pub frame-size : mostBytes < sizeOf n T → 1 ≡ frameFault n T numbers
+  module _ (v : oneOf bothVersions version ≡ true) where
+    pub frame-counts : cellsAndStepsOk n T ≡ false → 3 ≡ frameFault version seconds n T numbers
     unfolding frameFault
-    frame-size l = rw (h, lt-leb (sizeOf n T) mostBytes l)
+    frame-counts h = rw (v, h)
 
-    pub frame-numbers : sizeOf n T ≤ mostBytes → (numbers ≡ T * rowNumbers n → ⊥) → 4 ≡ frameFault n T numbers
-    unfolding frameFault
-    frame-numbers l k = rw (h, le-leb (sizeOf n T) mostBytes l, ne-eqb numbers (T * rowNumbers n) k)
+    module _ (h : cellsAndStepsOk n T ≡ true) where
+      pub frame-seconds : secondsOk version seconds ≡ false → 19 ≡ frameFault version seconds n T numbers
+      unfolding frameFault
+      frame-seconds q = rw (v, h, q)
 
-    pub frame-none : sizeOf n T ≤ mostBytes → numbers ≡ T * rowNumbers n → 0 ≡ frameFault n T numbers
-    unfolding frameFault
-    frame-none l k = rw (h, le-leb (sizeOf n T) mostBytes l, eq-eqb numbers (T * rowNumbers n) k)
+      module _ (q : secondsOk version seconds ≡ true) where
+        pub frame-size : mostBytes < sizeOf version n T → 1 ≡ frameFault version seconds n T numbers
+        unfolding frameFault
+        frame-size l = rw (v, h, q, lt-leb (sizeOf version n T) mostBytes l)
 
--- no fault: all three hold
-pub framed : (a : Study) (numbers : ℕ) → frameFault (a .road .n) (a .steps) numbers ≡ 0 → Framed a numbers
-unfolding frameFault
-framed a numbers h =
-    go (cellsAndStepsOk (a .road .n) (a .steps)) (leb (sizeOf (a .road .n) (a .steps)) mostBytes) (eqb numbers (numberCount a)) refl refl refl h
-  where
-    go : (x y z : Bool) → cellsAndStepsOk (a .road .n) (a .steps) ≡ x → leb (sizeOf (a .road .n) (a .steps)) mostBytes ≡ y
-        → eqb numbers (numberCount a) ≡ z
-        → _≡_ {A = ℕ} (unless x 3 (unless y 1 (unless z 4 0))) 0 → Framed a numbers
-    go true true true e f g k = record {
-      counts = counts-facts (a .road .n) (a .steps) e;
-      size = leb-true (sizeOf (a .road .n) (a .steps)) mostBytes f;
-      all = eqb-true numbers (numberCount a) g;
-    }
-    go true true false e f g k = absurd (omega arith)
-    go true false z e f g k = absurd (omega arith)
-    go false y z e f g k = absurd (omega arith)
+        module _ (l : sizeOf version n T ≤ mostBytes) where
+          pub frame-numbers : (numbers ≡ T * rowNumbers n → ⊥) → 4 ≡ frameFault version seconds n T numbers
+          unfolding frameFault
+          frame-numbers k = rw (v, h, q, le-leb (sizeOf version n T) mostBytes l, ne-eqb numbers (T * rowNumbers n) k)
+
+          pub frame-none : numbers ≡ T * rowNumbers n → 0 ≡ frameFault version seconds n T numbers
+          unfolding frameFault
+          frame-none k = rw (v, h, q, le-leb (sizeOf version n T) mostBytes l, eq-eqb numbers (T * rowNumbers n) k)
+
+-- their tests
+module _ (a : Study) (numbers : ℕ) where
+  abbrev pub known : Bool
+  known = oneOf bothVersions (a .road .version)
+
+  abbrev pub counted : Bool
+  counted = cellsAndStepsOk (a .road .n) (a .steps)
+
+  abbrev pub timed : Bool
+  timed = secondsOk (a .road .version) (a .road .seconds)
+
+  abbrev pub short : Bool
+  short = leb (recordSize a) mostBytes
+
+  abbrev pub whole : Bool
+  whole = eqb numbers (numberCount a)
+
+  -- no fault: all five hold
+  pub framed : frameOf a numbers ≡ 0 → Framed a numbers
+  unfolding frameFault
+  framed h = go known counted timed short whole refl refl refl refl refl h
+    where
+      go : (u v w x y : Bool) → known ≡ u → counted ≡ v → timed ≡ w → short ≡ x → whole ≡ y
+          → _≡_ {A = ℕ} (unless u 2 (unless v 3 (unless w 19 (unless x 1 (unless y 4 0))))) 0 → Framed a numbers
+      go true true true true true eu ev ew ex ey k = record {
+        version = eu;
+        counts = counts-facts (a .road .n) (a .steps) ev;
+        seconds = ew;
+        size = leb-true (recordSize a) mostBytes ex;
+        all = eqb-true numbers (numberCount a) ey;
+      }
+      go true true true true false eu ev ew ex ey k = absurd (omega arith)
+      go true true true false y eu ev ew ex ey k = absurd (omega arith)
+      go true true false x y eu ev ew ex ey k = absurd (omega arith)
+      go true false w x y eu ev ew ex ey k = absurd (omega arith)
+      go false v w x y eu ev ew ex ey k = absurd (omega arith)
 
 -- the count of all numbers is computed in 64 bits
 pub numbers-small : {n T : ℕ} → Counts n T → T * rowNumbers n ≤ mostSteps * rowNumbers mostCells
@@ -120,17 +158,19 @@ module _ {ramp rows : List ℕ} {n T : ℕ} where
 
 -- the answers, in the code's order
 module _ (a : Study) (numbers room : ℕ) where
-  pub answer-frame : (frameFault (a .road .n) (a .steps) numbers ≡ 0 → ⊥)
-      → unwritten (frameFault (a .road .n) (a .steps) numbers) 0 ≡ writingBy a numbers room
+  pub answer-frame : (frameOf a numbers ≡ 0 → ⊥) → unwritten (frameOf a numbers) 0 ≡ writingBy a numbers room
   unfolding frameFault
-  answer-frame h = go (cellsAndStepsOk (a .road .n) (a .steps)) (leb (sizeOf (a .road .n) (a .steps)) mostBytes) (eqb numbers (numberCount a)) _ h
+  answer-frame h = go (known a numbers) (counted a numbers) (timed a numbers) (short a numbers) (whole a numbers) _ h
     where
-      go : (x y z : Bool) (rest : WriteAnswer) → (_≡_ {A = ℕ} (unless x 3 (unless y 1 (unless z 4 0))) 0 → ⊥)
-          → unwritten (unless x 3 (unless y 1 (unless z 4 0))) 0 ≡ unless x (unwritten 3 0) (unless y (unwritten 1 0) (unless z (unwritten 4 0) rest))
-      go true true true rest k = absurd (k refl)
-      go true true false rest k = refl
-      go true false z rest k = refl
-      go false y z rest k = refl
+      go : (u v w x y : Bool) (rest : WriteAnswer) → (_≡_ {A = ℕ} (unless u 2 (unless v 3 (unless w 19 (unless x 1 (unless y 4 0))))) 0 → ⊥)
+          → unwritten (unless u 2 (unless v 3 (unless w 19 (unless x 1 (unless y 4 0))))) 0
+          ≡ unless u (unwritten 2 0) (unless v (unwritten 3 0) (unless w (unwritten 19 0) (unless x (unwritten 1 0) (unless y (unwritten 4 0) rest))))
+      go true true true true true rest k = absurd (k refl)
+      go true true true true false rest k = refl
+      go true true true false y rest k = refl
+      go true true false x y rest k = refl
+      go true false w x y rest k = refl
+      go false v w x y rest k = refl
 
   module _ (ok : Framed a numbers) where
     abbrev place : ℕ
@@ -139,12 +179,12 @@ module _ (a : Study) (numbers room : ℕ) where
     abbrev step : ℕ
     step = firstOf (givenOk a) (a .steps)
 
-    -- what is left past 3, 1 and 4
+    -- what is left past the frame
     body : unlessFirst (placeOk (a .road) (a .start)) (a .road .n + 1) (unwritten 5)
         (unlessFirst (givenOk a) (a .steps) (unwritten 6)
-        (unless (leb (sizeOf (a .road .n) (a .steps)) room) (unwritten 15 0) (written (sizeOf (a .road .n) (a .steps)))))
+        (unless (leb (recordSize a) room) (unwritten 15 0) (written (recordSize a))))
         ≡ writingBy a numbers room
-    body = rw (counts-ok (ok .counts), le-leb (sizeOf (a .road .n) (a .steps)) mostBytes (ok .size), eq-eqb numbers (numberCount a) (ok .all))
+    body = rw (ok .version, counts-ok (ok .counts), ok .seconds, le-leb (recordSize a) mostBytes (ok .size), eq-eqb numbers (numberCount a) (ok .all))
       where
         counts-ok : Counts (a .road .n) (a .steps) → cellsAndStepsOk (a .road .n) (a .steps) ≡ true
         counts-ok c =
@@ -158,13 +198,13 @@ module _ (a : Study) (numbers room : ℕ) where
       answer-step t e h = rw (← body, ← ep, eq-eqb p (a .road .n + 1) hp, ← e, ne-eqb t (a .steps) h)
 
       module _ (t : ℕ) (et : t ≡ step) (ht : t ≡ a .steps) where
-        pub answer-short : room < sizeOf (a .road .n) (a .steps) → unwritten 15 0 ≡ writingBy a numbers room
+        pub answer-short : room < recordSize a → unwritten 15 0 ≡ writingBy a numbers room
         answer-short l =
-            rw (← body, ← ep, eq-eqb p (a .road .n + 1) hp, ← et, eq-eqb t (a .steps) ht, lt-leb (sizeOf (a .road .n) (a .steps)) room l)
+            rw (← body, ← ep, eq-eqb p (a .road .n + 1) hp, ← et, eq-eqb t (a .steps) ht, lt-leb (recordSize a) room l)
 
-        pub answer-written : sizeOf (a .road .n) (a .steps) ≤ room → written (sizeOf (a .road .n) (a .steps)) ≡ writingBy a numbers room
+        pub answer-written : recordSize a ≤ room → written (recordSize a) ≡ writingBy a numbers room
         answer-written l =
-            rw (← body, ← ep, eq-eqb p (a .road .n + 1) hp, ← et, eq-eqb t (a .steps) ht, le-leb (sizeOf (a .road .n) (a .steps)) room l)
+            rw (← body, ← ep, eq-eqb p (a .road .n + 1) hp, ← et, eq-eqb t (a .steps) ht, le-leb (recordSize a) room l)
 
 -- the answer to what was given
 pub by-given : (road : Road) (T : ℕ) (start : Start) (rows target : List ℕ)

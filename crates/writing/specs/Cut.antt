@@ -1,8 +1,11 @@
 -- A road and a state as a record keeps them: up to cell n, and 0 past it. Assumes nothing.
-use mathlib.Core.Path.{_≡_, _∙_}
+use mathlib.Core.Path.{_≡_, refl, _∙_}
+use mathlib.Core.Bool.{Bool, true, false, cond}
 use mathlib.Core.List.{List}
 use Prim.Native.Nat.{ℕ, _≤_, _<_}
 use native.Mathlib.Omega.{arith}
+use lib.Dec.{eqb}
+use borrow.Author.Tests.{eq-eqb, ne-eqb}
 use Rattle.numbers.specs.Lists.{at}
 use Rattle.rows.specs.Rows.{fillOf}
 use Rattle.rows.specs.RowsLaws.{fill-at, fill-past}
@@ -10,15 +13,23 @@ use Rattle.road.specs.declared.Road.{Road}
 use Rattle.road.specs.declared.State.{State}
 use Rattle.road.specs.Road.{mostCells, zeros}
 use Rattle.road.specs.RoadLaws.{length-zeros, zeros-at}
+use Rattle.fields.specs.Fields.{secondVersion}
+use Rattle.reading.specs.Reading.{secondsOk}
 use Rattle.limits.specs.LimitsLaws.{RoadOk, StateOk, RowOk}
 
 -- the first n entries of an array, and 0 past them
 abbrev pub cutOf : ℕ → List ℕ → List ℕ
 cutOf n l = fillOf (λ i. at l i) n zeros
 
+-- the step's seconds, 0 where the version has none
+abbrev pub keptSeconds : ℕ → ℕ → ℕ
+keptSeconds version seconds = cond (eqb version secondVersion) seconds 0
+
 abbrev pub cutRoad : Road → Road
 cutRoad r = record {
   n = r .n;
+  version = r .version;
+  seconds = keptSeconds (r .version) (r .seconds);
   «gate_capacity» = r .«gate_capacity»;
   speed = cutOf (r .n) (r .speed);
   wave = cutOf (r .n) (r .wave);
@@ -47,6 +58,20 @@ cut-at n l h i k = fill-at (λ j. at l j) n zeros i k (omega (arith, length-zero
 
 pub cut-past : (n : ℕ) (l : List ℕ) (i : ℕ) → n ≤ i → at (cutOf n l) i ≡ 0
 cut-past n l i h = fill-past (λ j. at l j) n zeros i h ∙ zeros-at i
+
+-- version 2 keeps its seconds, another has none, and what is kept is within the limits of what was given
+pub kept-second : (version seconds : ℕ) → version ≡ secondVersion → keptSeconds version seconds ≡ seconds
+kept-second version seconds e = rw (eq-eqb version secondVersion e)
+
+pub kept-none : (version seconds : ℕ) → (version ≡ secondVersion → ⊥) → keptSeconds version seconds ≡ 0
+kept-none version seconds h = rw (ne-eqb version secondVersion h)
+
+pub kept-ok : (version seconds : ℕ) → secondsOk version (keptSeconds version seconds) ≡ secondsOk version seconds
+kept-ok version seconds = go (eqb version secondVersion) refl
+  where
+    go : (b : Bool) → eqb version secondVersion ≡ b → secondsOk version (keptSeconds version seconds) ≡ secondsOk version seconds
+    go true e = rw e
+    go false e = rw e
 
 -- the limits look at no entry past cell n
 pub cut-road : (r : Road) → RoadOk r → RoadOk (cutRoad r)

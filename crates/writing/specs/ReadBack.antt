@@ -1,36 +1,38 @@
 -- A record that was written is read back. Assumes nothing.
 use mathlib.Core.Path.{_≡_, refl, sym, ap, _∙_}
-use mathlib.Core.Bool.{Bool, true, _&&_}
+use mathlib.Core.Bool.{Bool, true, false, _&&_}
 use mathlib.Core.List.{List}
 use Prim.Native.Nat.{ℕ, zero, suc, _+_, _-_, _*_, _/_, _%_, _^_, _≤_, _<_}
 use native.Mathlib.Omega.{arith}
 use lib.Dec.{leb, eqb}
 use lib.ListN.{length}
 use lib.Seq.{ext-getD}
-use borrow.Author.Tests.{le-leb, eq-eqb}
+use borrow.Author.Tests.{leb-true, le-leb, eqb-true, eqb-false, eq-eqb}
 use Rattle.numbers.specs.Lists.{at}
-use Rattle.numbers.specs.First.{allOf}
+use Rattle.numbers.specs.First.{oneOf, allOf}
 use Rattle.numbers.specs.FirstLaws.{all-true}
-use Rattle.numbers.specs.Tests.{le-then}
+use Rattle.numbers.specs.Tests.{le-head, le-then}
 use Rattle.rows.specs.RowsLaws.{fill-same, fill-own}
 use Rattle.rows.specs.Tables.{rowAt}
 use Rattle.rows.specs.TablesLaws.{row-length}
 use Rattle.road.specs.declared.Road.{Road}
 use Rattle.road.specs.declared.State.{State}
 use Rattle.road.specs.declared.Start.{Start}
-use Rattle.road.specs.Road.{mostCells, mostSteps, mostBytes, mostRate, zeros, startState}
+use Rattle.road.specs.Road.{mostCells, mostSteps, mostBytes, mostRate, mostSeconds, zeros, startState}
 use Rattle.road.specs.Study.{Study}
-use Rattle.fields.specs.Fields.{recordVersion, countSize, headerSize, cellSize, shortSize, numberSize, rowSize}
-use Rattle.fields.specs.Fields.{rowNumbers, rowStart, numberOf, fieldOf, columnOf, entryOf, recordRow}
-use Rattle.fields.specs.FieldsLaws.{length-row, row-at}
+use Rattle.fields.specs.Fields.{secondVersion, countSize, secondsSize, headerSize, gateCapacityOffset, gateQueueOffset, cellSize, shortSize, numberSize, rowSize}
+use Rattle.fields.specs.Fields.{rowNumbers, rowStart, numberOf, versionOf, secondsOf, fieldOf, columnOf, entryOf, recordRow}
+use Rattle.fields.specs.FieldsLaws.{seconds-second, seconds-none, length-row, row-at}
 use Rattle.fields.specs.BytesLaws.{Field, field-number}
 use Rattle.limits.specs.Limits.{placeOk, rowOk}
 use Rattle.limits.specs.LimitsLaws.{RoadOk, StateOk, RowOk, places-road, places-state, place-ok, row-facts, row-ok}
-use Rattle.reading.specs.Reading.{versionOf, cellsOf, stepsOf, sizeOf, roadOf, startOf, lengthOk, cellsAndStepsOk, stepOk, acceptedOf, readingOf}
+use Rattle.reading.specs.Reading.{cellsOf, stepsOf, sizeOf, roadOf, startOf, bothVersions, leastSize, lengthOk, cellsAndStepsOk, secondsOk, stepOk}
+use Rattle.reading.specs.Reading.{acceptedOf, readingBy, readingOf}
+use Rattle.reading.specs.ReadingLaws.{known-most, least-both}
 use Rattle.putting.specs.Record.{headerBytes, cellBytes, recordOf, given}
 use Rattle.putting.specs.Putting.{length-record}
 use Rattle.writing.specs.Accepted.{Accepted}
-use Rattle.writing.specs.Cut.{cutOf, cutRoad, cutState, cut-road, cut-state, cut-row}
+use Rattle.writing.specs.Cut.{cutOf, keptSeconds, cutRoad, cutState, kept-second, kept-none, kept-ok, cut-road, cut-state, cut-row}
 use Rattle.writing.specs.Stands.{HeaderFields, header-fields, CellFields, cell-fields, in-header, in-cell, in-row}
 
 module _ (road : Road) (T : ℕ) (start : Start) (rows : List ℕ) (room : ℕ) (ok : Accepted (given road T start rows) (length rows) room) where
@@ -55,14 +57,19 @@ module _ (road : Road) (T : ℕ) (start : Start) (rows : List ℕ) (room : ℕ) 
       row-facts road (rowAt rows (rowNumbers n) t) (row-length rows (rowNumbers n) t T l (ok .all)) (road-ok .ramp) (ok .rows t l)
 
   -- the header
-  header : HeaderFields (headerBytes (given road T start rows)) (road .n) T (road .«gate_capacity») (start .«gate_queue»)
-  header = header-fields n T (road .«gate_capacity») (start .«gate_queue»)
+  header : HeaderFields (headerBytes (given road T start rows)) (road .version) (road .n) T (road .seconds) (road .«gate_capacity») (start .«gate_queue»)
+  header = header-fields (road .version) n T (road .seconds) (road .«gate_capacity») (start .«gate_queue»)
 
-  count-read : numberOf s 0 countSize ≡ sizeOf n T - countSize
-  count-read = field-number s 0 0 countSize (sizeOf n T - countSize) refl (omega (arith, ok .size)) (in-header a (omega arith) (header .count))
+  count-read : numberOf s 0 countSize ≡ sizeOf (road .version) n T - countSize
+  count-read = field-number s 0 0 countSize (sizeOf (road .version) n T - countSize) refl (omega (arith, ok .size)) (in-header a (omega arith) (header .count))
 
-  version-read : versionOf s ≡ recordVersion
-  version-read = field-number s 4 4 1 recordVersion refl (omega arith) (in-header a (omega arith) (header .version))
+  version-read : versionOf s ≡ road .version
+  version-read =
+      field-number s 4 4 1 (road .version) refl (omega (arith, known-most (road .version) (ok .version))) (in-header a (omega arith) (header .versionField))
+
+  -- so the bytes are laid out as they were put
+  layout : secondsSize (versionOf s) ≡ secondsSize (road .version)
+  layout = ap secondsSize version-read
 
   cells-read : cellsOf s ≡ n
   cells-read = field-number s 5 5 1 n refl (omega (arith, ok .counts .cells)) (in-header a (omega arith) (header .cells))
@@ -70,11 +77,29 @@ module _ (road : Road) (T : ℕ) (start : Start) (rows : List ℕ) (room : ℕ) 
   steps-read : stepsOf s ≡ T
   steps-read = field-number s 6 6 shortSize T refl (omega (arith, ok .counts .steps)) (in-header a (omega arith) (header .steps))
 
-  capacity-read : numberOf s 8 numberSize ≡ road .«gate_capacity»
-  capacity-read = field-number s 8 8 numberSize (road .«gate_capacity») refl (omega (arith, road-ok .gate)) (in-header a (omega arith) (header .gateCapacity))
+  seconds-read : secondsOf s ≡ keptSeconds (road .version) (road .seconds)
+  unfolding numberOf
+  seconds-read = ap (numberOf s 8) layout ∙ go (eqb (road .version) secondVersion) refl
+    where
+      go : (b : Bool) → eqb (road .version) secondVersion ≡ b → numberOf s 8 (secondsSize (road .version)) ≡ keptSeconds (road .version) (road .seconds)
+      go true e =
+          let second = eqb-true (road .version) secondVersion e in
+          let size = seconds-second (road .version) second in
+          let within : leb 1 (road .seconds) && leb (road .seconds) mostSeconds ≡ true = rw e at (ok .seconds) in
+          let most = leb-true (road .seconds) mostSeconds (le-head 1 (road .seconds) _ within .1) in
+          let field : Field s 8 shortSize (road .seconds) = rw size at (in-header a {w = secondsSize (road .version)} (omega arith) (header .secondsField)) in
+          rw (size, e) (field-number s 8 8 shortSize (road .seconds) refl (omega (arith, most)) field)
+      go false e = rw (seconds-none (road .version) (eqb-false (road .version) secondVersion e), e)
 
-  queue-read : numberOf s 12 numberSize ≡ start .«gate_queue»
-  queue-read = field-number s 12 12 numberSize (start .«gate_queue») refl (omega (arith, state-ok .gateQueue)) (in-header a (omega arith) (header .gateQueue))
+  capacity-read : numberOf s (gateCapacityOffset (versionOf s)) numberSize ≡ road .«gate_capacity»
+  capacity-read =
+      field-number s (gateCapacityOffset (road .version)) (gateCapacityOffset (versionOf s)) numberSize (road .«gate_capacity») (omega (arith, layout))
+      (omega (arith, road-ok .gate)) (in-header a (omega arith) (header .gateCapacity))
+
+  queue-read : numberOf s (gateQueueOffset (versionOf s)) numberSize ≡ start .«gate_queue»
+  queue-read =
+      field-number s (gateQueueOffset (road .version)) (gateQueueOffset (versionOf s)) numberSize (start .«gate_queue») (omega (arith, layout))
+      (omega (arith, state-ok .gateQueue)) (in-header a (omega arith) (header .gateQueue))
 
   -- the cells
   cell : (i : ℕ) → CellFields (cellBytes road (startState start) i) (at (road .speed) i) (at (road .wave) i) (at (road .share) i) (at (road .ramp) i)
@@ -88,7 +113,8 @@ module _ (road : Road) (T : ℕ) (start : Start) (rows : List ℕ) (room : ℕ) 
   column offset w l fits h =
       ap (columnOf s offset w) cells-read
       ∙ fill-same (fieldOf s offset w) (λ i. at l i) n zeros
-      (λ i k. field-number s (headerSize + (i * cellSize + offset)) (headerSize + cellSize * i + offset) w (at l i) (omega arith) (h i k .0)
+      (λ i k. field-number s (headerSize (road .version) + (i * cellSize + offset)) (headerSize (versionOf s) + cellSize * i + offset) w (at l i)
+      (omega (arith, layout)) (h i k .0)
       (in-cell a i k fits (h i k .1)))
 
   short : (x most : ℕ) → x ≤ most → most ≤ 65535 → x < 256 ^ shortSize
@@ -123,7 +149,8 @@ module _ (road : Road) (T : ℕ) (start : Start) (rows : List ℕ) (room : ℕ) 
   queues-read = column 20 numberSize (start .queue) (omega arith) (λ i l. (long _ _ (state-ok .queue i l) (omega arith), cell i .queueField))
 
   road-read : roadOf s ≡ cutRoad road
-  road-read = rw (speed-read, wave-read, share-read, ramp-read, jam-read, capacities-read, cells-read, capacity-read)
+  road-read =
+      rw (speed-read, wave-read, share-read, ramp-read, jam-read, capacities-read, cells-read, capacity-read, seconds-read, version-read)
 
   start-read : startOf s ≡ cutState n (startState start)
   start-read = rw (held-read, queues-read, queue-read, fill-own zeros n)
@@ -140,7 +167,8 @@ module _ (road : Road) (T : ℕ) (start : Start) (rows : List ℕ) (room : ℕ) 
   entry-read : (t : ℕ) → t < T → (k : ℕ) → k < rowNumbers (road .n)
       → entryOf (recordOf (given road T start rows)) (road .n) t k ≡ at (rowAt rows (rowNumbers (road .n)) t) k
   entry-read t l k m =
-      field-number s (headerSize + (n * cellSize + (t * rowSize n + (k * numberSize + 0)))) (rowStart n t + numberSize * k) numberSize _ (omega arith)
+      field-number s (headerSize (road .version) + (n * cellSize + (t * rowSize n + (k * numberSize + 0)))) (rowStart (versionOf s) n t + numberSize * k) numberSize _
+      (omega (arith, layout))
       (long _ _ (number-rate (rowAt rows (rowNumbers n) t) (given-row t l) k m) (omega arith)) (in-row a t k l m)
 
   pub rows-read : (t : ℕ) → t < T → recordRow (recordOf (given road T start rows)) (road .n) t ≡ rowAt rows (rowNumbers (road .n)) t
@@ -152,11 +180,22 @@ module _ (road : Road) (T : ℕ) (start : Start) (rows : List ℕ) (room : ℕ) 
       row-at s n t k h ∙ entry-read t l k h)
 
   -- no refusal of reading applies
-  long-enough : lengthOk s ≡ true
+  long-enough : lengthOk bothVersions s ≡ true
   long-enough =
       let e = length-record a in
-      le-then headerSize (length s) _ (omega (arith, e)) (le-then (length s) mostBytes _ (omega (arith, e, ok .size))
+      le-then (leastSize bothVersions (versionOf s)) (length s) _ (omega (arith, e, least-both (versionOf s), layout))
+      (le-then (length s) mostBytes _ (omega (arith, e, ok .size))
       (eq-eqb (numberOf s 0 countSize) (length s - countSize) (count-read ∙ omega (arith, e))))
+
+  known-read : oneOf bothVersions (versionOf s) ≡ true
+  known-read = ap (oneOf bothVersions) version-read ∙ ok .version
+
+  seconds-fit : secondsOk (versionOf s) (secondsOf s) ≡ true
+  seconds-fit =
+      ap (λ (v : ℕ). secondsOk v (secondsOf s)) version-read
+      ∙ ap (λ (q : ℕ). secondsOk (road .version) q) seconds-read
+      ∙ kept-ok (road .version) (road .seconds)
+      ∙ ok .seconds
 
   counts-read : cellsAndStepsOk (cellsOf s) (stepsOf s) ≡ true
   counts-read =
@@ -164,8 +203,8 @@ module _ (road : Road) (T : ℕ) (start : Start) (rows : List ℕ) (room : ℕ) 
       rw (cells-read, steps-read)
       (le-then 1 n _ (c .someCells) (le-then n mostCells _ (c .cells) (le-then 1 T _ (c .someSteps) (le-leb T mostSteps (c .steps)))))
 
-  size-read : eqb (length s) (sizeOf (cellsOf s) (stepsOf s)) ≡ true
-  size-read = rw (cells-read, steps-read) (eq-eqb (length s) (sizeOf n T) (length-record a))
+  size-read : eqb (length s) (sizeOf (versionOf s) (cellsOf s) (stepsOf s)) ≡ true
+  size-read = rw (cells-read, steps-read) (eq-eqb (length s) (sizeOf (versionOf s) n T) (omega (arith, length-record a, layout)))
 
   places-read : allOf (placeOk (roadOf s) (startOf s)) (cellsOf s + 1) ≡ true
   places-read =
@@ -180,7 +219,7 @@ module _ (road : Road) (T : ℕ) (start : Start) (rows : List ℕ) (room : ℕ) 
       rw (rows-read t l) (row-ok (cutRoad road) (rowAt rows (rowNumbers n) t) (cut-road road road-ok) (cut-row road (rowAt rows (rowNumbers n) t) road-ok (given-row t l)))))
 
   pub reads-back : readingOf (recordOf (given road T start rows)) ≡ acceptedOf T (cutRoad road) (cutState (road .n) (startState start))
-  unfolding readingOf
+  unfolding readingBy
   reads-back =
-      rw (long-enough, eq-eqb (versionOf s) recordVersion version-read, counts-read, size-read, places-read, steps-fit)
+      rw (long-enough, known-read, counts-read, seconds-fit, size-read, places-read, steps-fit)
       (rw (road-read, start-read, steps-read))

@@ -15,7 +15,7 @@ use Rattle.road.specs.declared.State.{State}
 use Rattle.road.specs.declared.Start.{Start}
 use Rattle.road.specs.Road.{zeros, startState}
 use Rattle.road.specs.Study.{Study}
-use Rattle.fields.specs.Fields.{rowNumbers, recordRow}
+use Rattle.fields.specs.Fields.{secondVersion, rowNumbers, recordRow}
 use Rattle.limits.specs.Limits.{placeOk, rowOk}
 use Rattle.limits.specs.LimitsLaws.{place-ok, row-ok}
 use Rattle.reading.specs.Reading.{sizeOf, acceptedOf, readingOf, studyOf}
@@ -26,7 +26,7 @@ use Rattle.putting.specs.Putting.{length-record}
 use Rattle.writing.specs.Writing.{WriteAnswer, written, givenOk, writingOf, targetAfter}
 use Rattle.writing.specs.Checks.{answer-written, by-given}
 use Rattle.writing.specs.Accepted.{given-accepted, refused-count, target-refused, target-written}
-use Rattle.writing.specs.Cut.{cutRoad, cutState}
+use Rattle.writing.specs.Cut.{cutRoad, cutState, kept-second, kept-none}
 use Rattle.writing.specs.ReadBack.{reads-back, rows-read}
 use Rattle.writing.specs.Again.{startIn, same-bytes}
 
@@ -37,29 +37,29 @@ savedOf road T start rows target = take (writingOf road T start rows target .cou
 module _ (road : Road) (T : ℕ) (start : Start) (rows target : List ℕ) where
   -- where writing isn't refused
   pub record Saved : Type 0 where
-    pub count : writingOf road T start rows target .count ≡ sizeOf (road .n) T
-    -- reading the first `count` bytes isn't refused and gives n, T and the values given up to cell n, 0 past it (cut-at, cut-past)
+    pub count : writingOf road T start rows target .count ≡ sizeOf (road .version) (road .n) T
+    -- reading the first `count` bytes isn't refused and gives version, n, T and the values given up to cell n, 0 past it (cut-at, cut-past)
     pub reads : readingOf (savedOf road T start rows target) ≡ acceptedOf T (cutRoad road) (cutState (road .n) (startState start))
     -- and each row's numbers are those given
     pub row : (t : ℕ) → t < T → recordRow (savedOf road T start rows target) (road .n) t ≡ rowAt rows (rowNumbers (road .n)) t
     -- bytes beyond the record are untouched
-    pub beyond : drop (sizeOf (road .n) T) (targetAfter road T start rows target) ≡ drop (sizeOf (road .n) T) target
+    pub beyond : drop (sizeOf (road .version) (road .n) T) (targetAfter road T start rows target) ≡ drop (sizeOf (road .version) (road .n) T) target
 
   pub saved : writingOf road T start rows target .number ≡ 0 → Saved
   saved h =
       let ok = given-accepted road T start rows target h in
       let a = given road T start rows in
-      let size : writingOf road T start rows target .count ≡ sizeOf (road .n) T =
+      let size : writingOf road T start rows target .count ≡ sizeOf (road .version) (road .n) T =
       sym (ap (λ (x : WriteAnswer). x .count) (by-given road T start rows target)) ∙ ap (λ (x : WriteAnswer). x .count) (ok .answer) in
       let bytes : savedOf road T start rows target ≡ recordOf (given road T start rows) =
       rw (target-written road T start rows target h)
-      (take-at (recordOf a) (drop (sizeOf (road .n) T) target) (writingOf road T start rows target .count) (length-record a ∙ sym size)) in
+      (take-at (recordOf a) (drop (sizeOf (road .version) (road .n) T) target) (writingOf road T start rows target .count) (length-record a ∙ sym size)) in
       record {
         count = size;
         reads = ap readingOf bytes ∙ reads-back road T start rows (length target) ok;
         row = λ t l. ap (λ (s : List ℕ). recordRow s (road .n) t) bytes ∙ rows-read road T start rows (length target) ok t l;
         beyond = rw (target-written road T start rows target h)
-            (drop-at (recordOf a) (drop (sizeOf (road .n) T) target) (sizeOf (road .n) T) (length-record a));
+            (drop-at (recordOf a) (drop (sizeOf (road .version) (road .n) T) target) (sizeOf (road .version) (road .n) T) (length-record a));
       }
 
   -- every refusal leaves the target unchanged, and the count is 0
@@ -72,6 +72,16 @@ module _ (road : Road) (T : ℕ) (start : Start) (rows target : List ℕ) where
   pub saved-road : Saved → (lanes : List ℕ) → studyOf (savedOf road T start rows target) lanes .road ≡ cutRoad road
   saved-road k lanes = rw (k .reads)
 
+  -- it keeps the version, and in version 2 the seconds; in version 1 they are 0
+  pub saved-version : Saved → readingOf (savedOf road T start rows target) .road .version ≡ road .version
+  saved-version k = rw (k .reads)
+
+  pub saved-seconds : Saved → road .version ≡ secondVersion → readingOf (savedOf road T start rows target) .road .seconds ≡ road .seconds
+  saved-seconds k e = rw (k .reads) (kept-second (road .version) (road .seconds) e)
+
+  pub saved-untimed : Saved → (road .version ≡ secondVersion → ⊥) → readingOf (savedOf road T start rows target) .road .seconds ≡ 0
+  saved-untimed k h = rw (k .reads) (kept-none (road .version) (road .seconds) h)
+
   pub saved-start : Saved → (lanes : List ℕ) → studyOf (savedOf road T start rows target) lanes .start ≡ cutState (road .n) (startState start)
   saved-start k lanes = rw (k .reads)
 
@@ -82,7 +92,8 @@ module _ (road : Road) (T : ℕ) (start : Start) (rows target : List ℕ) where
   saved-rows k lanes t l = rw (k .reads) (k .row t l)
 
 -- a state before step 0 is that of its start
-start-state : (q : State) → q .done ≡ 0 → q .«gate_time» ≡ 0 → q .«road_time» ≡ 0 → q .«ramp_time» ≡ 0 → q .«gate_cumulative» ≡ 0 → q .cumulative ≡ zeros
+start-state : (q : State) → q .done ≡ 0 → q .«gate_time» ≡ 0 → q .«road_time» ≡ 0 → q .«ramp_time» ≡ 0
+    → q .«gate_cumulative» ≡ 0 → q .cumulative ≡ zeros
     → startState (startIn q) ≡ q
 start-state q d u v w g c =
     sym (ap (λ (x : ℕ). made x (q .«gate_time») (q .«road_time») (q .«ramp_time») (q .«gate_cumulative») (q .cumulative)) d
@@ -128,20 +139,23 @@ module _ (s : List ℕ) (small : (i : ℕ) → at s i < 256) (reads : readingOf 
       let places : (p : ℕ) → p < road .n + 1 → placeOk road (startState start) p ≡ true = rw e (place-ok road (readingOf s .state) (w .road) (w .state)) in
       let fits : (t : ℕ) → t < T → givenOk (given road T start rows) t ≡ true =
       λ t l. (rw (same t l) (row-ok road (recordRow s (road .n) t) (w .road) (w .row t l))) in
+      let size : sizeOf (road .version) (road .n) T ≡ length s = ap (λ (v : ℕ). sizeOf v (road .n) T) (n .version) ∙ sym (w .size) in
       sym (by-given road T start rows target)
       ∙ sym (answer-written (given road T start rows) (length rows) (length target)
       (record {
+        version = w .version;
         counts = record { someCells = w .road .some; cells = w .road .cells; someSteps = w .someSteps; steps = w .steps };
-        size = omega (arith, w .size, w .bytes);
+        seconds = w .seconds;
+        size = omega (arith, size, w .bytes);
         all = all;
       })
       (road .n + 1) (sym (first-none (placeOk road (startState start)) (road .n + 1) places)) refl
-      T (sym (first-none (givenOk (given road T start rows)) T fits)) refl (omega (arith, w .size)))
-      ∙ ap written (sym (w .size))
+      T (sym (first-none (givenOk (given road T start rows)) T fits)) refl (omega (arith, size)))
+      ∙ ap written size
 
   -- and the target then begins with exactly these bytes
   pub again-bytes : take (length s) (targetAfter (readingOf s .road) (readingOf s .steps) (startIn (readingOf s .state)) rows target) ≡ s
   again-bytes =
       let h : writingOf road T start rows target .number ≡ 0 = ap (λ (x : WriteAnswer). x .number) again-answer in
       let e : recordOf (given road T start rows) ≡ s = same-bytes s small reads rows same in
-      rw (target-written road T start rows target h, e) (take-at s (drop (sizeOf (road .n) T) target) (length s) refl)
+      rw (target-written road T start rows target h, e) (take-at s (drop (sizeOf (road .version) (road .n) T) target) (length s) refl)

@@ -9,42 +9,51 @@ use Rattle.rows.specs.Rows.{concatOf}
 use Rattle.rows.specs.Concat.{length-concat}
 use Rattle.rows.specs.TablesLaws.{row-ends}
 use Rattle.road.specs.Study.{Study}
-use Rattle.fields.specs.Fields.{recordVersion, countSize, headerSize, cellSize, shortSize, numberSize, rowNumbers, rowSize, bytesOf}
-use Rattle.fields.specs.BytesLaws.{Field, length-bytes, field-first, field-only, field-after, field-before, field-in}
+use Rattle.fields.specs.Fields.{countSize, headerSize, secondsSize, gateCapacityOffset, gateQueueOffset, cellSize, shortSize, numberSize, rowNumbers, rowSize, bytesOf}
+use Rattle.fields.specs.BytesLaws.{Field, length-bytes, field-first, field-only, field-after, field-before, field-in, field-there}
 use Rattle.reading.specs.Reading.{sizeOf}
 use Rattle.putting.specs.Record.{headerOf, cellOf, headerBytes, cellBytes, rowBytes, recordOf}
-use Rattle.putting.specs.Putting.{length-header, length-cell, length-row}
+use Rattle.putting.specs.Putting.{header-length, length-cell, length-row}
 
 -- the fields of a header
-pub record HeaderFields (s : List ℕ) (n T capacity queue : ℕ) : Type 0 where
-  pub count : Field s 0 countSize (sizeOf n T - countSize)
-  pub version : Field s 4 1 recordVersion
+pub record HeaderFields (s : List ℕ) (version n T seconds capacity queue : ℕ) : Type 0 where
+  pub count : Field s 0 countSize (sizeOf version n T - countSize)
+  pub versionField : Field s 4 1 version
   pub cells : Field s 5 1 n
   pub steps : Field s 6 shortSize T
-  pub gateCapacity : Field s 8 numberSize capacity
-  pub gateQueue : Field s 12 numberSize queue
+  pub secondsField : Field s 8 (secondsSize version) seconds
+  pub gateCapacity : Field s (gateCapacityOffset version) numberSize capacity
+  pub gateQueue : Field s (gateQueueOffset version) numberSize queue
 
 after : (k x : ℕ) (rest : List ℕ) {offset w y : ℕ} → Field rest offset w y → Field (bytesOf k x ++ rest) (k + offset) w y
 after k x rest {offset} {w} {y} h = field-after (bytesOf k x) rest k offset w y (length-bytes k x) h
 
-pub header-fields : (n T capacity queue : ℕ) → HeaderFields (headerOf n T capacity queue) n T capacity queue
+pub header-fields : (version n T seconds capacity queue : ℕ)
+    → HeaderFields (headerOf version n T seconds capacity queue) version n T seconds capacity queue
 unfolding headerOf
-header-fields n T capacity queue =
-    let size = sizeOf n T - countSize in
-    let e = bytesOf numberSize queue in
-    let d = bytesOf numberSize capacity ++ e in
+header-fields version n T seconds capacity queue =
+    let size = sizeOf version n T - countSize in
+    let f = bytesOf numberSize queue in
+    let e = bytesOf numberSize capacity ++ f in
+    let d = bytesOf (secondsSize version) seconds ++ e in
     let c = bytesOf shortSize T ++ d in
     let b = bytesOf 1 n ++ c in
-    let a = bytesOf 1 recordVersion ++ b in
+    let a = bytesOf 1 version ++ b in
     record {
       count = field-first countSize size a;
-      version = after countSize size a (field-first 1 recordVersion b);
-      cells = after countSize size a (after 1 recordVersion b (field-first 1 n c));
-      steps = after countSize size a (after 1 recordVersion b (after 1 n c (field-first shortSize T d)));
-      gateCapacity = after countSize size a (after 1 recordVersion b (after 1 n c (after shortSize T d (field-first numberSize capacity e))));
+      versionField = after countSize size a (field-first 1 version b);
+      cells = after countSize size a (after 1 version b (field-first 1 n c));
+      steps = after countSize size a (after 1 version b (after 1 n c (field-first shortSize T d)));
+      secondsField = after countSize size a (after 1 version b (after 1 n c (after shortSize T d (field-first (secondsSize version) seconds e))));
+      gateCapacity =
+          field-there (omega arith)
+          (after countSize size a
+          (after 1 version b (after 1 n c (after shortSize T d (after (secondsSize version) seconds e (field-first numberSize capacity f))))));
       gateQueue =
-          after countSize size a
-          (after 1 recordVersion b (after 1 n c (after shortSize T d (after numberSize capacity e (field-only numberSize queue)))));
+          field-there (omega arith)
+          (after countSize size a
+          (after 1 version b
+          (after 1 n c (after shortSize T d (after (secondsSize version) seconds e (after numberSize capacity f (field-only numberSize queue)))))));
     }
 
 -- the fields of a cell
@@ -96,29 +105,26 @@ module _ (a : Study) where
   abbrev rows : List ℕ
   rows = concatOf (rowBytes (a .road .n) (a .rows)) (a .steps)
 
-  header-length : length (headerBytes a) ≡ headerSize
-  header-length = length-header (a .road .n) (a .steps) (a .road .«gate_capacity») (a .start .«gate_queue»)
-
   cells-length : length cells ≡ a .road .n * cellSize
   cells-length = length-concat (cellBytes (a .road) (a .start)) cellSize (λ i. length-cell _ _ _ _ _ _ _ _) (a .road .n)
 
   -- a field of the header
-  pub in-header : {offset w x : ℕ} → offset + w ≤ headerSize → Field (headerBytes a) offset w x → Field (recordOf a) offset w x
+  pub in-header : {offset w x : ℕ} → offset + w ≤ headerSize (a .road .version) → Field (headerBytes a) offset w x → Field (recordOf a) offset w x
   unfolding recordOf
-  in-header {offset} {w} {x} l h = field-before (headerBytes a) (cells ++ rows) offset w x (omega (arith, header-length)) h
+  in-header {offset} {w} {x} l h = field-before (headerBytes a) (cells ++ rows) offset w x (omega (arith, header-length a)) h
 
   -- a field of the cell at i
   pub in-cell : (i : ℕ) {offset w x : ℕ} → i < a .road .n → offset + w ≤ cellSize → Field (cellBytes (a .road) (a .start) i) offset w x
-      → Field (recordOf a) (headerSize + (i * cellSize + offset)) w x
+      → Field (recordOf a) (headerSize (a .road .version) + (i * cellSize + offset)) w x
   unfolding recordOf
   in-cell i {offset} {w} {x} l k h =
-      field-after (headerBytes a) (cells ++ rows) headerSize (i * cellSize + offset) w x header-length
+      field-after (headerBytes a) (cells ++ rows) (headerSize (a .road .version)) (i * cellSize + offset) w x (header-length a)
       (field-before cells rows (i * cellSize + offset) w x (omega (arith, cells-length, row-ends i (a .road .n) cellSize l))
       (field-in (cellBytes (a .road) (a .start)) cellSize (a .road .n) i offset w x (λ j. length-cell _ _ _ _ _ _ _ _) l k h))
 
   -- number k of the row of step t
   pub in-row : (t k : ℕ) → t < a .steps → k < rowNumbers (a .road .n)
-      → Field (recordOf a) (headerSize + (a .road .n * cellSize + (t * rowSize (a .road .n) + (k * numberSize + 0)))) numberSize (at (a .rows t) k)
+      → Field (recordOf a) (headerSize (a .road .version) + (a .road .n * cellSize + (t * rowSize (a .road .n) + (k * numberSize + 0)))) numberSize (at (a .rows t) k)
   unfolding recordOf
   in-row t k l m =
       let n = a .road .n in
@@ -126,6 +132,6 @@ module _ (a : Study) where
       let here : Field (rowBytes n (a .rows) t) (k * numberSize + 0) numberSize (at (a .rows t) k) =
       field-in (λ j. bytesOf numberSize (at (a .rows t) j)) numberSize (rowNumbers n) k 0 numberSize number
       (λ j. length-bytes numberSize (at (a .rows t) j)) m (omega arith) (field-only numberSize number) in
-      field-after (headerBytes a) (cells ++ rows) headerSize (n * cellSize + (t * rowSize n + (k * numberSize + 0))) numberSize number header-length
+      field-after (headerBytes a) (cells ++ rows) (headerSize (a .road .version)) (n * cellSize + (t * rowSize n + (k * numberSize + 0))) numberSize number (header-length a)
       (field-after cells rows (n * cellSize) (t * rowSize n + (k * numberSize + 0)) numberSize number cells-length
       (field-in (rowBytes n (a .rows)) (rowSize n) (a .steps) t (k * numberSize + 0) numberSize number (length-row n (a .rows)) l (omega arith) here))

@@ -4,7 +4,7 @@ use mathlib.Core.List.{List, _++_}
 use Prim.Native.Nat.{ℕ, _+_, _*_}
 use lib.Dec.{leb, eqb}
 use lib.ListN.{length, drop}
-use Rattle.numbers.specs.First.{unless, unlessFirst}
+use Rattle.numbers.specs.First.{unless, oneOf, unlessFirst}
 use Rattle.road.specs.declared.Road.{Road}
 use Rattle.road.specs.declared.Start.{Start}
 use Rattle.road.specs.declared.Written.{Written}
@@ -13,8 +13,8 @@ use Rattle.road.specs.Refusals.{refusalNumber}
 use Rattle.road.specs.Study.{Study}
 use Rattle.fields.specs.Fields.{rowNumbers}
 use Rattle.limits.specs.Limits.{placeOk, rowOk}
-use Rattle.reading.specs.Reading.{sizeOf, cellsAndStepsOk}
-use Rattle.putting.specs.Record.{recordOf, given}
+use Rattle.reading.specs.Reading.{sizeOf, bothVersions, cellsAndStepsOk, secondsOk}
+use Rattle.putting.specs.Record.{recordSize, recordOf, given}
 
 -- what writing answers: the refusal's number, its place or step, and the count of bytes written
 pub record WriteAnswer : Type 0 where
@@ -44,16 +44,19 @@ givenOk a t = rowsOk (a .road .ramp) (a .road .n) (a .rows) t
 abbrev pub numberCount : Study → ℕ
 numberCount a = a .steps * rowNumbers (a .road .n)
 
--- 3; 1, more than 65,536 bytes; 4, row numbers not T × (1 + 2n); 5 with its place and 6 with its step, as in reading; 15, target too short
+-- 2, a version that no record has; 3; 19; 1, more than 65,536 bytes; 4, row numbers not T × (1 + 2n); 5 with its place and 6 with its step, as in reading;
+-- 15, target too short
 abbrev pub writingBy : Study → ℕ → ℕ → WriteAnswer
 writingBy a numbers room =
-    unless (cellsAndStepsOk (a .road .n) (a .steps)) (unwritten 3 0)
-    (unless (leb (sizeOf (a .road .n) (a .steps)) mostBytes) (unwritten 1 0)
+    unless (oneOf bothVersions (a .road .version)) (unwritten 2 0)
+    (unless (cellsAndStepsOk (a .road .n) (a .steps)) (unwritten 3 0)
+    (unless (secondsOk (a .road .version) (a .road .seconds)) (unwritten 19 0)
+    (unless (leb (recordSize a) mostBytes) (unwritten 1 0)
     (unless (eqb numbers (numberCount a)) (unwritten 4 0)
     (unlessFirst (placeOk (a .road) (a .start)) (a .road .n + 1) (unwritten 5)
     (unlessFirst (givenOk a) (a .steps) (unwritten 6)
-    (unless (leb (sizeOf (a .road .n) (a .steps)) room) (unwritten 15 0)
-    (written (sizeOf (a .road .n) (a .steps))))))))
+    (unless (leb (recordSize a) room) (unwritten 15 0)
+    (written (recordSize a)))))))))
 
 unfoldable pub writingOf : Road → ℕ → Start → List ℕ → List ℕ → WriteAnswer
 writingOf road T start rows target = writingBy (given road T start rows) (length rows) (length target)
@@ -62,5 +65,5 @@ writingOf road T start rows target = writingBy (given road T start rows) (length
 unfoldable pub targetAfter : Road → ℕ → Start → List ℕ → List ℕ → List ℕ
 targetAfter road T start rows target =
     cond (eqb (writingOf road T start rows target .number) 0)
-    (recordOf (given road T start rows) ++ drop (sizeOf (road .n) T) target)
+    (recordOf (given road T start rows) ++ drop (sizeOf (road .version) (road .n) T) target)
     target

@@ -12,14 +12,20 @@ ghost use Rattle.putting.specs.Putting.{Rows};
 ghost use Rattle.writing.specs.Writing.{unwritten, rowsOk, writeAnswer, writingOf, targetAfter};
 ghost use Rattle.writing.specs.Checks.{frameFault};
 
-// 3, 1 and 4: n and T, the record's size, and the count of the rows' numbers.
-fn frame_refusal(n: usize, steps: usize, numbers: usize) -> Refusal
-    ensures { λ q. ⌜ refusalNumber q ≡ frameFault n steps numbers ⌝ }
+// 2, 3, 19, 1 and 4: the version, n and T, the seconds, the record's size, and the count of the rows' numbers.
+fn frame_refusal(version: u8, seconds: u16, n: usize, steps: usize, numbers: usize) -> Refusal
+    ensures { λ q. ⌜ refusalNumber q ≡ frameFault version seconds n steps numbers ⌝ }
 {
+    if !reading::version_known(version) {
+        return Refusal::Version;
+    }
     if !reading::cells_and_steps_within(n, steps) {
         return Refusal::Counts;
     }
-    if Road::BYTES < fields::row_start(n, steps) {
+    if !reading::seconds_within(version, seconds) {
+        return Refusal::Seconds;
+    }
+    if Road::BYTES < fields::row_start(version, n, steps) {
         return Refusal::Length;
     }
     if numbers != steps * (1 + 2 * n) {
@@ -62,7 +68,8 @@ fn checked(road: Road, steps: usize, start: Start, rows: &[u32], target: &[u8]) 
     ensures { λ a. ⌜ writeAnswer a ≡ writingOf road steps start (now (rows .entry)) (now (target .entry)) ⌝ }
 {
     let n = road.n;
-    let frame = frame_refusal(n, steps, rows.len());
+    let version = road.version;
+    let frame = frame_refusal(version, road.seconds, n, steps, rows.len());
     if frame.number() != 0 {
         return refused(frame, 0);
     }
@@ -76,7 +83,7 @@ fn checked(road: Road, steps: usize, start: Start, rows: &[u32], target: &[u8]) 
     if step != steps {
         return refused(Refusal::Rates, step);
     }
-    let size = fields::row_start(n, steps);
+    let size = fields::row_start(version, n, steps);
     if target.len() < size {
         return refused(Refusal::TargetLength, 0);
     }
@@ -87,7 +94,7 @@ fn checked(road: Road, steps: usize, start: Start, rows: &[u32], target: &[u8]) 
     }
 }
 
-// Writes a record into the target, or leaves it as it is: 3, 1, 4, 5, 6, then 15.
+// Writes a record into the target, or leaves it as it is: 2, 3, 19, 1, 4, 5, 6, then 15.
 pub fn write(road: Road, steps: usize, start: Start, rows: &[u32], target: &mut [u8]) -> Written
     ensures answer { λ a. ⌜ writeAnswer a ≡ writingOf road steps start (now (rows .entry)) (now (target .entry)) ⌝ }
     ensures target { λ a. ⌜ now (target .exit) ≡ targetAfter road steps start (now (rows .entry)) (now (target .entry)) ⌝ }

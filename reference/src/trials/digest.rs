@@ -27,6 +27,8 @@ impl Digest {
 
     fn add_road(&mut self, road: &Road) {
         self.add(road.n as u32);
+        self.add(u32::from(road.version));
+        self.add(u32::from(road.seconds));
         self.add(road.gate_capacity);
         for i in 0..Road::MAX_CELLS {
             for number in [road.v[i], road.w[i], road.b[i], road.ramp[i]] {

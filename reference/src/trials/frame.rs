@@ -17,11 +17,11 @@
 //!      u32 Y, Y bytes of a table of lanes
 //!      u32 B, B bytes of a record
 //! 'S'  stepping
-//!      a road (1,032 bytes), a state (804 bytes)
+//!      a road (1,040 bytes), a state (804 bytes)
 //!      u32 K, K u32 of a row
 //!      64 bytes of lanes built, 64 bytes of lanes open
 //! 'W'  writing
-//!      a road (1,032 bytes)
+//!      a road (1,040 bytes)
 //!      u32 T, the number of steps
 //!      a start (516 bytes)
 //!      u32 K, K u32, the numbers of all rows
@@ -40,7 +40,8 @@
 //! 'C'  the capacity that open lanes leave
 //!      u32 C, at most 1,000,000, u8 lanes built, u8 lanes open
 //!
-//! road   u32 n, u32 gate capacity, 64 x (u16 v, w, b, ramp mark), 64 x (u32 J, C)
+//! road   u32 n, u32 gate capacity, 64 x (u16 v, w, b, ramp mark), 64 x (u32 J, C),
+//!        u32 version (0 to 255), u32 seconds (0 to 65,535)
 //! state  u32 steps, u64 gate time, u64 road time, u64 ramp time,
 //!        u32 gate queue, u32 gate F,
 //!        64 x (u32 held, ramp queue, F)
@@ -307,6 +308,8 @@ fn put_road(out: &mut Vec<u8>, road: &Road) {
         put(out, road.jam[i]);
         put(out, road.capacity[i]);
     }
+    put(out, u32::from(road.version));
+    put(out, u32::from(road.seconds));
 }
 
 fn put_state(out: &mut Vec<u8>, state: &State) {
@@ -496,6 +499,8 @@ impl<'a> Reader<'a> {
             road.jam[i] = self.u32(what)?;
             road.capacity[i] = self.u32(what)?;
         }
+        road.version = self.count("the version", usize::from(u8::MAX))? as u8;
+        road.seconds = self.count("the seconds", usize::from(u16::MAX))? as u16;
         Ok(road)
     }
 

@@ -290,7 +290,7 @@ pub fn random(k: usize, make_law: MakeLaw, dice: &mut Dice) -> FillInput {
         _ => 1 + dice.upto(5) as usize,
     };
     let mut draft = road_with_ramp(style, n, dice);
-    let row_bytes = record::size(n, 1) - record::size(n, 0);
+    let row_bytes = record::size(1, n, 1) - record::size(1, n, 0);
     let most = (dice.pick(&[200, 500, 900]) / row_bytes).max(2) as u32;
     let steps = dice.between(1 + most / 2, most) as usize;
     draft.rows = (0..steps)

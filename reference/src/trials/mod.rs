@@ -22,6 +22,7 @@ mod samples;
 mod steps;
 mod sweep;
 mod trial;
+mod versions;
 mod walk;
 mod writes;
 
@@ -49,6 +50,8 @@ pub fn all_cases() -> Vec<Case> {
     // Group 8: lanes closed, refusals 17 and 18.
     closed_steps::add(&mut cases);
     closures::add(&mut cases);
+    // Group 9: version 2, refusal 19.
+    versions::add(&mut cases, &trials);
     cases.list
 }
 

@@ -38,16 +38,17 @@
 //! the T that reading gives the first 1 + 2n numbers of its row; the road, T,
 //! the start and these rows are written into a target of B + 3 bytes. All this
 //! is done after every run, refused or not. Where reading refuses, road, T and
-//! start are zero and there are no rows, so that writing says 3.
+//! start are zero and there are no rows, so that writing says 2.
 //!
 //! A digest starts at 0, and each number x makes it
 //! (d * 1000003 + x + 1) modulo 4294967291. It takes
 //!
 //! - of a list, the numbers in order; of a target or a record, each byte as a
 //!   number; of 'N', all 129 numbers;
-//! - of a road and a state: n, gate capacity; for each of the 64 cells v, w, b,
-//!   ramp mark, J, C; then steps; of gate, road and ramp time each the upper 32
-//!   bits and then the lower 32 bits; gate queue, gate F; for each of the 64 cells held, ramp queue, F.
+//! - of a road and a state: n, version, seconds, gate capacity; for each of the
+//!   64 cells v, w, b, ramp mark, J, C; then steps; of gate, road and ramp time
+//!   each the upper 32 bits and then the lower 32 bits; gate queue, gate F; for
+//!   each of the 64 cells held, ramp queue, F.
 
 use super::digest;
 use super::frame::{Case, FillInput, LeafInput, StepInput, WriteInput};

@@ -95,12 +95,12 @@ fn steps_for(n: usize, dice: &mut Dice) -> usize {
 }
 
 fn row_bytes(n: usize) -> usize {
-    record::size(n, 1) - record::size(n, 0)
+    record::size(1, n, 1) - record::size(1, n, 0)
 }
 
 /// The most steps of a record of n cells.
 fn most_steps(n: usize) -> usize {
-    let left = Road::MAX_BYTES - record::size(n, 0);
+    let left = Road::MAX_BYTES - record::size(1, n, 0);
     (left / row_bytes(n)).min(Road::MAX_STEPS)
 }
 

@@ -30,7 +30,7 @@ pub fn add(cases: &mut Cases) {
 }
 
 /// A sound draft with a target of just its size.
-fn input(draft: &Draft) -> WriteInput {
+pub fn input(draft: &Draft) -> WriteInput {
     let reading = record::read(&draft.encode());
     assert_eq!(reading.number, 0);
     WriteInput {
@@ -38,13 +38,13 @@ fn input(draft: &Draft) -> WriteInput {
         steps: reading.steps,
         start: reading.state.start(),
         rows: draft.rows.concat(),
-        length: record::size(reading.road.n, reading.steps),
+        length: record::size(reading.road.version, reading.road.n, reading.steps),
     }
 }
 
 /// Three cells and three steps (172 bytes), garbage past cell 3, and a target
 /// with room to spare.
-fn sound(dice: &mut Dice) -> WriteInput {
+pub fn sound(dice: &mut Dice) -> WriteInput {
     let mut sound = input(&samples::three_cells());
     fill_past_n(&mut sound, dice);
     sound.length += 20;
@@ -251,7 +251,7 @@ fn several(cases: &mut Cases, dice: &mut Dice) {
 }
 
 /// A random road with any rows that 6 allows, and often a fault or two.
-fn random(k: usize, dice: &mut Dice) -> WriteInput {
+pub fn random(k: usize, dice: &mut Dice) -> WriteInput {
     let style = STYLES[k % STYLES.len()];
     let n = match dice.upto(7) {
         0 => 64,
@@ -261,7 +261,7 @@ fn random(k: usize, dice: &mut Dice) -> WriteInput {
     let (road, state) = trial::start(&style.road(n, dice));
     let steps = 1 + dice.upto(4) as usize;
     let rows: Vec<Vec<u32>> = (0..steps).map(|_| any_row(&road, dice)).collect();
-    let size = record::size(n, steps);
+    let size = record::size(1, n, steps);
     let mut input = WriteInput {
         road,
         steps,

@@ -100,9 +100,14 @@ fn with_commas(number: u64) -> String {
     }
 }
 
-/// Part-steps of 20 s in vehicle-hours with two decimals.
+/// Part-steps of 20 s in hundredths of vehicle-hours.
+fn hundredths_of_hours(time: u64) -> u64 {
+    (100 * time + 90_000) / 180_000
+}
+
+/// The same as a number with two decimals.
 fn hours(time: u64) -> String {
-    let hundredths = (100 * time + 90_000) / 180_000;
+    let hundredths = hundredths_of_hours(time);
     format!("{}.{:02}", with_commas(hundredths / 100), hundredths % 100)
 }
 
@@ -160,6 +165,28 @@ fn the_page_of_rocade_sud_says_who_waits_where_under_works() {
         }
         assert_eq!(row[1..], who_waits_where(&record, &lanes), "{}", row[0]);
     }
+}
+
+#[test]
+fn the_page_of_rocade_sud_explains_its_seconds() {
+    let rows = table_rows("rocade-sud.md", "version 2");
+    let record = bytes_of("rocade-sud-seconds.rec");
+    let printed = printed_run(&record);
+    let [total, seconds] = ["total ", "seconds "].map(|word| {
+        let line = printed.lines().find_map(|line| line.strip_prefix(word));
+        let number = line.unwrap().split(' ').next().unwrap();
+        number.parse::<u64>().unwrap()
+    });
+    // A vehicle-hour has 3,600 vehicle-seconds.
+    let hundredths = (100 * seconds + 1_800) / 3_600;
+    let wanted = vec![
+        "rocade-sud-seconds".to_string(),
+        with_commas(total),
+        with_commas(seconds),
+        format!("{}.{:02}", with_commas(hundredths / 100), hundredths % 100),
+    ];
+    assert_eq!(rows, [wanted]);
+    assert_eq!(hundredths_of_hours(total), hundredths);
 }
 
 #[test]

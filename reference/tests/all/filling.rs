@@ -4,6 +4,7 @@ use crate::support::*;
 use reference::answer::Answer;
 use reference::fill::{fill as fill_under, Laws};
 use reference::meter::{release, Law};
+use reference::model::Road;
 use reference::record::{read, row, size};
 use reference::run::run as run_under;
 use reference::trials::all_cases;
@@ -196,8 +197,8 @@ fn filling_refuses_in_order_and_changes_nothing() {
 }
 
 /// Whether a byte of a record belongs to a release.
-fn in_release(n: usize, at: usize) -> bool {
-    let start = size(n, 0);
+fn in_release(road: &Road, at: usize) -> bool {
+    let (n, start) = (road.n, size(road.version, road.n, 0));
     at >= start && {
         let slot = (at - start) / 4 % (1 + 2 * n);
         slot > 0 && slot.is_multiple_of(2)
@@ -221,7 +222,7 @@ fn a_filled_record_run_again_gives_the_same() {
         let rerun = run_under(&record, &input.lanes, &mut again);
         assert_eq!((rerun, again), (answer, list));
         for (at, (new, old)) in record.iter().zip(&input.record).enumerate() {
-            assert!(new == old || in_release(answer.road.n, at));
+            assert!(new == old || in_release(&answer.road, at));
         }
         // The releases that stood there before don't matter.
         let mut twice = record.clone();

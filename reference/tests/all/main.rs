@@ -17,4 +17,5 @@ mod stepping;
 mod support;
 mod text_form;
 mod trials;
+mod versions;
 mod writing;

@@ -7,7 +7,7 @@ use reference::draft::Draft;
 fn spoilt() -> Draft {
     let mut draft = example_draft();
     draft.length = Some(7);
-    draft.version = 2;
+    draft.version = 3;
     draft.n = 65;
     draft.steps = 0;
     draft.extra = 1;

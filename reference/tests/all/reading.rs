@@ -96,7 +96,7 @@ fn refusal_1_first_field() {
 
 #[test]
 fn refusal_2() {
-    for version in [0, 2, 255] {
+    for version in [0, 3, 255] {
         assert_eq!(with(|d| d.version = version), (2, 0));
     }
 }
@@ -132,7 +132,7 @@ fn n_64_and_t_1440_can_be_read() {
 
 #[test]
 fn refusal_4() {
-    assert_eq!(size(2, 3), 124);
+    assert_eq!(size(1, 2, 3), 124);
     assert_eq!(with(|d| d.cut = 1), (4, 0));
     assert_eq!(with(|d| d.extra = 1), (4, 0));
     assert_eq!(with(|d| d.rows.truncate(2)), (4, 0));

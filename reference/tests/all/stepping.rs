@@ -278,6 +278,8 @@ fn entries_past_the_last_cell_are_kept_and_not_looked_at() {
 fn all_ones_everywhere_is_7() {
     let road = Road {
         n: 64,
+        version: u8::MAX,
+        seconds: u16::MAX,
         gate_capacity: u32::MAX,
         v: [u16::MAX; 64],
         w: [u16::MAX; 64],

@@ -95,7 +95,7 @@ fn numbers_past_the_limits_are_kept() {
 const HEAD: &str = "steps 1\ngate capacity 1\ncell v 1 w 1 b 0 jam 1 capacity 1\n";
 
 /// What follows the head, and what is said of it.
-const FAULTY: [(&str, &str); 30] = [
+const FAULTY: [(&str, &str); 38] = [
     ("lane 3", "line 4: unknown statement 'lane'"),
     ("row\nsteps 1", "line 5: 'steps' stands twice"),
     ("gate capacity 1", "line 4: 'gate' stands twice"),
@@ -126,6 +126,17 @@ const FAULTY: [(&str, &str); 30] = [
     ("row\ncell v 1", "line 5: cells stand before the rows"),
     ("repeat 2 steps 3", "line 4: 'steps' can't be repeated"),
     ("damage road 3", "line 4: unknown damage 'road'"),
+    ("version 3", "line 4: version: 3 is more than 2"),
+    ("version 0", "line 4: there is no version 0, only 1 and 2"),
+    ("version 1\nversion 1", "line 5: 'version' stands twice"),
+    ("seconds 1\nseconds 1", "line 5: 'seconds' stands twice"),
+    ("seconds 65536", "line 4: seconds: 65536 is more than 65535"),
+    ("seconds 20\nrow", "line 4: only version 2 has seconds"),
+    (
+        "version 1\nseconds 20\nrow",
+        "line 5: only version 2 has seconds",
+    ),
+    ("version 2\nrow", "line 5: the text ends without 'seconds'"),
     ("damage cut 1 2", "line 4: '2' is too much on this line"),
     (
         "row\ndamage byte 52 1",

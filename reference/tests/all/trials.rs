@@ -134,7 +134,7 @@ fn road_and_state_are_fed_in_order() {
     (state.steps, state.gate_f) = (3, 77);
     (state.gate_time, state.road_time, state.ramp_time) = ((2 << 32) + 1, 6, 5 << 32);
     (state.f[0], state.held[63]) = (88, 99);
-    let mut numbers = vec![2, 2000];
+    let mut numbers = vec![2, 1, 0, 2000];
     numbers.extend([500, 250, 750, 0, 8000, 2000]);
     numbers.extend([500, 250, 0, 1, 8000, 1000]);
     numbers.extend([0; 62 * 6]);
@@ -154,37 +154,39 @@ fn small_frames_byte_by_byte() {
     let numbers = [0, 0, 0, 2, 0, 0, 0, 5, 255, 255, 255, 255];
     let rest = [0, 0, 0, 0, 0, 0, 0, 1, 0xAA];
     assert_eq!(judge, [&b"J"[..], &numbers, &rest].concat());
-    // 1, n and capacity 8, 64 * 8, 64 * 8, 36, 64 * 12, then the row and lanes.
-    assert_eq!(step.len(), 1 + 8 + 512 + 512 + 36 + 768 + 4 + 12 + 128);
+    // 1, n and capacity 8, 64 * 8, 64 * 8, version and seconds 8, 36, 64 * 12,
+    // then the row and lanes.
+    assert_eq!(step.len(), 1 + 8 + 512 + 512 + 8 + 36 + 768 + 4 + 12 + 128);
     assert_eq!(step[..9], [b'S', 0, 0, 0, 2, 0, 0, 0x07, 0xD0]);
     // v 500, w 250, b 750, no ramp; then cell 2.
     assert_eq!(step[9..19], [1, 0xF4, 0, 250, 2, 0xEE, 0, 0, 1, 0xF4]);
     // J 8000, C 2000; steps 0; times 0, gate queue 3000, gate F 0.
     assert_eq!(step[521..529], [0, 0, 0x1F, 0x40, 0, 0, 0x07, 0xD0]);
-    assert_eq!(step[1033..1061], [0; 28]);
-    assert_eq!(step[1061..1069], [0, 0, 0x0B, 0xB8, 0, 0, 0, 0]);
+    assert_eq!(step[1033..1041], [0, 0, 0, 1, 0, 0, 0, 0]);
+    assert_eq!(step[1041..1069], [0; 28]);
+    assert_eq!(step[1069..1077], [0, 0, 0x0B, 0xB8, 0, 0, 0, 0]);
     // Held 2000, queue 0, F 0; held 4000, queue 1500.
-    assert_eq!(step[1069..1077], [0, 0, 0x07, 0xD0, 0, 0, 0, 0]);
-    assert_eq!(step[1081..1089], [0, 0, 0x0F, 0xA0, 0, 0, 0x05, 0xDC]);
+    assert_eq!(step[1077..1085], [0, 0, 0x07, 0xD0, 0, 0, 0, 0]);
+    assert_eq!(step[1089..1097], [0, 0, 0x0F, 0xA0, 0, 0, 0x05, 0xDC]);
     assert_eq!(
-        step[1837..1853],
+        step[1845..1861],
         [0, 0, 0, 3, 0, 0, 0, 1, 0, 0, 0, 2, 0, 0, 0, 3]
     );
-    assert_eq!(step[1853..], [[7; 64], [3; 64]].concat());
+    assert_eq!(step[1861..], [[7; 64], [3; 64]].concat());
 }
 
 #[test]
 fn frames_of_writing_byte_by_byte() {
     let [_, _, _, _, write, row, ..] = small_cases().map(|case| encoded(&case));
     // The road as in a step; T; gate queue, held and queues; rows; length.
-    assert_eq!(write.len(), 1 + 1032 + 4 + 516 + 12 + 4);
+    assert_eq!(write.len(), 1 + 1040 + 4 + 516 + 12 + 4);
     let step = encoded(&small_cases()[3]);
-    assert_eq!((write[0], &write[1..1033]), (b'W', &step[1..1033]));
-    assert_eq!(write[1033..1041], [0, 0, 0, 3, 0, 0, 0x0B, 0xB8]);
-    assert_eq!(write[1041..1049], [0, 0, 0x07, 0xD0, 0, 0, 0, 0]);
-    assert_eq!(write[1049..1057], [0, 0, 0x0F, 0xA0, 0, 0, 0x05, 0xDC]);
+    assert_eq!((write[0], &write[1..1041]), (b'W', &step[1..1041]));
+    assert_eq!(write[1041..1049], [0, 0, 0, 3, 0, 0, 0x0B, 0xB8]);
+    assert_eq!(write[1049..1057], [0, 0, 0x07, 0xD0, 0, 0, 0, 0]);
+    assert_eq!(write[1057..1065], [0, 0, 0x0F, 0xA0, 0, 0, 0x05, 0xDC]);
     let rest = [0, 0, 0, 2, 0, 0, 0, 6, 0, 0, 0, 7, 0, 0, 0, 130];
-    assert_eq!(write[1553..], rest);
+    assert_eq!(write[1561..], rest);
     assert_eq!(row, [b'N', 0, 0, 0, 2, 0, 0, 0, 1, 0, 0, 0, 1, 0xAA]);
 }
 
@@ -271,7 +273,7 @@ fn a_record_that_reads_is_written_again_and_no_other() {
         let lent = lent_bytes(record.len() + 3);
         let (start, bytes) = match read(record).number {
             0 => (0, [record, &lent[record.len()..]].concat()),
-            _ => (3, lent),
+            _ => (2, lent),
         };
         let count = record.len() * usize::from(start == 0);
         let wanted = format!("{start} 0 {count} target {}", of_bytes(&bytes));
@@ -319,14 +321,14 @@ fn frames_beyond_their_limits_are_rejected() {
         error(&[b'U', 0, 0, 0, 9, 0, 0, 0x23, 0x29]).ends_with("the lanes: 9001 is more than 9000")
     );
     let mut step = encoded(&small_cases()[3]);
-    step[1840] = 201;
+    step[1848] = 201;
     assert!(error(&step).ends_with("the row: 201 is more than 200"));
     // 16,513 numbers of rows; a target of 65,601 bytes.
     let mut write = encoded(&small_cases()[4]);
-    write[1555..1557].copy_from_slice(&[0x40, 0x81]);
+    write[1563..1565].copy_from_slice(&[0x40, 0x81]);
     assert!(error(&write).ends_with("the rows: 16513 is more than 16512"));
     let mut write = encoded(&small_cases()[4]);
-    write[1565..].copy_from_slice(&65_601_u32.to_be_bytes());
+    write[1573..].copy_from_slice(&65_601_u32.to_be_bytes());
     assert!(error(&write).ends_with("the target's length: 65601 is more than 65600"));
 }
 
@@ -418,14 +420,18 @@ fn every_refusal_of_every_operation_occurs() {
         let lines = lines.iter().filter(|line| line.starts_with(word));
         lines.map(|line| number(line)).collect()
     };
-    assert_eq!(found("read "), (0..=6).collect());
-    let run = (0..=6).chain(9..=11).chain([17, 18]).collect();
+    assert_eq!(found("read "), (0..=6).chain([19]).collect());
+    let run = (0..=6).chain(9..=11).chain(17..=19).collect();
     assert_eq!(found("run "), run);
-    let judge = (0..=6).chain([9, 10, 12, 13, 14, 17, 18]).collect();
+    let judge = (0..=6)
+        .chain([9, 10])
+        .chain(12..=14)
+        .chain(17..=19)
+        .collect();
     assert_eq!(found("judge "), judge);
     assert_eq!(found("step "), [0, 7, 8, 9, 10, 18].into());
-    assert_eq!(found("write "), [0, 1, 3, 4, 5, 6, 15].into());
-    let fill = (0..=6).chain([11, 16, 17, 18]).collect();
+    assert_eq!(found("write "), [0, 1, 2, 3, 4, 5, 6, 15, 19].into());
+    let fill = (0..=6).chain([11]).chain(16..=19).collect();
     assert_eq!(found("fill "), fill);
 }
 
@@ -438,8 +444,8 @@ fn random_roads_have_every_n_and_the_longest_table() {
         let Case::Run { length, record, .. } = case else {
             continue;
         };
-        let (n, steps) = (record[5], [record[6], record[7]]);
         if complete {
+            let (n, steps) = (record[5], [record[6], record[7]]);
             sizes.insert(n);
             let wanted = (6, 1_257_u16.to_be_bytes(), 8_799);
             longest += usize::from((n, steps, *length) == wanted);

@@ -54,7 +54,10 @@ fn with(change: impl Fn(&mut Input)) -> (u32, usize) {
         assert_eq!(written.count, 0);
         assert_eq!(target, vec![SPARE; input.length]);
     } else {
-        assert_eq!(written.count, size(input.road.n, input.steps));
+        assert_eq!(
+            written.count,
+            size(input.road.version, input.road.n, input.steps)
+        );
     }
     (written.number, written.place)
 }

@@ -16,6 +16,12 @@ low-requires c κs = search needs
 fed-requires : tie.Need-fed-requires Inv-loop μ-loop
 fed-requires c κs = search needs
 
+fed-byte-requires : tie.Need-fed-byte-requires Inv-loop μ-loop
+fed-byte-requires c κs = search needs
+
+fed-short-requires : tie.Need-fed-short-requires Inv-loop μ-loop
+fed-short-requires c κs = search needs
+
 fed-requires-2 : tie.Need-fed-requires-2 Inv-loop μ-loop
 fed-requires-2 c κs = search needs
 
@@ -28,8 +34,8 @@ mul-fed-short c = search needs
 element-copy-out-fed-short : tie.Need-element-copy-out-fed-short Inv-loop μ-loop
 element-copy-out-fed-short c = search needs
 
-fed-short-requires : tie.Need-fed-short-requires Inv-loop μ-loop
-fed-short-requires c κs = search needs
+fed-short-requires-2 : tie.Need-fed-short-requires-2 Inv-loop μ-loop
+fed-short-requires-2 c κs = search needs
 
 mul-fed-short-2 : tie.Need-mul-fed-short-2 Inv-loop μ-loop
 mul-fed-short-2 c = search needs
@@ -37,8 +43,8 @@ mul-fed-short-2 c = search needs
 element-copy-out-fed-short-2 : tie.Need-element-copy-out-fed-short-2 Inv-loop μ-loop
 element-copy-out-fed-short-2 c = search needs
 
-fed-short-requires-2 : tie.Need-fed-short-requires-2 Inv-loop μ-loop
-fed-short-requires-2 c κs = search needs
+fed-short-requires-3 : tie.Need-fed-short-requires-3 Inv-loop μ-loop
+fed-short-requires-3 c κs = search needs
 
 mul-fed-short-3 : tie.Need-mul-fed-short-3 Inv-loop μ-loop
 mul-fed-short-3 c = search needs
@@ -46,8 +52,8 @@ mul-fed-short-3 c = search needs
 element-copy-out-fed-short-3 : tie.Need-element-copy-out-fed-short-3 Inv-loop μ-loop
 element-copy-out-fed-short-3 c = search needs
 
-fed-short-requires-3 : tie.Need-fed-short-requires-3 Inv-loop μ-loop
-fed-short-requires-3 c κs = search needs
+fed-short-requires-4 : tie.Need-fed-short-requires-4 Inv-loop μ-loop
+fed-short-requires-4 c κs = search needs
 
 mul-fed-short-4 : tie.Need-mul-fed-short-4 Inv-loop μ-loop
 mul-fed-short-4 c = search needs
@@ -55,8 +61,8 @@ mul-fed-short-4 c = search needs
 element-copy-out-fed-short-4 : tie.Need-element-copy-out-fed-short-4 Inv-loop μ-loop
 element-copy-out-fed-short-4 c = search needs
 
-fed-short-requires-4 : tie.Need-fed-short-requires-4 Inv-loop μ-loop
-fed-short-requires-4 c κs = search needs
+fed-short-requires-5 : tie.Need-fed-short-requires-5 Inv-loop μ-loop
+fed-short-requires-5 c κs = search needs
 
 mul-fed : tie.Need-mul-fed Inv-loop μ-loop
 mul-fed c = search needs
@@ -96,20 +102,22 @@ fed-road-spec =
     μ-loop
     low-requires
     fed-requires
+    fed-byte-requires
+    fed-short-requires
     fed-requires-2
     loop-holds
     mul-fed-short
     element-copy-out-fed-short
-    fed-short-requires
+    fed-short-requires-2
     mul-fed-short-2
     element-copy-out-fed-short-2
-    fed-short-requires-2
+    fed-short-requires-3
     mul-fed-short-3
     element-copy-out-fed-short-3
-    fed-short-requires-3
+    fed-short-requires-4
     mul-fed-short-4
     element-copy-out-fed-short-4
-    fed-short-requires-4
+    fed-short-requires-5
     mul-fed
     element-copy-out-fed
     fed-requires-3

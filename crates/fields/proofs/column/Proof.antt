@@ -1,16 +1,31 @@
 -- `fields::column` meets its contract. The invariant: the fields of the i cells passed are stored. Assumes nothing.
-use Prim.Native.Nat.{_-_}
-use Rattle.fields.specs.Fields.{numberSize}
+use mathlib.Core.Path.{_≡_, ap, _∙_}
+use Prim.Native.Nat.{ℕ, _+_, _*_, _-_}
+use native.Mathlib.Omega.{arith}
+use Rattle.fields.specs.Fields.{versionOf, headerSize, cellSize, numberSize, numberOf}
 use Rattle.fields.specs.FieldsLaws.{Collected, collected-none, collected-more, collected-end}
 use borrow.Author.Needs.{needs}
 use Rattle.fields.proofs.column.Statement.{statement}
 use Rattle.fields.proofs.column.Tie as tie
 
 abbrev Inv-loop : tie.InvT-loop
-Inv-loop bytes offset n r₀ i₀ r i = Collected bytes offset numberSize n r i
+Inv-loop bytes offset n header r₀ i₀ r i = Collected bytes offset numberSize n r i
 
 abbrev μ-loop : tie.MeasureT-loop
-μ-loop bytes offset n r₀ i₀ r i = n - i
+μ-loop bytes offset n header r₀ i₀ r i = n - i
+
+version-requires : tie.Need-version-requires Inv-loop μ-loop
+version-requires c κs = search needs
+
+header-size-requires : tie.Need-header-size-requires Inv-loop μ-loop
+header-size-requires c κs = search needs
+
+-- the arguments, from the header's size, and this size
+abbrev A : tie.After-header-size Inv-loop μ-loop → tie.Start Inv-loop μ-loop
+A c = c .before .before .before
+
+header : (c : tie.After-header-size Inv-loop μ-loop) → c .header-size .result ≡ headerSize (versionOf (A c .args .bytes .now))
+header c = c .header-size .ensures ∙ ap (λ (v : ℕ). headerSize v) (c .before .version .ensures)
 
 loop-holds : tie.Need-loop-holds Inv-loop μ-loop
 loop-holds c = collected-none
@@ -19,13 +34,13 @@ mul-number : tie.Need-mul-number Inv-loop μ-loop
 mul-number c = search needs
 
 add-number : tie.Need-add-number Inv-loop μ-loop
-add-number c = search needs
+add-number c = omega (arith, header (c .before .before), A (c .before .before) .pre .1 .1)
 
 add-number-2 : tie.Need-add-number-2 Inv-loop μ-loop
-add-number-2 c = search needs
+add-number-2 c = omega (arith, header (c .before .before), A (c .before .before) .pre .1 .1)
 
 number-requires : tie.Need-number-requires Inv-loop μ-loop
-number-requires c κs = search needs
+number-requires c κs = let h = c .before .before in (omega arith, omega (arith, header h, A h .pre .1 .1))
 
 mul-r : tie.Need-mul-r Inv-loop μ-loop
 mul-r c = search needs
@@ -40,7 +55,13 @@ loop-less : tie.Need-loop-less Inv-loop μ-loop
 loop-less c = search needs
 
 loop-again : tie.Need-loop-again Inv-loop μ-loop
-loop-again c = let i = c .before in collected-more (i .before .loop .inv) (i .loop-test .taken) (c .number .ensures .0)
+loop-again c =
+    let i = c .before in
+    let l = i .before in
+    let h = l .before in
+    let a = A h .args in
+    collected-more (l .loop .inv) (i .loop-test .taken)
+    (c .number .ensures .0 ∙ ap (λ (x : ℕ). numberOf (a .bytes .now) (x + cellSize * l .loop .i + a .offset) numberSize) (header h))
 
 returns : tie.Need-returns Inv-loop μ-loop
 returns c = collected-end (c .before .loop .inv) (search needs)
@@ -51,6 +72,8 @@ column-spec =
     (tie.spec
     Inv-loop
     μ-loop
+    version-requires
+    header-size-requires
     loop-holds
     mul-number
     add-number

@@ -4,7 +4,7 @@ use Prim.Native.Nat.{ℕ, _≤_, _-_, _+_, _*_}
 use lib.ListN.{replicate}
 use Rattle.rows.specs.Rows.{fillOf}
 use Rattle.rows.specs.RowsLaws.{fill-more}
-use Rattle.fields.specs.Fields.{entryOf}
+use Rattle.fields.specs.Fields.{versionOf, numberSize, rowStart, numberOf, entryOf}
 use Rattle.fields.specs.FieldsLaws.{row-taken}
 use borrow.Author.Needs.{needs}
 use native.Mathlib.Omega.{arith}
@@ -17,8 +17,29 @@ Inv-loop bytes n t start r₀ k₀ r k = (k ≤ 1 + 2 * n) × (r ≡ fillOf (ent
 abbrev μ-loop : tie.MeasureT-loop
 μ-loop bytes n t start r₀ k₀ r k = 1 + 2 * n - k
 
+version-requires : tie.Need-version-requires Inv-loop μ-loop
+version-requires c κs = search needs
+
+-- the arguments, from the version and from the row's start, and this start
+abbrev A : tie.After-version Inv-loop μ-loop → tie.Start Inv-loop μ-loop
+A c = c .before .before
+
+abbrev Args : tie.After-row-start Inv-loop μ-loop → tie.Start Inv-loop μ-loop
+Args c = A (c .before)
+
+start : (c : tie.After-row-start Inv-loop μ-loop) →
+    let a = Args c .args in
+    c .row-start .result ≡ rowStart (versionOf (a .bytes .now)) (a .n) (a .t)
+start c =
+    let a = Args c .args in
+    c .row-start .ensures ∙ ap (λ (v : ℕ). rowStart v (a .n) (a .t)) (c .before .version .ensures)
+
 row-start-requires : tie.Need-row-start-requires Inv-loop μ-loop
-row-start-requires c κs = search needs
+row-start-requires c κs =
+    let a = A c .args in
+    let e : rowStart (c .version .result) (a .n) (a .t) ≡ rowStart (versionOf (a .bytes .now)) (a .n) (a .t) =
+    ap (λ (v : ℕ). rowStart v (a .n) (a .t)) (c .version .ensures) in
+    omega (arith, e, A c .pre .row)
 
 loop-holds : tie.Need-loop-holds Inv-loop μ-loop
 unfolding fillOf
@@ -34,10 +55,10 @@ mul-number : tie.Need-mul-number Inv-loop μ-loop
 mul-number c = search needs
 
 add-number : tie.Need-add-number Inv-loop μ-loop
-add-number c = search needs
+add-number c = let s = c .before .before in omega (arith, start s, Args s .pre .row)
 
 number-requires : tie.Need-number-requires Inv-loop μ-loop
-number-requires c κs = search needs
+number-requires c κs = let s = c .before .before in (omega arith, omega (arith, start s, Args s .pre .row))
 
 mul-r : tie.Need-mul-r Inv-loop μ-loop
 mul-r c = search needs
@@ -53,15 +74,18 @@ loop-less c = search needs
 
 loop-again : tie.Need-loop-again Inv-loop μ-loop
 loop-again c =
-    let l = c .before .before .loop in
-    let a = c .before .before .before .before .before .args in
-    let s = c .before .before .before .row-start in
-    (omega arith, cc (fill-more (entryOf (a .bytes .now) (a .n) (a .t)) (l .k) (replicate 129 0), c .number .ensures .0, s .ensures, l .inv .1))
+    let l = c .before .before in
+    let s = l .before in
+    let a = Args s .args in
+    let f = entryOf (a .bytes .now) (a .n) (a .t) in
+    let e : c .number .result ≡ f (l .loop .k) =
+    c .number .ensures .0 ∙ ap (λ (x : ℕ). numberOf (a .bytes .now) (x + numberSize * l .loop .k) numberSize) (start s) in
+    (omega arith, cc (fill-more f (l .loop .k) (replicate 129 0), e, l .loop .inv .1))
 
 returns : tie.Need-returns Inv-loop μ-loop
 returns c =
     let l = c .before .loop in
-    let a = c .before .before .before .before .args in
+    let a = Args (c .before .before) .args in
     let e : l .k ≡ 1 + 2 * a .n = omega arith in
     row-taken (a .bytes .now) (a .n) (a .t) (l .r) (omega arith) (l .inv .1 ∙ ap (λ (j : ℕ). fillOf (entryOf (a .bytes .now) (a .n) (a .t)) j (replicate 129 0)) e)
 
@@ -71,6 +95,7 @@ row-spec =
     (tie.spec
     Inv-loop
     μ-loop
+    version-requires
     row-start-requires
     loop-holds
     mul-loop

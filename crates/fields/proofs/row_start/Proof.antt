@@ -1,7 +1,13 @@
 -- `fields::row_start` meets its contract. Assumes nothing.
+use mathlib.Core.Path.{ap}
+use Prim.Native.Nat.{ℕ, _+_, _*_}
+use Rattle.fields.specs.Fields.{cellSize, rowSize}
 use borrow.Author.Needs.{needs}
 use Rattle.fields.proofs.row_start.Statement.{statement}
 use Rattle.fields.proofs.row_start.Tie as tie
+
+header-size-requires : tie.Need-header-size-requires
+header-size-requires c κs = search needs
 
 mul-result : tie.Need-mul-result
 mul-result c = search needs
@@ -22,7 +28,7 @@ add-result-3 : tie.Need-add-result-3
 add-result-3 c = search needs
 
 returns : tie.Need-returns
-returns c = search needs
+returns c = let a = c .before .args in ap (λ (h : ℕ). h + cellSize * a .n + a .t * rowSize (a .n)) (c .header-size .ensures)
 
 pub row-start-spec : {M : Type 1} → statement M
-row-start-spec = tie.close (tie.spec mul-result add-result mul-result-2 add-result-2 mul-result-3 add-result-3 returns)
+row-start-spec = tie.close (tie.spec header-size-requires mul-result add-result mul-result-2 add-result-2 mul-result-3 add-result-3 returns)

@@ -4,7 +4,7 @@ use mathlib.Core.List.{List}
 use Prim.Native.Nat.{ℕ, _+_, _*_, _≤_}
 use lib.ListN.{length, take}
 use Rattle.fields.specs.FieldsLaws.{length-row}
-use Rattle.filling.specs.Turn.{Given, given-put, given-row, given-next, given-steps, given-outflows}
+use Rattle.filling.specs.Turn.{Given, given-put, given-held, given-next, given-steps, given-outflows}
 use borrow.Author.Needs.{needs}
 use native.Mathlib.Omega.{arith}
 use Rattle.filling.proofs.fill_row.Statement.{statement}
@@ -20,8 +20,11 @@ to-row c = c .before .before
 abbrev to-granted : tie.After-put-releases → tie.After-releases
 to-granted c = c .before .before .before
 
+abbrev when-put : tie.After-slice-known3 → tie.After-put-releases
+when-put c = c .before .before
+
 abbrev to-put : tie.After-row3 → tie.After-put-releases
-to-put c = c .before .before .before .before
+to-put c = when-put (c .before .before)
 
 abbrev Args : tie.After-row3 → tie.Start
 Args c = A (to-row (to-granted (to-put c)))
@@ -74,7 +77,7 @@ put-releases-requires : tie.Need-put-releases-requires
 put-releases-requires c κs = search needs
 
 row-requires-2 : tie.Need-row-requires-2
-row-requires-2 c κs = search needs
+row-requires-2 c κs = given-held (given (when-put (c .before)))
 
 array-share-prefix-filled : tie.Need-array-share-prefix-filled
 array-share-prefix-filled c = search needs

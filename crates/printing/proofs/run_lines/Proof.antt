@@ -11,7 +11,7 @@ use Rattle.reading.specs.Reading.{studyBy}
 use Rattle.running.specs.Ran.{RanTurn, ends-fault, steps-on}
 use lib.Seq.{length-take-le}
 use Rattle.listing.specs.ListingLaws.{header-room}
-use Rattle.printing.specs.Lined.{Lined, lined-none, lined-more, lines-fit, line-fits, last-fits, total-is, holds-fault, holds-run}
+use Rattle.printing.specs.Lined.{Lined, lined-none, lined-more, lines-fit, line-fits, lines-end, holds-fault, holds-run}
 use borrow.Author.Needs.{needs}
 use native.Mathlib.Omega.{arith}
 use Rattle.printing.proofs.run_lines.Statement.{statement}
@@ -23,15 +23,16 @@ Inv-loop bytes r steps buffer₀ n numbers places u₀ end₀ k₀ buffer u end 
 abbrev μ-loop : tie.MeasureT-loop
 μ-loop bytes r steps buffer₀ n numbers places u₀ end₀ k₀ buffer u end k = steps - k
 
--- places of the code: the header from the loop's place, the arguments from the header, the loop's place from the exits, the row of a turn from the fault, the fault from the move
+-- places of the code: the header from the loop's place, the arguments from the header, the loop's place from the last lines' call,
+-- the row of a turn from the fault, the fault from the move
 abbrev to-header : tie.At-loop Inv-loop μ-loop → tie.After-header Inv-loop μ-loop
 to-header c = c .before .before .before
 
 abbrev A : tie.After-header Inv-loop μ-loop → tie.Start Inv-loop μ-loop
 A c = c .before .before .before .before
 
-abbrev to-loop : tie.After-exits Inv-loop μ-loop → tie.At-loop Inv-loop μ-loop
-to-loop c = c .before .before .before
+abbrev to-loop : tie.After-last-lines-arg Inv-loop μ-loop → tie.At-loop Inv-loop μ-loop
+to-loop c = c .before .before
 
 abbrev to-row : tie.After-number Inv-loop μ-loop → tie.After-row Inv-loop μ-loop
 to-row c = c .before .before .before
@@ -149,14 +150,11 @@ loop-again c =
     let f = to-fault (m .before .before .before) in
     lined-more (to-row f .before .before .loop .inv) (turn (to-row f)) (f .before .releases .ensures) (search needs) (m .step-lines .ensures .0) refl (m .step-lines .ensures .1)
 
-total-requires : tie.Need-total-requires Inv-loop μ-loop
-total-requires c κs = search needs
-
-exits-requires : tie.Need-exits-requires Inv-loop μ-loop
-exits-requires c κs = search needs
-
-total-requires-2 : tie.Need-total-requires-2 Inv-loop μ-loop
-total-requires-2 c κs = let l = to-loop (c .before) in last-fits (l .loop .inv) (A (to-header l) .pre .readable .outflows) (search needs)
+last-lines-requires : tie.Need-last-lines-requires Inv-loop μ-loop
+last-lines-requires c κs =
+    let l = to-loop c in
+    let h = A (to-header l) .pre .readable in
+    lines-end (l .loop .inv) (h .ok) (h .outflows) (h .seconds) (search needs)
 
 same-length-2 : tie.Need-same-length-2 Inv-loop μ-loop
 same-length-2 c = search needs
@@ -164,11 +162,8 @@ same-length-2 c = search needs
 returns-2 : tie.Need-returns-2 Inv-loop μ-loop
 returns-2 c =
     let x = c .before .before in
-    let e = x .before .before in
-    let l = to-loop e in
-    let a = A (to-header l) in
-    holds-run (to-header l .header .ensures) (l .loop .inv) (search needs) (a .pre .readable .outflows)
-    (total-is (l .loop .inv) (a .pre .readable .ok) (e .before .total .ensures)) (e .exits .ensures) (x .total2 .ensures)
+    let l = to-loop (x .before) in
+    holds-run (to-header l .header .ensures) (l .loop .inv) (search needs) (A (to-header l) .pre .readable .outflows) (x .last-lines .ensures)
 
 pub run-lines-spec : {M : Type 1} → statement M
 run-lines-spec =
@@ -197,8 +192,6 @@ run-lines-spec =
     add-k
     loop-less
     loop-again
-    total-requires
-    exits-requires
-    total-requires-2
+    last-lines-requires
     same-length-2
     returns-2)

@@ -1,4 +1,4 @@
--- `putting::put_header` meets its contract: its six numbers, one after the other. Assumes nothing.
+-- `putting::put_header` meets its contract: its numbers, one after the other. Assumes nothing.
 use Rattle.reading.specs.ReadingLaws.{size-small}
 use Rattle.putting.specs.Putting.{header-puts}
 use native.Mathlib.Omega.{arith}
@@ -7,13 +7,16 @@ use Rattle.putting.proofs.put_header.Statement.{statement}
 use Rattle.putting.proofs.put_header.Tie as tie
 
 -- where each number has been put, from where the next has
-abbrev Queue : tie.After-slice-known7 → tie.After-put-number3
+abbrev Queue : tie.After-slice-known8 → tie.After-put-number3
 Queue c = c .before .before
 
 abbrev Capacity : tie.After-put-number3 → tie.After-put-number2
 Capacity c = c .before .before .before .before
 
-abbrev Steps : tie.After-put-number2 → tie.After-put-short
+abbrev Seconds : tie.After-put-number2 → tie.After-put-seconds
+Seconds c = c .before .before .before .before
+
+abbrev Steps : tie.After-put-seconds → tie.After-put-short
 Steps c = c .before .before .before .before
 
 abbrev Cells : tie.After-put-short → tie.After-put-byte2
@@ -26,7 +29,7 @@ abbrev Count : tie.After-put-byte → tie.After-put-number
 Count c = c .before .before .before .before
 
 row-start-requires : tie.Need-row-start-requires
-row-start-requires c κs = omega (arith, c .before .pre .0 .cells, size-small (c .before .pre .0))
+row-start-requires c κs = omega (arith, size-small (c .before .args .version) (c .before .pre .0))
 
 sub-put-number : tie.Need-sub-put-number
 sub-put-number c = search needs
@@ -34,20 +37,17 @@ sub-put-number c = search needs
 cast-put-number : tie.Need-cast-put-number
 cast-put-number c =
     let r = c .before in
-    let n = r .before .before .pre .0 in
-    omega (arith, r .row-start .ensures, n .cells, size-small n)
+    let a = r .before .before in
+    omega (arith, r .row-start .ensures, size-small (a .args .version) (a .pre .0))
 
 put-number-requires : tie.Need-put-number-requires
 put-number-requires c κs = search needs
 
-cast-put-byte : tie.Need-cast-put-byte
-cast-put-byte c = search needs
-
 put-byte-requires : tie.Need-put-byte-requires
 put-byte-requires c κs = search needs
 
-cast-put-byte-2 : tie.Need-cast-put-byte-2
-cast-put-byte-2 c = search needs
+cast-put-byte : tie.Need-cast-put-byte
+cast-put-byte c = search needs
 
 put-byte-requires-2 : tie.Need-put-byte-requires-2
 put-byte-requires-2 c κs = search needs
@@ -57,6 +57,9 @@ cast-put-short c = search needs
 
 put-short-requires : tie.Need-put-short-requires
 put-short-requires c κs = search needs
+
+put-seconds-requires : tie.Need-put-seconds-requires
+put-seconds-requires c κs = search needs
 
 put-number-requires-2 : tie.Need-put-number-requires-2
 put-number-requires-2 c κs = search needs
@@ -69,15 +72,16 @@ same-length c = search needs
 
 returns : tie.Need-returns
 returns c =
-    let h6 = Queue c in
-    let h5 = Capacity h6 in
+    let h7 = Queue c in
+    let h6 = Capacity h7 in
+    let h5 = Seconds h6 in
     let h4 = Steps h5 in
     let h3 = Cells h4 in
     let h2 = Version h3 in
     let h1 = Count h2 in
     let size = h1 .before .before .row-start .ensures in
     header-puts size (h1 .put-number .ensures) (h2 .put-byte .ensures) (h3 .put-byte2 .ensures)
-    (h4 .put-short .ensures) (h5 .put-number2 .ensures) (h6 .put-number3 .ensures)
+    (h4 .put-short .ensures) (h5 .put-seconds .ensures) (h6 .put-number2 .ensures) (h7 .put-number3 .ensures)
 
 pub put-header-spec : {M : Type 1} → statement M
 put-header-spec =
@@ -87,12 +91,12 @@ put-header-spec =
     sub-put-number
     cast-put-number
     put-number-requires
-    cast-put-byte
     put-byte-requires
-    cast-put-byte-2
+    cast-put-byte
     put-byte-requires-2
     cast-put-short
     put-short-requires
+    put-seconds-requires
     put-number-requires-2
     put-number-requires-3
     same-length

@@ -1,50 +1,89 @@
 -- `reading::read` meets its contract. Each return, by the tests on the way to it. Assumes nothing.
 use borrow.Author.Tests.{not-true, not-false}
-use mathlib.Core.Path.{_≡_, sym, _∙_}
+use mathlib.Core.Path.{_≡_, sym, ap, _∙_}
 use mathlib.Core.Bool.{true}
-use Prim.Native.Nat.{_≤_}
+use mathlib.Core.List.{List}
+use Prim.Native.Nat.{ℕ, _≤_}
 use lib.ListN.{length}
-use Rattle.fields.specs.Fields.{headerSize}
-use Rattle.reading.specs.Reading.{versionOf, lengthOk, cellsAndStepsOk}
-use Rattle.reading.specs.ReadingLaws.{Opened, length-facts, counts-facts, size-small, header-passed, answer-length, answer-version, answer-counts, answer-size}
+use Rattle.numbers.specs.First.{oneOf}
+use Rattle.fields.specs.Fields.{versionOf, secondsOf, headerSize}
+use Rattle.reading.specs.Reading.{bothVersions, lengthOk, cellsAndStepsOk, secondsOk, sizeOf}
+use Rattle.reading.specs.ReadingLaws.{Opened, length-facts, counts-facts, size-small, header-passed}
+use Rattle.reading.specs.ReadingLaws.{answer-length, answer-version, answer-counts, answer-seconds, answer-size}
 use native.Mathlib.Omega.{arith}
 use borrow.Author.Needs.{needs}
 use Rattle.reading.proofs.read.Statement.{statement}
 use Rattle.reading.proofs.read.Tie as tie
 
--- the arguments, from the length's test; the places past the tests of the length and the version; and T, from the place past the counts' test
+-- the arguments, from the length's test; the places past the tests of the length, the version, the counts and the seconds, each from a later one
 abbrev A : tie.After-length-within → tie.Start
 A c = c .before .before
 
-abbrev Length : tie.Else2 → tie.Else1
-Length c = c .before .before
+abbrev Length : tie.After-version → tie.Else1
+Length c = c .before
 
-abbrev Version : tie.After-number3 → tie.Else2
-Version c = c .before .before
+abbrev Version : tie.After-version-known → tie.After-version
+Version c = c .before
 
-abbrev T : tie.Else3 → tie.After-number3
+abbrev Known : tie.After-number2 → tie.Else2
+Known c = c .before .before
+
+abbrev T : tie.Else3 → tie.After-number2
 T c = c .before .before
 
+abbrev Counts : tie.After-seconds-within → tie.Else3
+Counts c = c .before .before
+
+abbrev Seconds : tie.After-row-start → tie.Else4
+Seconds c = c .before
+
+-- the record, from the version, and from the counts' test
+abbrev Of : tie.After-version → List ℕ
+Of c = A (Length c .before) .args .bytes .now
+
+abbrev In : tie.Else3 → List ℕ
+In c = Of (Version (Known (T c) .before))
+
 -- what is known past each test
-lengthy : (c : tie.Else1) → lengthOk (A (c .before) .args .bytes .now) ≡ true
+lengthy : (c : tie.Else1) → lengthOk bothVersions (A (c .before) .args .bytes .now) ≡ true
 lengthy c = sym (c .before .length-within .ensures) ∙ not-false _ (c .if1 .left)
 
-long : (c : tie.Else1) → headerSize ≤ length (A (c .before) .args .bytes .now)
+long : (c : tie.Else1) → let s = A (c .before) .args .bytes .now in headerSize (versionOf s) ≤ length s
 long c = length-facts (A (c .before) .args .bytes .now) (lengthy c) .0
 
-opened : (c : tie.After-number3) → Opened (A (Length (Version c) .before) .args .bytes .now) (c .before .number2 .result) (c .number3 .result)
+known : (c : tie.After-version-known) → c .version-known .result ≡ oneOf bothVersions (versionOf (Of (Version c)))
+known c = c .version-known .ensures ∙ ap (oneOf bothVersions) (Version c .version .ensures)
+
+opened : (c : tie.After-number2) → Opened (Of (Version (Known c .before))) (c .before .number .result) (c .number2 .result)
 opened c =
-    let v = Version c in
-    let e : v .before .number .result ≡ versionOf (A (Length v .before) .args .bytes .now) = v .before .number .ensures .0 in
+    let k = Known c in
     record {
-      lengths = lengthy (Length v);
-      version = omega (arith, e, v .if2 .left);
-      cells = c .before .number2 .ensures .0;
-      steps = c .number3 .ensures .0;
+      lengths = lengthy (Length (Version (k .before)));
+      version = sym (known (k .before)) ∙ not-false _ (k .if2 .left);
+      cells = c .before .number .ensures .0;
+      steps = c .number2 .ensures .0;
     }
 
-counted : (c : tie.Else3) → cellsAndStepsOk (T c .before .number2 .result) (T c .number3 .result) ≡ true
+counted : (c : tie.Else3) → cellsAndStepsOk (T c .before .number .result) (T c .number2 .result) ≡ true
 counted c = sym (c .before .cells-and-steps-within .ensures) ∙ not-false _ (c .if3 .left)
+
+tested : (c : tie.After-seconds-within) → c .seconds-within .result ≡ secondsOk (versionOf (In (Counts c))) (secondsOf (In (Counts c)))
+tested c =
+    let v = Version (Known (T (Counts c)) .before) in
+    let q = c .before .seconds in
+    c .seconds-within .ensures ∙ ap (λ (x : ℕ). secondsOk (v .version .result) x) (q .ensures)
+    ∙ ap (λ (x : ℕ). secondsOk x (secondsOf (Of v))) (v .version .ensures)
+
+timed : (c : tie.Else4) → let s = In (Counts (c .before)) in secondsOk (versionOf s) (secondsOf s) ≡ true
+timed c = sym (tested (c .before)) ∙ not-false _ (c .if4 .left)
+
+size : (c : tie.After-row-start) →
+    let d = Counts (Seconds c .before) in
+    c .row-start .result ≡ sizeOf (versionOf (In d)) (T d .before .number .result) (T d .number2 .result)
+size c =
+    let d = Counts (Seconds c .before) in
+    let v = Version (Known (T d) .before) in
+    c .row-start .ensures ∙ ap (λ (x : ℕ). sizeOf x (T d .before .number .result) (T d .number2 .result)) (v .version .ensures)
 
 length-within-requires : tie.Need-length-within-requires
 length-within-requires c κs = search needs
@@ -58,8 +97,11 @@ returns c =
     let w = t .before in
     answer-length (A w .args .bytes .now) (sym (w .length-within .ensures) ∙ not-true _ (t .if1 .taken)) (c .refused .ensures)
 
-number-requires : tie.Need-number-requires
-number-requires c κs = let l = long c in search needs
+version-requires : tie.Need-version-requires
+version-requires c κs = let l = long c in search needs
+
+version-known-requires : tie.Need-version-known-requires
+version-known-requires c κs = search needs
 
 refused-requires-2 : tie.Need-refused-requires-2
 refused-requires-2 c κs = search needs
@@ -67,17 +109,17 @@ refused-requires-2 c κs = search needs
 returns-2 : tie.Need-returns-2
 returns-2 c =
     let t = c .before in
-    let v = t .before in
-    answer-version _ (lengthy (v .before)) (v .number .ensures .0) (λ z. omega (arith, z, t .if2 .taken)) (c .refused2 .ensures)
+    let k = t .before in
+    answer-version _ (lengthy (Length (Version k))) (sym (known k) ∙ not-true _ (t .if2 .taken)) (c .refused2 .ensures)
 
-number-requires-2 : tie.Need-number-requires-2
-number-requires-2 c κs = let l = long (Length c) in search needs
+number-requires : tie.Need-number-requires
+number-requires c κs = let l = long (Length (Version (c .before))) in search needs
 
 cast-n : tie.Need-cast-n
 cast-n c = search needs
 
-number-requires-3 : tie.Need-number-requires-3
-number-requires-3 c κs = let l = long (Length (c .before)) in search needs
+number-requires-2 : tie.Need-number-requires-2
+number-requires-2 c κs = let l = long (Length (Version (c .before .before))) in search needs
 
 cast-steps : tie.Need-cast-steps
 cast-steps c = search needs
@@ -94,8 +136,11 @@ returns-3 c =
     let w = t .before in
     answer-counts (opened (w .before)) (sym (w .cells-and-steps-within .ensures) ∙ not-true _ (t .if3 .taken)) (c .refused3 .ensures)
 
-row-start-requires : tie.Need-row-start-requires
-row-start-requires c κs = let k = counts-facts (T c .before .number2 .result) (T c .number3 .result) (counted c) in omega (arith, size-small k)
+seconds-requires : tie.Need-seconds-requires
+seconds-requires c κs = long (Length (Version (Known (T c) .before)))
+
+seconds-within-requires : tie.Need-seconds-within-requires
+seconds-within-requires c κs = search needs
 
 refused-requires-4 : tie.Need-refused-requires-4
 refused-requires-4 c κs = search needs
@@ -103,16 +148,33 @@ refused-requires-4 c κs = search needs
 returns-4 : tie.Need-returns-4
 returns-4 c =
     let t = c .before in
+    let w = t .before in
+    answer-seconds (opened (T (Counts w))) (counted (Counts w)) (sym (tested w) ∙ not-true _ (t .if4 .taken)) (c .refused4 .ensures)
+
+row-start-requires : tie.Need-row-start-requires
+row-start-requires c κs =
+    let d = Counts (c .before) in
+    let k = counts-facts (T d .before .number .result) (T d .number2 .result) (counted d) in
+    omega (arith, size-small (Version (Known (T d) .before) .version .result) k)
+
+refused-requires-5 : tie.Need-refused-requires-5
+refused-requires-5 c κs = search needs
+
+returns-5 : tie.Need-returns-5
+returns-5 c =
+    let t = c .before in
     let z = t .before in
-    answer-size (opened (T (z .before))) (counted (z .before)) (z .row-start .ensures) (t .if4 .taken) (c .refused4 .ensures)
+    let d = Counts (Seconds z .before) in
+    answer-size (opened (T d)) (counted d) (timed (Seconds z)) (size z) (t .if5 .taken) (c .refused5 .ensures)
 
 body-requires : tie.Need-body-requires
 body-requires c κs =
     let z = c .before in
-    header-passed (opened (T (z .before))) (counted (z .before)) (z .row-start .ensures) (c .if4 .left)
+    let d = Counts (Seconds z .before) in
+    header-passed (opened (T d)) (counted d) (timed (Seconds z)) (size z) (c .if5 .left)
 
-returns-5 : tie.Need-returns-5
-returns-5 c = search needs
+returns-6 : tie.Need-returns-6
+returns-6 c = search needs
 
 pub read-spec : {M : Type 1} → statement M
 read-spec =
@@ -121,18 +183,23 @@ read-spec =
     length-within-requires
     refused-requires
     returns
-    number-requires
+    version-requires
+    version-known-requires
     refused-requires-2
     returns-2
-    number-requires-2
+    number-requires
     cast-n
-    number-requires-3
+    number-requires-2
     cast-steps
     cells-and-steps-within-requires
     refused-requires-3
     returns-3
-    row-start-requires
+    seconds-requires
+    seconds-within-requires
     refused-requires-4
     returns-4
+    row-start-requires
+    refused-requires-5
+    returns-5
     body-requires
-    returns-5)
+    returns-6)

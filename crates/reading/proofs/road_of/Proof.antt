@@ -1,11 +1,47 @@
 -- `reading::road_of` meets its contract. Assumes nothing.
-use mathlib.Core.Path.{refl}
+use mathlib.Core.Path.{_≡_, refl, ap, _∙_}
+use Prim.Native.Nat.{ℕ, _+_}
+use native.Mathlib.Omega.{arith}
+use Rattle.fields.specs.Fields.{versionOf, secondsSize, gateCapacityOffset, shortSize, numberSize, numberOf, columnOf}
+use Rattle.fields.specs.Fields.{speedOffset, waveOffset, shareOffset, rampOffset, jamOffset, capacityOffset}
+use Rattle.fields.specs.FieldsLaws.{seconds-most}
+use Rattle.reading.specs.Reading.{cellsOf}
 use borrow.Author.Needs.{needs}
 use Rattle.reading.proofs.road_of.Statement.{statement}
 use Rattle.reading.proofs.road_of.Tie as tie
 
+-- the arguments, from the count of the seconds' bytes, and this count; the gate's capacity, which stands so much later
+abbrev A : tie.After-seconds-size → tie.Start
+A c = c .before .before .before
+
+size : (c : tie.After-seconds-size) → c .seconds-size .result ≡ secondsSize (versionOf (A c .args .bytes .now))
+size c = c .seconds-size .ensures ∙ ap secondsSize (c .before .version .ensures)
+
+capacity : (c : tie.After-number) →
+    let s = A (c .before .before) .args .bytes .now in
+    c .number .result ≡ numberOf s (gateCapacityOffset (versionOf s)) numberSize
+capacity c =
+    let h = c .before .before in
+    c .number .ensures .0 ∙ ap (λ (x : ℕ). numberOf (A h .args .bytes .now) (8 + x) numberSize) (size h)
+
+-- a column, of the cells that the record has
+of : (c : tie.Start) (offset w : ℕ) → columnOf (c .args .bytes .now) offset w (c .args .n) ≡ columnOf (c .args .bytes .now) offset w (cellsOf (c .args .bytes .now))
+of c offset w = ap (columnOf (c .args .bytes .now) offset w) (c .pre .count)
+
+version-requires : tie.Need-version-requires
+version-requires c κs = search needs
+
+seconds-size-requires : tie.Need-seconds-size-requires
+seconds-size-requires c κs = search needs
+
+add-gate : tie.Need-add-gate
+add-gate c = omega (arith, size c, seconds-most (versionOf (A c .args .bytes .now)))
+
+seconds-requires : tie.Need-seconds-requires
+seconds-requires c κs = search needs
+
 number-requires : tie.Need-number-requires
-number-requires c κs = search needs
+number-requires c κs = let h = c .before in (omega arith, omega (arith, size h, A h .pre .held))
 
 short-column-requires : tie.Need-short-column-requires
 short-column-requires c κs = search needs
@@ -33,23 +69,30 @@ returns c =
     let wave = share .before in
     let speed = wave .before in
     let gate = speed .before in
-    let bytes = gate .before in
-    let entry = bytes .before in
+    let seconds = gate .before in
+    let shift = seconds .before in
+    let a = A shift in
     simp (
-      gate .number .ensures .0,
-      speed .short-column .ensures,
-      wave .short-column2 .ensures,
-      share .short-column3 .ensures,
-      ramp .short-column4 .ensures,
-      jam .column .ensures,
-      c .column2 .ensures,
-      entry .pre .count,
+      a .pre .count,
+      shift .before .version .ensures,
+      seconds .seconds .ensures,
+      capacity gate,
+      speed .short-column .ensures ∙ of a speedOffset shortSize,
+      wave .short-column2 .ensures ∙ of a waveOffset shortSize,
+      share .short-column3 .ensures ∙ of a shareOffset shortSize,
+      ramp .short-column4 .ensures ∙ of a rampOffset shortSize,
+      jam .column .ensures ∙ of a jamOffset numberSize,
+      c .column2 .ensures ∙ of a capacityOffset numberSize,
     ) refl
 
 pub road-of-spec : {M : Type 1} → statement M
 road-of-spec =
     tie.close
     (tie.spec
+    version-requires
+    seconds-size-requires
+    add-gate
+    seconds-requires
     number-requires
     short-column-requires
     short-column-requires-2

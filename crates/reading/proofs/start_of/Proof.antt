@@ -1,11 +1,38 @@
 -- `reading::start_of` meets its contract. Assumes nothing.
-use mathlib.Core.Path.{refl}
+use mathlib.Core.Path.{_≡_, refl, ap, _∙_}
+use Prim.Native.Nat.{ℕ, _+_}
+use native.Mathlib.Omega.{arith}
+use Rattle.fields.specs.Fields.{versionOf, secondsSize, gateQueueOffset, numberSize, numberOf}
+use Rattle.fields.specs.FieldsLaws.{seconds-most}
 use borrow.Author.Needs.{needs}
 use Rattle.reading.proofs.start_of.Statement.{statement}
 use Rattle.reading.proofs.start_of.Tie as tie
 
+-- the arguments, from the count of the seconds' bytes, and this count; the gate's queue, which stands so much later
+abbrev A : tie.After-seconds-size → tie.Start
+A c = c .before .before .before
+
+size : (c : tie.After-seconds-size) → c .seconds-size .result ≡ secondsSize (versionOf (A c .args .bytes .now))
+size c = c .seconds-size .ensures ∙ ap secondsSize (c .before .version .ensures)
+
+queue : (c : tie.After-number) →
+    let s = A (c .before) .args .bytes .now in
+    c .number .result ≡ numberOf s (gateQueueOffset (versionOf s)) numberSize
+queue c =
+    let h = c .before in
+    c .number .ensures .0 ∙ ap (λ (x : ℕ). numberOf (A h .args .bytes .now) (12 + x) numberSize) (size h)
+
+version-requires : tie.Need-version-requires
+version-requires c κs = search needs
+
+seconds-size-requires : tie.Need-seconds-size-requires
+seconds-size-requires c κs = search needs
+
+add-gate : tie.Need-add-gate
+add-gate c = omega (arith, size c, seconds-most (versionOf (A c .args .bytes .now)))
+
 number-requires : tie.Need-number-requires
-number-requires c κs = search needs
+number-requires c κs = (omega arith, omega (arith, size c, A c .pre .held))
 
 column-requires : tie.Need-column-requires
 column-requires c κs = search needs
@@ -17,9 +44,17 @@ returns : tie.Need-returns
 returns c =
     let held = c .before in
     let gate = held .before in
-    let bytes = gate .before in
-    let entry = bytes .before in
-    simp (gate .number .ensures .0, held .column .ensures, c .column2 .ensures, entry .pre .count) refl
+    let shift = gate .before in
+    simp (queue gate, held .column .ensures, c .column2 .ensures, A shift .pre .count) refl
 
 pub start-of-spec : {M : Type 1} → statement M
-start-of-spec = tie.close (tie.spec number-requires column-requires column-requires-2 returns)
+start-of-spec =
+    tie.close
+    (tie.spec
+    version-requires
+    seconds-size-requires
+    add-gate
+    number-requires
+    column-requires
+    column-requires-2
+    returns)

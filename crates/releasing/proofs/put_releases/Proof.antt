@@ -1,7 +1,7 @@
 -- `releasing::put_releases` meets its contract. The invariant: the releases of the first i cells are put. Assumes nothing.
-use mathlib.Core.Path.{_≡_}
-use Prim.Native.Nat.{_-_}
-use Rattle.fields.specs.Fields.{rowStart}
+use mathlib.Core.Path.{_≡_, ap, _∙_}
+use Prim.Native.Nat.{ℕ, _-_}
+use Rattle.fields.specs.Fields.{versionOf, rowStart}
 use Rattle.releasing.specs.Putting.{Put, put-none, room, put-more, put-end}
 use native.Mathlib.Omega.{arith}
 use borrow.Author.Needs.{needs}
@@ -9,14 +9,17 @@ use Rattle.releasing.proofs.put_releases.Statement.{statement}
 use Rattle.releasing.proofs.put_releases.Tie as tie
 
 abbrev Inv-loop : tie.InvT-loop
-Inv-loop bytes₀ n t releases start i₀ bytes i = (start ≡ rowStart n t) × Put bytes₀ n t releases bytes i
+Inv-loop bytes₀ n t releases start i₀ bytes i = (start ≡ rowStart (versionOf bytes₀) n t) × Put bytes₀ n t releases bytes i
 
 abbrev μ-loop : tie.MeasureT-loop
 μ-loop bytes₀ n t releases start i₀ bytes i = n - i
 
--- the arguments, from the loop's place; the turn, from the places before and after its call
-abbrev A : tie.At-loop Inv-loop μ-loop → tie.Start Inv-loop μ-loop
+-- the arguments, from the version; the turn, from the places before and after its call
+abbrev A : tie.After-version Inv-loop μ-loop → tie.Start Inv-loop μ-loop
 A c = c .before .before .before
+
+abbrev Args : tie.At-loop Inv-loop μ-loop → tie.Start Inv-loop μ-loop
+Args c = A (c .before .before)
 
 abbrev In : tie.After-put-number-arg2 Inv-loop μ-loop → tie.In-loop Inv-loop μ-loop
 In c = c .before .before
@@ -24,11 +27,20 @@ In c = c .before .before
 abbrev Put-in : tie.After-slice-known2 Inv-loop μ-loop → tie.In-loop Inv-loop μ-loop
 Put-in c = In (c .before .before .before)
 
+-- the row's start, by the version that the bytes name
+starts : (c : tie.After-version Inv-loop μ-loop) →
+    let a = A c .args in
+    rowStart (c .version .result) (a .n) (a .t) ≡ rowStart (versionOf (a .bytes .now)) (a .n) (a .t)
+starts c = let a = A c .args in ap (λ (v : ℕ). rowStart v (a .n) (a .t)) (c .version .ensures)
+
+version-requires : tie.Need-version-requires Inv-loop μ-loop
+version-requires c κs = search needs
+
 row-start-requires : tie.Need-row-start-requires Inv-loop μ-loop
-row-start-requires c κs = search needs
+row-start-requires c κs = omega (arith, starts c, A c .pre .row)
 
 loop-holds : tie.Need-loop-holds Inv-loop μ-loop
-loop-holds c = (c .row-start .ensures, put-none _ _ _ _)
+loop-holds c = (c .row-start .ensures ∙ starts (c .before), put-none _ _ _ _)
 
 mul-put-number : tie.Need-mul-put-number Inv-loop μ-loop
 mul-put-number c = search needs
@@ -40,7 +52,9 @@ mul-put-number-2 : tie.Need-mul-put-number-2 Inv-loop μ-loop
 mul-put-number-2 c = search needs
 
 add-put-number-2 : tie.Need-add-put-number-2 Inv-loop μ-loop
-add-put-number-2 c = search needs
+add-put-number-2 c =
+    let l = c .before .before in
+    omega (arith, Args l .pre .row, l .loop .inv .0, l .loop .inv .1 .within)
 
 mul-put-number-3 : tie.Need-mul-put-number-3 Inv-loop μ-loop
 mul-put-number-3 c = search needs
@@ -49,7 +63,7 @@ element-copy-out-put-number : tie.Need-element-copy-out-put-number Inv-loop μ-l
 element-copy-out-put-number c = search needs
 
 put-number-requires : tie.Need-put-number-requires Inv-loop μ-loop
-put-number-requires c κs = let l = In c in room (l .before .loop .inv .1) (A (l .before) .pre) (l .before .loop .inv .0) (l .loop-test .taken)
+put-number-requires c κs = let l = In c in room (l .before .loop .inv .1) (Args (l .before) .pre) (l .before .loop .inv .0) (l .loop-test .taken)
 
 add-i : tie.Need-add-i Inv-loop μ-loop
 add-i c = search needs
@@ -60,7 +74,7 @@ loop-less c = search needs
 loop-again : tie.Need-loop-again Inv-loop μ-loop
 loop-again c =
     let l = Put-in c in
-    (l .before .loop .inv .0, put-more (l .before .loop .inv .1) (l .loop-test .taken) (l .before .loop .inv .0) (c .before .before .put-number .ensures))
+    (l .before .loop .inv .0, put-more (l .before .loop .inv .1) (Args (l .before) .pre) (l .loop-test .taken) (l .before .loop .inv .0) (c .before .before .put-number .ensures))
 
 same-length : tie.Need-same-length Inv-loop μ-loop
 same-length c = c .before .loop .inv .1 .length
@@ -74,6 +88,7 @@ put-releases-spec =
     (tie.spec
     Inv-loop
     μ-loop
+    version-requires
     row-start-requires
     loop-holds
     mul-put-number

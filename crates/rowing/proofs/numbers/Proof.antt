@@ -1,11 +1,11 @@
 -- `rowing::numbers` meets its contract. The invariant: the k numbers passed are stored. Assumes nothing.
-use mathlib.Core.Path.{ap, _∙_}
+use mathlib.Core.Path.{_≡_, ap, _∙_}
 use Prim.Native.Nat.{ℕ, _+_, _*_, _-_, _≤_}
 use native.Mathlib.Omega.{arith}
-use Rattle.road.specs.Road.{mostCells, mostSteps}
-use Rattle.fields.specs.Fields.{numberSize, rowNumbers, rowSize}
+use Rattle.fields.specs.Fields.{numberSize, versionOf, rowStart, rowNumbers}
+use Rattle.fields.specs.FieldsLaws.{mostSize, start-small}
 use Rattle.rowing.specs.Rowing.{entryOr}
-use Rattle.rowing.specs.RowingLaws.{Taken, taken-none, taken-more, taken-end, start-small}
+use Rattle.rowing.specs.RowingLaws.{Taken, taken-none, taken-more, taken-end}
 use borrow.Author.Needs.{needs}
 use Rattle.rowing.proofs.numbers.Statement.{statement}
 use Rattle.rowing.proofs.numbers.Tie as tie
@@ -16,18 +16,32 @@ Inv-loop bytes n t start r₀ k₀ r k = Taken bytes n t r k
 abbrev μ-loop : tie.MeasureT-loop
 μ-loop bytes n t start r₀ k₀ r k = rowNumbers n - k
 
--- the start that was found, from the loop's place, and the arguments, from it
+-- the start that was found, from the loop's place; the version, from it; and the arguments, from that
 abbrev Began : tie.At-loop Inv-loop μ-loop → tie.After-row-start Inv-loop μ-loop
 Began c = c .before
 
-abbrev A : tie.After-row-start Inv-loop μ-loop → tie.Start Inv-loop μ-loop
+abbrev Version : tie.After-row-start Inv-loop μ-loop → tie.After-version Inv-loop μ-loop
+Version c = c .before
+
+abbrev A : tie.After-version Inv-loop μ-loop → tie.Start Inv-loop μ-loop
 A c = c .before .before
 
-small : (c : tie.After-row-start Inv-loop μ-loop) → let a = A c .args in a .t * rowSize (a .n) ≤ mostSteps * rowSize mostCells
-small c = let a = A c in start-small (a .args .n) (a .args .t) (a .pre .0) (a .pre .1)
+-- it is that of the bytes' version, and small
+small : (c : tie.After-version Inv-loop μ-loop) → let a = A c .args in rowStart (c .version .result) (a .n) (a .t) ≤ mostSize
+small c = let a = A c in start-small (c .version .result) (a .args .n) (a .args .t) (a .pre .0) (omega (arith, a .pre .1))
+
+start : (c : tie.After-row-start Inv-loop μ-loop) →
+    let a = A (Version c) .args in
+    c .row-start .result ≡ rowStart (versionOf (a .bytes .now)) (a .n) (a .t)
+start c =
+    let a = A (Version c) .args in
+    c .row-start .ensures ∙ ap (λ (v : ℕ). rowStart v (a .n) (a .t)) (Version c .version .ensures)
+
+version-requires : tie.Need-version-requires Inv-loop μ-loop
+version-requires c κs = search needs
 
 row-start-requires : tie.Need-row-start-requires Inv-loop μ-loop
-row-start-requires c κs = let a = c .before .args in omega (arith, start-small (a .n) (a .t) (c .before .pre .0) (c .before .pre .1))
+row-start-requires c κs = omega (arith, small c)
 
 loop-holds : tie.Need-loop-holds Inv-loop μ-loop
 loop-holds c = taken-none
@@ -42,7 +56,7 @@ mul-entry : tie.Need-mul-entry Inv-loop μ-loop
 mul-entry c = search needs
 
 add-entry : tie.Need-add-entry Inv-loop μ-loop
-add-entry c = omega (arith, small (Began (c .before)), Began (c .before) .row-start .ensures)
+add-entry c = let s = Began (c .before) in omega (arith, small (Version s), s .row-start .ensures)
 
 entry-requires : tie.Need-entry-requires Inv-loop μ-loop
 entry-requires c κs = search needs
@@ -65,7 +79,7 @@ loop-again c =
     let l = i .before .loop in
     let s = Began (i .before) in
     taken-more (l .inv) (i .loop-test .taken)
-    (c .entry .ensures ∙ ap (λ (x : ℕ). entryOr (A s .args .bytes .now) (x + numberSize * l .k)) (s .row-start .ensures))
+    (c .entry .ensures ∙ ap (λ (x : ℕ). entryOr (A (Version s) .args .bytes .now) (x + numberSize * l .k)) (start s))
 
 returns : tie.Need-returns Inv-loop μ-loop
 returns c = taken-end (c .before .loop .inv) (search needs)
@@ -76,6 +90,7 @@ numbers-spec =
     (tie.spec
     Inv-loop
     μ-loop
+    version-requires
     row-start-requires
     loop-holds
     mul-loop

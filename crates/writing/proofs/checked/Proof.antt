@@ -11,7 +11,7 @@ use Rattle.limits.specs.Limits.{placeOk}
 use Rattle.reading.specs.ReadingLaws.{size-small}
 use Rattle.writing.specs.Writing.{unwritten, written, writingBy, writingOf}
 use Rattle.putting.specs.Record.{given}
-use Rattle.writing.specs.Checks.{frameFault, Framed, framed, answer-frame, answer-place, answer-step, answer-short, answer-written, by-given}
+use Rattle.writing.specs.Checks.{frameOf, Framed, framed, answer-frame, answer-place, answer-step, answer-short, answer-written, by-given}
 use native.Mathlib.Omega.{arith}
 use borrow.Author.Needs.{needs}
 use Rattle.writing.proofs.checked.Statement.{statement}
@@ -76,7 +76,7 @@ returns c =
     let f = c .before .before .before in
     let e = f .frame-refusal .ensures in
     let a = A f in
-    let n : frameFault (a .args .road .n) (a .args .steps) (numbers a) ≡ 0 → ⊥ = λ z. c .before .if1 .taken (c .before .before .number .ensures ∙ e ∙ z) in
+    let n : frameOf (Of a) (numbers a) ≡ 0 → ⊥ = λ z. c .before .if1 .taken (c .before .before .number .ensures ∙ e ∙ z) in
     c .refused .ensures ∙ ap (λ (m : ℕ). unwritten m 0) e ∙ answer-frame (Of a) (numbers a) (room a) n ∙ whole a
 
 state-requires : tie.Need-state-requires
@@ -117,8 +117,8 @@ returns-3 c =
 
 row-start-requires : tie.Need-row-start-requires
 row-start-requires c κs =
-    let n = ok (Place (Step (c .before) .before)) .counts in
-    omega (arith, n .cells, size-small n)
+    let p = Place (Step (c .before) .before) in
+    omega (arith, size-small (A (Frame p) .args .road .version) (ok p .counts))
 
 refused-requires-4 : tie.Need-refused-requires-4
 refused-requires-4 c κs = search needs

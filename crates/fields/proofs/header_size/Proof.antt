@@ -1,0 +1,18 @@
+-- `fields::header_size` meets its contract. Assumes nothing.
+use native.Mathlib.Omega.{arith}
+use Rattle.fields.specs.FieldsLaws.{seconds-most}
+use borrow.Author.Needs.{needs}
+use Rattle.fields.proofs.header_size.Statement.{statement}
+use Rattle.fields.proofs.header_size.Tie as tie
+
+seconds-size-requires : tie.Need-seconds-size-requires
+seconds-size-requires c κs = search needs
+
+add-result : tie.Need-add-result
+add-result c = omega (arith, c .seconds-size .ensures, seconds-most (c .before .args .version))
+
+returns : tie.Need-returns
+returns c = search needs
+
+pub header-size-spec : {M : Type 1} → statement M
+header-size-spec = tie.close (tie.spec seconds-size-requires add-result returns)

@@ -1,0 +1,38 @@
+-- `fields::seconds` meets its contract. Assumes nothing.
+use mathlib.Core.Path.{_≡_, ap, _∙_}
+use Prim.Native.Nat.{_≤_}
+use native.Mathlib.Omega.{arith}
+use Rattle.fields.specs.Fields.{shortSize, versionOf, secondsOffset, secondsSize, numberOf}
+use Rattle.fields.specs.FieldsLaws.{seconds-most, power-short}
+use borrow.Author.Needs.{needs}
+use Rattle.fields.proofs.seconds.Statement.{statement}
+use Rattle.fields.proofs.seconds.Tie as tie
+
+-- the arguments, from the count of the seconds' bytes, and this count
+abbrev A : tie.After-seconds-size → tie.Start
+A c = c .before .before .before
+
+size : (c : tie.After-seconds-size) → c .seconds-size .result ≡ secondsSize (versionOf (A c .args .bytes .now))
+size c = c .seconds-size .ensures ∙ ap secondsSize (c .before .version .ensures)
+
+few : (c : tie.After-seconds-size) → c .seconds-size .result ≤ shortSize
+few c = omega (arith, size c, seconds-most (versionOf (A c .args .bytes .now)))
+
+version-requires : tie.Need-version-requires
+version-requires c κs = search needs
+
+seconds-size-requires : tie.Need-seconds-size-requires
+seconds-size-requires c κs = search needs
+
+number-requires : tie.Need-number-requires
+number-requires c κs = (omega (arith, few c), omega (arith, size c, A c .pre))
+
+cast-result : tie.Need-cast-result
+cast-result c = omega (arith, c .number .ensures .1, power-short (c .before .seconds-size .result) (few (c .before)))
+
+returns : tie.Need-returns
+returns c = let e = c .before in c .number .ensures .0 ∙ ap (numberOf (A e .args .bytes .now) secondsOffset) (size e)
+
+pub seconds-spec : {M : Type 1} → statement M
+seconds-spec =
+    tie.close (tie.spec version-requires seconds-size-requires number-requires cast-result returns)

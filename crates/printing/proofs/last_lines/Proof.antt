@@ -1,0 +1,80 @@
+-- `printing::last_lines` meets its contract. Each return, by the version's test. Assumes nothing.
+use native.Mathlib.Omega.{arith}
+use Rattle.printing.specs.Lined.{time-small, time-fits, ends-timed, ends-untimed}
+use borrow.Author.Needs.{needs}
+use Rattle.printing.proofs.last_lines.Statement.{statement}
+use Rattle.printing.proofs.last_lines.Tie as tie
+
+-- places of the code: the version's test from the line of the seconds, the last line from the test, the exits and the total before it, the arguments
+abbrev Second : tie.After-struct-known2 → tie.Then1
+Second c = c .before .before
+
+abbrev Last : tie.After-struct-known → tie.After-total2
+Last c = c .before .before .before
+
+abbrev Exits : tie.After-total2 → tie.After-exits
+Exits c = c .before .before
+
+abbrev A : tie.After-total → tie.Start
+A c = c .before .before
+
+total-requires : tie.Need-total-requires
+total-requires c κs = search needs
+
+exits-requires : tie.Need-exits-requires
+exits-requires c κs = search needs
+
+total-requires-2 : tie.Need-total-requires-2
+total-requires-2 c κs = search needs
+
+cast-seconds : tie.Need-cast-seconds
+cast-seconds c = search needs
+
+mul-seconds : tie.Need-mul-seconds
+mul-seconds c =
+    let t = Exits (Last (Second c .before)) .before in
+    omega (arith, time-small (A t .pre) (t .total .ensures))
+
+seconds-requires : tie.Need-seconds-requires
+seconds-requires c κs =
+    let l = Last (Second c .before) in
+    let x = Exits l in
+    let t = x .before in
+    time-fits (A t .pre) (t .total .ensures) (x .exits .ensures) (l .total2 .ensures)
+
+same-length : tie.Need-same-length
+same-length c = search needs
+
+returns : tie.Need-returns
+returns c =
+    let q = c .before .before in
+    let s = Second (q .before) in
+    let l = Last (s .before) in
+    let x = Exits l in
+    let t = x .before in
+    ends-timed (A t .pre) (t .total .ensures) (x .exits .ensures) (l .total2 .ensures) (s .if1 .taken) (q .seconds .ensures)
+
+same-length-2 : tie.Need-same-length-2
+same-length-2 c = search needs
+
+returns-2 : tie.Need-returns-2
+returns-2 c =
+    let l = Last (c .before) in
+    let x = Exits l in
+    let t = x .before in
+    ends-untimed (A t .pre) (t .total .ensures) (x .exits .ensures) (l .total2 .ensures) (c .if1 .left)
+
+pub last-lines-spec : {M : Type 1} → statement M
+last-lines-spec =
+    tie.close
+    (tie.spec
+    total-requires
+    exits-requires
+    total-requires-2
+    cast-seconds
+    mul-seconds
+    seconds-requires
+    same-length
+    returns
+    same-length-2
+    returns-2)
