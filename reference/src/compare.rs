@@ -50,6 +50,7 @@ fn records_of(case: Case) -> Vec<Vec<u8>> {
         Case::Step(_)
         | Case::Write(_)
         | Case::Row { .. }
+        | Case::Rows { .. }
         | Case::Leaf(_)
         | Case::Capacity { .. } => vec![],
     }

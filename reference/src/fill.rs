@@ -1,4 +1,4 @@
-//! Filling a record's releases by meter laws: refusals 1 to 6, 16, 17, 18 and 11.
+//! Filling a record's releases by meter laws: reading's refusals, 16, 17, 18 and 11.
 
 use crate::answer::Answer;
 use crate::lanes;

@@ -1,4 +1,4 @@
-//! Judging a schedule: refusals 1 to 6, 17, 18, 12, then 9 or 10, 13 and 14.
+//! Judging a schedule: reading's refusals, 17, 18, 12, then 9 or 10, 13 and 14.
 
 use crate::answer::Answer;
 use crate::lanes;

@@ -98,6 +98,26 @@ pub fn row_numbers(bytes: &[u8], n: usize, step: usize) -> [u32; Road::MAX_ROW] 
     numbers
 }
 
+/// Puts the rows of T steps at the front of a lent list, one after the other,
+/// as writing takes them: each by its 1 + 2n numbers as `row_numbers` gives
+/// them, for any bytes. The answer is their count, T x (1 + 2n). It is 0 and the
+/// list is as lent for n above 64, T above 1,440 or a list without that room.
+pub fn rows(bytes: &[u8], n: usize, steps: usize, list: &mut [u32]) -> usize {
+    if n > Road::MAX_CELLS || steps > Road::MAX_STEPS {
+        return 0;
+    }
+    let width = 1 + 2 * n;
+    let count = steps * width;
+    if list.len() < count {
+        return 0;
+    }
+    for t in 0..steps {
+        let numbers = row_numbers(bytes, n, t);
+        list[t * width..(t + 1) * width].copy_from_slice(&numbers[..width]);
+    }
+    count
+}
+
 /// Puts a step's row of 1 + 2n numbers into a record of the right size.
 pub fn put_row(record: &mut [u8], n: usize, step: usize, row: &[u32]) {
     let start = size(version_of(record), n, step);

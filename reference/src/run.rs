@@ -1,4 +1,4 @@
-//! Running a record: refusals 1 to 6, 17, 18, 11, and 9 or 10.
+//! Running a record: reading's refusals, 17, 18, 11, and 9 or 10.
 
 use crate::answer::Answer;
 use crate::lanes;

@@ -79,6 +79,13 @@ pub fn of_row(out: &mut [u8], at: usize, row: &[u32]) -> usize {
     ended(out, next)
 }
 
+// How many numbers of rows were put, and the digest of the list that was lent.
+pub fn of_rows(out: &mut [u8], at: usize, count: usize, list: &[u32]) -> usize {
+    let mut next = text::word(out, at, b"rows ", count as u64);
+    next = text::word(out, next, b" ", digest::of_list(list) as u64);
+    ended(out, next)
+}
+
 pub fn of_judging(out: &mut [u8], at: usize, judging: Ended) -> usize {
     let mut next = text::put(out, at, b"judge");
     next = answer(out, next, judging);

@@ -6,7 +6,7 @@ use frames::field;
 use frames::input;
 use frames::lent;
 
-// The kinds of frames: R, U, J, S, W, N, F, L and C.
+// The kinds of frames: R, U, J, S, W, N, T, F, L and C.
 const READ: u32 = 82;
 
 const RUN: u32 = 85;
@@ -18,6 +18,8 @@ const STEP: u32 = 83;
 const WRITE: u32 = 87;
 
 const NUMBERS: u32 = 78;
+
+const ROWS: u32 = 84;
 
 const FILL: u32 = 70;
 
@@ -177,6 +179,9 @@ pub fn shown(
     }
     if kind == NUMBERS {
         return writes::row(record, out, at);
+    }
+    if kind == ROWS {
+        return writes::rows(record, list, out, at);
     }
     if kind == FILL {
         return meters::filled(record, table, list, out, at);

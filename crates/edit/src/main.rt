@@ -7,7 +7,7 @@ const RELEASE: usize = 4;
 fn released(bytes: &[u8], release: u32, list: &mut [u32], target: &mut [u8]) -> usize {
     let reading = freeway::read(bytes);
     let road = reading.road;
-    let length = taking::rows(bytes, road.n, reading.steps, list);
+    let length = freeway::rows(bytes, road.n, reading.steps, list);
     if list.len() < length {
         return 0;
     }
@@ -15,7 +15,8 @@ fn released(bytes: &[u8], release: u32, list: &mut [u32], target: &mut [u8]) -> 
         return 0;
     }
     list[RELEASE] = release;
-    let start = taking::start(reading.state);
+    let state = reading.state;
+    let start = state.start();
     let written = freeway::write(road, reading.steps, start, &list[..length], target);
     written.count
 }

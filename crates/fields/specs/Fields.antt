@@ -65,7 +65,7 @@ gateCapacityOffset version = 8 + secondsSize version
 abbrev pub gateQueueOffset : ℕ → ℕ
 gateQueueOffset version = 12 + secondsSize version
 
--- all that before the cells
+-- all that stands before the cells
 abbrev pub headerSize : ℕ → ℕ
 headerSize version = 16 + secondsSize version
 
@@ -122,9 +122,13 @@ fieldOf s offset w i = numberOf s (headerSize (versionOf s) + cellSize * i + off
 abbrev pub columnOf : List ℕ → ℕ → ℕ → ℕ → List ℕ
 columnOf s offset w n = fillOf (fieldOf s offset w) n zeros
 
+-- where number k of that row stands
+abbrev pub entryStart : ℕ → ℕ → ℕ → ℕ → ℕ
+entryStart version n t k = rowStart version n t + numberSize * k
+
 -- number k of the row of step t
 abbrev pub entryOf : List ℕ → ℕ → ℕ → ℕ → ℕ
-entryOf s n t k = numberOf s (rowStart (versionOf s) n t + numberSize * k) numberSize
+entryOf s n t k = numberOf s (entryStart (versionOf s) n t k) numberSize
 
 -- how many numbers a row of n cells has
 abbrev pub rowNumbers : ℕ → ℕ

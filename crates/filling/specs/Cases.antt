@@ -30,7 +30,7 @@ unfolding recordAfter filledList
 refusal laws bytes lanes list number place d e = record { answers = e; bytes-are = rw (e, ne-eqb number 0 d); list-is = rw (e, ne-eqb number 0 d) }
 
 module _ (laws : List Law) (bytes lanes list : List ℕ) where
-  -- 1 to 6
+  -- those of reading
   pub fills-refused : (readingOf bytes .number ≡ 0 → ⊥) → Leaves laws bytes lanes list (noState (readingOf bytes .number) (readingOf bytes .place)) bytes list
   unfolding fillingOf
   fills-refused h = refusal laws bytes lanes list (readingOf bytes .number) (readingOf bytes .place) h (rw (ne-eqb (readingOf bytes .number) 0 h))

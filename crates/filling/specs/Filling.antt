@@ -38,7 +38,7 @@ filledBytes laws bytes lanes = putTable bytes (studyOf bytes lanes .road .n) (gr
 abbrev pub lawPlace : List Law → Study → ℕ
 lawPlace laws a = lawFaultOf laws (a .road .ramp) (a .road .n)
 
--- filling takes a record, a law for each cell, a table of lanes and running's lent list: 1 to 6 as in reading; 16, a ramp's law with a number that
+-- filling takes a record, a law for each cell, a table of lanes and running's lent list: the refusals of reading; 16, a ramp's law with a number that
 -- isn't finite; 17 and 18; 11. It makes all T steps
 unfoldable pub fillingOf : List Law → List ℕ → List ℕ → List ℕ → EndAnswer
 fillingOf laws bytes lanes list =

@@ -10,12 +10,12 @@ use Rattle.numbers.specs.Lists.{at}
 use Rattle.numbers.specs.First.{oneOf}
 use Rattle.road.specs.Refusals.{began}
 use Rattle.road.specs.Study.{Study, roadAt, tableSize}
-use Rattle.fields.specs.Fields.{numberSize, versionOf, recordRow}
+use Rattle.fields.specs.Fields.{numberSize, versionOf, entryStart, recordRow}
 use Rattle.meter.specs.declared.Law.{Law}
 use Rattle.reading.specs.Reading.{readingOf, studyOf}
 use Rattle.model.specs.Places.{gateArrivals, arrivalsAt}
 use Rattle.releasing.specs.Bytes.{Outside}
-use Rattle.releasing.specs.Releases.{entryStart, releaseNumber}
+use Rattle.releasing.specs.Releases.{releaseNumber}
 use Rattle.model.specs.RunsLaws.{StudyOk, shared-less}
 use Rattle.schedules.specs.Schedules.{EndAnswer, noState, runningOf, listAfter}
 use Rattle.schedules.specs.Ends.{runs-refused, writes-refused, runs-closed, writes-closed, runs-short, writes-short}

@@ -79,7 +79,7 @@ fn fill_rows(
     m.state
 }
 
-// Fills a record's releases by its ramps' laws under a table of lanes and runs it in one pass: 1 to 6 as in reading, 16, 17, 18, 11.
+// Fills a record's releases by its ramps' laws under a table of lanes and runs it in one pass: the refusals of reading, 16, 17, 18, 11.
 pub fn fill(bytes: &mut [u8], laws: [Law; 64], table: &[u8], out: &mut [u32]) -> Ended
     ensures answer { λ e. ⌜ endAnswer e ≡ fillingOf laws (now (bytes .entry)) (now (table .entry)) (now (out .entry)) ⌝ }
     ensures bytes { λ e. ⌜ now (bytes .exit) ≡ recordAfter laws (now (bytes .entry)) (now (table .entry)) (now (out .entry)) ⌝ }

@@ -31,4 +31,5 @@ pub use road::Written;
 pub use rowing::row;
 pub use running::run;
 pub use stepping::step;
+pub use taking::rows;
 pub use writing::write;

@@ -12,7 +12,7 @@ use Rattle.road.specs.declared.State.{State}
 use Rattle.road.specs.Road.{mostSteps}
 use Rattle.road.specs.Study.{Study, roadAt, places, tableSize}
 use Rattle.model.specs.Move.{nextOf}
-use Rattle.model.specs.Step.{Fault, tableFault}
+use Rattle.model.specs.Step.{Fault}
 use Rattle.model.specs.StepLaws.{number-of}
 use Rattle.model.specs.Verdict.{verdictOf}
 use Rattle.model.specs.VerdictLaws.{verdict-obeys}
@@ -20,11 +20,12 @@ use Rattle.model.specs.Runs.{scheduleAfter}
 use Rattle.model.specs.RunsLaws.{StudyOk, StepOf, step-road, step-input, step-sized, step-left}
 use Rattle.moves.specs.Asked.{Movable}
 use Rattle.verdict.specs.Proposed.{Proposed}
-use Rattle.reading.specs.Reading.{ReadAnswer, readingOf, studyBy, studyOf}
-use Rattle.schedules.specs.Schedules.{proposedAt, scheduledAt, judgeSays, EndAnswer, ended, noState, lanesFault, judgeEnd, judgingOf}
+use Rattle.reading.specs.Reading.{ReadAnswer, readingOf, studyBy}
+use Rattle.schedules.specs.Schedules.{proposedAt, scheduledAt, judgeSays, EndAnswer, ended, noState, openingOf, judgeEnd, judgingOf}
 use Rattle.schedules.specs.SchedulesLaws.{judge-reached, ends-all, ends-at}
 use Rattle.schedules.specs.Demand.{Taken}
-use Rattle.schedules.specs.Ends.{judges-refused, judges-closed, judges-length, judges-ends}
+use Rattle.schedules.specs.Opening.{opened-taken, opened-reads}
+use Rattle.schedules.specs.Ends.{judges-unopened, judges-length, judges-ends}
 use Rattle.schedules.specs.Readable.{Readable}
 
 -- what judging step by step asks: a record that reads, and a schedule of the right length
@@ -108,27 +109,23 @@ module _ {a : Study} {zs : List ℕ} where
         before = below-more _ _ (t .passed .before) (sym (number-of says) ∙ z);
       }
 
--- how judging ends, from what its tests found
-module _ (bytes lanes zs : List ℕ) {x : ReadAnswer} (ex : x ≡ readingOf bytes) where
-  pub answer-refused : {e : EndAnswer} → (x .number ≡ 0 → ⊥) → e ≡ noState (x .number) (x .place) → e ≡ judgingOf bytes lanes zs
-  answer-refused h ee = rw ex at ee ∙ sym (judges-refused bytes lanes (rw ex at h) zs)
+-- how judging ends, from what opening gave
+module _ (bytes lanes zs : List ℕ) {x : ReadAnswer} (ex : x ≡ openingOf bytes lanes) where
+  pub answer-unopened : {e : EndAnswer} → (x .number ≡ 0 → ⊥) → e ≡ noState (x .number) (x .place) → e ≡ judgingOf bytes lanes zs
+  answer-unopened h ee = rw ex at ee ∙ sym (judges-unopened bytes lanes (rw ex at h) zs)
 
-  -- the record reads, and f is what the code says of the table
-  module _ (h : x .number ≡ 0) {f : Fault} (ef : f ≡ tableFault lanes (x .road .n) (x .steps)) where
-    found : f ≡ lanesFault (studyOf bytes lanes)
-    found = rw ex at ef
+  -- without a refusal
+  module _ (h : x .number ≡ 0) where
+    taken : Taken bytes lanes
+    taken = opened-taken bytes lanes ex h
 
-    pub answer-closed : {e : EndAnswer} → (f .number ≡ 0 → ⊥) → e ≡ noState (f .number) (f .place) → e ≡ judgingOf bytes lanes zs
-    answer-closed n ee = rw found at ee ∙ sym (judges-closed bytes lanes (rw ex at h) (rw found at n) zs)
+    reads : x ≡ readingOf bytes
+    reads = opened-reads bytes lanes ex h
 
-    module _ (z : f .number ≡ 0) where
-      taken : Taken bytes lanes
-      taken = record { reads = rw ex at h; opens = rw found at z }
+    pub answer-length : {e : EndAnswer} → (length zs ≡ tableSize (studyBy bytes lanes (x .road) (x .state) (x .steps)) → ⊥) → e ≡ noState 12 0
+        → e ≡ judgingOf bytes lanes zs
+    answer-length n ee = ee ∙ sym (judges-length bytes lanes taken zs (rw reads at n))
 
-      pub answer-length : {e : EndAnswer} → (length zs ≡ tableSize (studyBy bytes lanes (x .road) (x .state) (x .steps)) → ⊥) → e ≡ noState 12 0
-          → e ≡ judgingOf bytes lanes zs
-      answer-length n ee = ee ∙ sym (judges-length bytes lanes taken zs (rw ex at n))
-
-      pub answer-rows : {e : EndAnswer} → length zs ≡ tableSize (studyBy bytes lanes (x .road) (x .state) (x .steps))
-          → e ≡ judgeEnd (studyBy bytes lanes (x .road) (x .state) (x .steps)) zs → e ≡ judgingOf bytes lanes zs
-      answer-rows l ee = rw ex at ee ∙ sym (judges-ends bytes lanes taken zs (rw ex at l))
+    pub answer-rows : {e : EndAnswer} → length zs ≡ tableSize (studyBy bytes lanes (x .road) (x .state) (x .steps))
+        → e ≡ judgeEnd (studyBy bytes lanes (x .road) (x .state) (x .steps)) zs → e ≡ judgingOf bytes lanes zs
+    answer-rows l ee = rw reads at ee ∙ sym (judges-ends bytes lanes taken zs (rw reads at l))

@@ -52,7 +52,7 @@ fn judge_rows(
 pub fn judge(bytes: &[u8], table: &[u8], schedule: &[u32]) -> Ended
     ensures { λ e. ⌜ endAnswer e ≡ judgingOf (now (bytes .entry)) (now (table .entry)) (now (schedule .entry)) ⌝ }
 {
-    let a = reading::read(bytes);
+    let a = opening::opened(bytes, table);
     let refusal = a.refusal;
     if refusal.number() != 0 {
         return Ended::without_state(refusal, a.place);
@@ -60,13 +60,7 @@ pub fn judge(bytes: &[u8], table: &[u8], schedule: &[u32]) -> Ended
     let road = a.road;
     let state = a.state;
     let steps = a.steps;
-    let n = road.n;
-    let q = closures::refused(table, n, steps);
-    let closed = q.refusal;
-    if closed.number() != 0 {
-        return Ended::without_state(closed, q.place);
-    }
-    if schedule.len() != steps * (n + 1) {
+    if schedule.len() != steps * (road.n + 1) {
         return Ended::without_state(Refusal::ScheduleLength, 0);
     }
     judge_rows(bytes, table, road, state, steps, schedule)

@@ -40,7 +40,7 @@ mostWord = 21
 abbrev pub mostLine : ℕ
 mostLine = 105
 
--- and the last line: five words and 27 bytes of their names
+-- and the line of the totals: five words and 27 bytes of their names
 abbrev pub mostLast : ℕ
 mostLast = mostLine + 27
 
@@ -99,7 +99,7 @@ secondsWord = 115 ∷ 101 ∷ 99 ∷ 111 ∷ 110 ∷ 100 ∷ 115 ∷ 32 ∷ []
 abbrev pub refusedWord : List ℕ
 refusedWord = 114 ∷ 101 ∷ 102 ∷ 117 ∷ 115 ∷ 101 ∷ 100 ∷ 32 ∷ []
 
--- the last line is `total` and the total time spent, `gate`, `road` and `ramp` with their times, `exits` and the exits
+-- the line of the totals: `total` and the total time spent, `gate`, `road` and `ramp` with their times, `exits` and the exits
 unfoldable pub totalLine : ℕ → ℕ → ℕ → ℕ → ℕ → List ℕ
 totalLine total gate road ramp exits =
     namedOf totalWord total blank

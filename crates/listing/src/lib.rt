@@ -96,7 +96,7 @@ fn named(buffer: &mut [u8], at: usize, name: &[u8], n: u64, after: u8) -> usize
     word(buffer, end, n, after)
 }
 
-// The last line.
+// The line of the totals.
 pub fn total(
     buffer: &mut [u8],
     at: usize,
@@ -116,7 +116,7 @@ pub fn total(
     named(buffer, to_exits, b"exits ", exits, b'\n')
 }
 
-// The line of the seconds, after the last.
+// The line of the seconds, after that of the totals.
 pub fn seconds(buffer: &mut [u8], at: usize, time: u64) -> usize
     requires { ⌜ at + mostTime ≤ length (now buffer) ⌝ }
     ensures { λ r. ⌜ Puts (now (buffer .entry)) at (secondsLine time) (now (buffer .exit)) r ⌝ }

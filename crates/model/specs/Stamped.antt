@@ -1,5 +1,5 @@
 -- Theorem: no step, run or schedule looks at its road's version or seconds. Assumes nothing.
-use mathlib.Core.Path.{_≡_, refl, sym, ap, _∙_}
+use mathlib.Core.Path.{_≡_, refl, ap, _∙_}
 use mathlib.Core.Bool.{Bool, true, false, cond}
 use mathlib.Core.List.{List}
 use Prim.Native.Nat.{ℕ, zero, suc, _+_, _≤_, _<_}
@@ -7,7 +7,7 @@ use native.Mathlib.Omega.{arith}
 use lib.Dec.{eqb}
 use lib.ListN.{length}
 use borrow.Author.Tests.{eqb-false}
-use Rattle.numbers.specs.First.{firstFault, allOf}
+use Rattle.numbers.specs.First.{firstFault}
 use Rattle.numbers.specs.FirstLaws.{first-same, fault-within, fault-same}
 use Rattle.rows.specs.RowsLaws.{fill-same, list-same}
 use Rattle.road.specs.declared.Road.{Road}
@@ -138,19 +138,23 @@ roadWith r lanes k = cond (eqb (length lanes) 0) r (openRoad r (builtIn lanes (r
 
 -- whole runs
 module _ {a b : Study} (h : Restamped a b) where
-  abbrev v : ℕ
-  v = b .road .version
+  abbrev version : ℕ
+  version = b .road .version
 
-  abbrev q : ℕ
-  q = b .road .seconds
+  abbrev seconds : ℕ
+  seconds = b .road .seconds
 
-  road-at : (k : ℕ) → roadAt b k ≡ stamped v q (roadAt a k)
+  road-at : (k : ℕ) → roadAt b k ≡ stamped version seconds (roadAt a k)
   unfolding roadAt
   road-at k =
-      ap (λ (r : Road). roadWith r (b .lanes) k) (h .road) ∙ ap (λ (l : List ℕ). roadWith (stamped v q (a .road)) l k) (h .lanes) ∙ go (eqb (length (a .lanes)) 0)
+      ap (λ (r : Road). roadWith r (b .lanes) k) (h .road)
+      ∙ ap (λ (l : List ℕ). roadWith (stamped version seconds (a .road)) l k) (h .lanes)
+      ∙ go (eqb (length (a .lanes)) 0)
     where
-      go : (t : Bool) → cond t (stamped v q (a .road)) (openRoad (stamped v q (a .road)) (builtIn (a .lanes) (a .road .n)) (openIn (a .lanes) (a .road .n) k))
-          ≡ stamped v q (cond t (a .road) (openRoad (a .road) (builtIn (a .lanes) (a .road .n)) (openIn (a .lanes) (a .road .n) k)))
+      go : (t : Bool)
+          → cond t (stamped version seconds (a .road))
+          (openRoad (stamped version seconds (a .road)) (builtIn (a .lanes) (a .road .n)) (openIn (a .lanes) (a .road .n) k))
+          ≡ stamped version seconds (cond t (a .road) (openRoad (a .road) (builtIn (a .lanes) (a .road .n)) (openIn (a .lanes) (a .road .n) k)))
       go true = refl
       go false = refl
 
@@ -158,13 +162,13 @@ module _ {a b : Study} (h : Restamped a b) where
   outflows-from : (k : ℕ) → k < a .steps → (s : State) → outflowsOf (roadAt b k) s (b .rows k) ≡ outflowsOf (roadAt a k) s (a .rows k)
   outflows-from k l s =
       ap (λ (r : Road). outflowsOf r s (b .rows k)) (road-at k)
-      ∙ outflows-stamped v q (roadAt a k) s (b .rows k)
+      ∙ outflows-stamped version seconds (roadAt a k) s (b .rows k)
       ∙ ap (outflowsOf (roadAt a k) s) (h .rows k l)
 
   next-from : (k : ℕ) → k < a .steps → (s : State) (y : List ℕ) → nextOf (roadAt b k) s (b .rows k) y ≡ nextOf (roadAt a k) s (a .rows k) y
   next-from k l s y =
       ap (λ (r : Road). nextOf r s (b .rows k) y) (road-at k)
-      ∙ next-stamped v q (roadAt a k) s (b .rows k) y
+      ∙ next-stamped version seconds (roadAt a k) s (b .rows k) y
       ∙ ap (λ (row : List ℕ). nextOf (roadAt a k) s row y) (h .rows k l)
 
   -- the same state after every step
@@ -189,7 +193,7 @@ module _ {a b : Study} (h : Restamped a b) where
   same-releases k l =
       ap (λ (u : State). releasesOf (roadAt b k) u (b .rows k)) (same-state k (omega arith))
       ∙ ap (λ (r : Road). releasesOf r (engineAfter a k) (b .rows k)) (road-at k)
-      ∙ releases-stamped v q (roadAt a k) (engineAfter a k) (b .rows k)
+      ∙ releases-stamped version seconds (roadAt a k) (engineAfter a k) (b .rows k)
       ∙ ap (releasesOf (roadAt a k) (engineAfter a k)) (h .rows k l)
 
   pub same-total : (k : ℕ) → k ≤ a .steps → totalOf (engineAfter b k) ≡ totalOf (engineAfter a k)
@@ -199,7 +203,7 @@ module _ {a b : Study} (h : Restamped a b) where
   same-exits k l =
       ap (exitsOf (b .road)) (same-state k l)
       ∙ ap (λ (r : Road). exitsOf r (engineAfter a k)) (h .road)
-      ∙ exits-stamped v q (a .road) (engineAfter a k)
+      ∙ exits-stamped version seconds (a .road) (engineAfter a k)
 
   -- of any schedule: the same states, and the same verdict on each of its rows
   pub same-schedule : (ys : ℕ → List ℕ) (k : ℕ) → k ≤ a .steps → scheduleAfter b ys k ≡ scheduleAfter a ys k
@@ -213,5 +217,5 @@ module _ {a b : Study} (h : Restamped a b) where
   same-verdict ys k l =
       ap (λ (u : State). verdictOf (roadAt b k) u (b .rows k) (ys k)) (same-schedule ys k (omega arith))
       ∙ ap (λ (r : Road). verdictOf r (scheduleAfter a ys k) (b .rows k) (ys k)) (road-at k)
-      ∙ verdict-stamped v q (roadAt a k) (scheduleAfter a ys k) (b .rows k) (ys k)
+      ∙ verdict-stamped version seconds (roadAt a k) (scheduleAfter a ys k) (b .rows k) (ys k)
       ∙ ap (λ (row : List ℕ). verdictOf (roadAt a k) (scheduleAfter a ys k) row (ys k)) (h .rows k l)

@@ -106,7 +106,7 @@ module _ (r : Road) (s : State) (row built usable : List ℕ) (input : inputOk r
   pub stepping-lanes : (firstOf (lanesAt built usable) (r .n) ≡ r .n → ⊥)
       → steppingOf r s row built usable ≡ answer (fault 18 (firstOf (lanesAt built usable) (r .n) + 1)) s
   unfolding steppingOf
-  stepping-lanes h = rw (input, ne-eqb (firstOf (lanesAt built usable) (r .n)) (r .n) h)
+  stepping-lanes h = rw (input, ne-eqb (firstOf (lanesAt built usable) (r .n)) (r .n) h) refl
 
   module _ (lanes : firstOf (lanesAt built usable) (r .n) ≡ r .n) where
     abbrev q : Road
@@ -114,7 +114,7 @@ module _ (r : Road) (s : State) (row built usable : List ℕ) (input : inputOk r
 
     pub stepping-on : steppingOf r s row built usable ≡ stepOn (openRoad r built usable) s row
     unfolding steppingOf
-    stepping-on = rw (input, eq-eqb (firstOf (lanesAt built usable) (r .n)) (r .n) lanes)
+    stepping-on = rw (input, eq-eqb (firstOf (lanesAt built usable) (r .n)) (r .n) lanes) refl
 
     pub stepping-done : s .done ≡ mostSteps → steppingOf r s row built usable ≡ answer (fault 8 0) s
     stepping-done e = stepping-on ∙ on-done q s row e

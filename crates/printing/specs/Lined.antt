@@ -32,7 +32,7 @@ use Rattle.rows.specs.Placed.{Puts, placed-none, puts-first, puts-more, Room, r
 use Rattle.listing.specs.ListingLaws.{header-room, lines-room, total-length, total-room, seconds-length, refused-room}
 use Rattle.printing.specs.Printed.{stepsLines, timeOf, lastOf, printedEnd, printedRun, printedOf}
 
--- how long a text may be: a line for each outflow, a header, a last line and one of the seconds
+-- how long a text may be: a line for each outflow, a header, the line of the totals and that of the seconds
 abbrev pub mostText : ℕ
 mostText = mostLine * mostOutflows + mostLine + (mostLast + mostTime)
 
@@ -65,7 +65,7 @@ module _ {r : Road} {u : State} {buffer : List ℕ} {at : ℕ} (h : Ending r u b
     last-line : Puts buffer at (totalLine (totalOf u) (u .«gate_time») (u .«road_time») (u .«ramp_time») (exitsOf r u)) after m
     last-line = rw (total-is, x) at p
 
-    -- the last line alone, and both
+    -- the line of the totals alone, and both
     pub ends-untimed : (r .version ≡ secondVersion → ⊥) → Puts buffer at (lastOf r u) after m
     unfolding timeOf
     ends-untimed k =

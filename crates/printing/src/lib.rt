@@ -49,7 +49,7 @@ fn step_lines(
     }
 }
 
-// The last line, and in version 2 the line of the seconds.
+// The line of the totals, and in version 2 that of the seconds.
 fn last_lines(buffer: &mut [u8], at: usize, r: Road, u: State) -> usize
     requires { ⌜ Ending r u (now buffer) at ⌝ }
     ensures { λ e. ⌜ Puts (now (buffer .entry)) at (lastOf r u) (now (buffer .exit)) e ⌝ }

@@ -7,7 +7,7 @@ use lib.ListN.{length}
 use Rattle.road.specs.declared.Road.{Road}
 use Rattle.road.specs.declared.State.{State}
 use Rattle.road.specs.Road.{zeros, emptyRoad, emptyState, mostCells, mostSteps, mostBytes, mostSeconds}
-use Rattle.numbers.specs.First.{unless, oneOf, unlessFirst, firstOf, allOf}
+use Rattle.numbers.specs.First.{unless, oneOf, unlessFirst}
 use Rattle.road.specs.Refusals.{refusalNumber}
 use Rattle.road.specs.Study.{Study, study}
 use Rattle.fields.specs.Fields.{firstVersion, secondVersion, countSize, shortSize, numberSize, headerSize, rowStart, numberOf, columnOf, recordRow}

@@ -126,11 +126,11 @@ module _ {s : List ℕ} {n T : ℕ} (h : Header s n T) where
 module _ (s : List ℕ) where
   pub answer-length : {x : ReadAnswer} → lengthOk bothVersions s ≡ false → x ≡ refusedOf 1 0 → x ≡ readingOf s
   unfolding readingBy
-  answer-length h g = g ∙ rw h
+  answer-length h g = g ∙ rw h refl
 
   pub answer-version : {x : ReadAnswer} → lengthOk bothVersions s ≡ true → oneOf bothVersions (versionOf s) ≡ false → x ≡ refusedOf 2 0 → x ≡ readingOf s
   unfolding readingBy
-  answer-version h k g = g ∙ rw (h, k)
+  answer-version h k g = g ∙ rw (h, k) refl
 
 -- a record that refusals 1 and 2 let through, with its n and T
 pub record Opened (s : List ℕ) (n T : ℕ) : Type 0 where
@@ -142,18 +142,18 @@ pub record Opened (s : List ℕ) (n T : ℕ) : Type 0 where
 module _ {s : List ℕ} {n T : ℕ} (h : Opened s n T) where
   pub answer-counts : {x : ReadAnswer} → cellsAndStepsOk n T ≡ false → x ≡ refusedOf 3 0 → x ≡ readingOf s
   unfolding readingBy
-  answer-counts k g = g ∙ rw (h .lengths, h .version, ← h .cells, ← h .steps, k)
+  answer-counts k g = g ∙ rw (h .lengths, h .version, ← h .cells, ← h .steps, k) refl
 
   module _ (k : cellsAndStepsOk n T ≡ true) where
     pub answer-seconds : {x : ReadAnswer} → secondsOk (versionOf s) (secondsOf s) ≡ false → x ≡ refusedOf 19 0 → x ≡ readingOf s
     unfolding readingBy
-    answer-seconds l g = g ∙ rw (h .lengths, h .version, ← h .cells, ← h .steps, k, l)
+    answer-seconds l g = g ∙ rw (h .lengths, h .version, ← h .cells, ← h .steps, k, l) refl
 
     module _ (l : secondsOk (versionOf s) (secondsOf s) ≡ true) {size : ℕ} (e : size ≡ sizeOf (versionOf s) n T) where
       pub answer-size : {x : ReadAnswer} → (length s ≡ size → ⊥) → x ≡ refusedOf 4 0 → x ≡ readingOf s
       unfolding readingBy
       answer-size z g =
-          g ∙ rw (h .lengths, h .version, ← h .cells, ← h .steps, k, l, ne-eqb (length s) (sizeOf (versionOf s) n T) (λ x. z (x ∙ sym e)))
+          g ∙ rw (h .lengths, h .version, ← h .cells, ← h .steps, k, l, ne-eqb (length s) (sizeOf (versionOf s) n T) (λ x. z (x ∙ sym e))) refl
 
       pub header-passed : length s ≡ size → Header s n T
       header-passed z = record {

@@ -132,8 +132,8 @@ unfolding timed timedHeader timedRoad upstream downstream row cells start
     readingBy oneOf numberOf secondsSize fillOf listOf firstFrom firstOf placeOk rowOk
 timed-accepted = refl
 
--- 1 and 900 seconds pass; 0 and 901 are 19; 256, whose bytes read the other way round are 1, passes
-timed-seconds : map (λ (s : List ℕ). readingOf s .number) (timed 0 1 ∷ timed 3 132 ∷ timed 0 0 ∷ timed 3 133 ∷ timed 1 0 ∷ []) ≡ 0 ∷ 0 ∷ 19 ∷ 19 ∷ 0 ∷ []
+-- 1 and 900 seconds pass; 0 and 901 are 19. The bytes of 900 the other way round would be 33,795
+timed-seconds : map (λ (s : List ℕ). readingOf s .number) (timed 0 1 ∷ timed 3 132 ∷ timed 0 0 ∷ timed 3 133 ∷ []) ≡ 0 ∷ 0 ∷ 19 ∷ 19 ∷ []
 unfolding timed timedHeader upstream downstream row readingBy oneOf numberOf secondsSize fillOf listOf firstFrom firstOf placeOk rowOk
 timed-seconds = refl
 

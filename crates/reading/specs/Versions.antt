@@ -7,11 +7,11 @@ use Prim.Native.Nat.{ℕ, _+_, _-_, _*_, _≤_}
 use native.Mathlib.Omega.{arith}
 use lib.Dec.{leb, eqb}
 use lib.ListN.{length}
-use borrow.Author.Tests.{leb-true, le-leb, eqb-true, eqb-false, eq-eqb, ne-eqb}
+use borrow.Author.Tests.{leb-true, eqb-true, eqb-false, eq-eqb, ne-eqb}
 use Rattle.numbers.specs.First.{oneOf}
 use Rattle.numbers.specs.Tests.{le-head, le-then}
-use Rattle.road.specs.Road.{mostBytes, mostSeconds}
-use Rattle.fields.specs.Fields.{firstVersion, secondVersion, countSize, versionOf, secondsSize, secondsOf, headerSize, gateCapacityOffset, gateQueueOffset, numberOf}
+use Rattle.road.specs.Road.{mostSeconds}
+use Rattle.fields.specs.Fields.{firstVersion, secondVersion, versionOf, secondsOffset, secondsSize, headerSize, gateCapacityOffset, gateQueueOffset, numberOf}
 use Rattle.fields.specs.FieldsLaws.{seconds-none}
 use Rattle.reading.specs.Reading.{ReadAnswer, sizeOf, bothVersions, firstAlone, leastSize, lengthOk, secondsOk, refusedOf}
 use Rattle.reading.specs.Reading.{readingBy, readingOf, firstReadingOf}
@@ -20,12 +20,12 @@ use Rattle.reading.specs.Within.{read-within}
 use Rattle.reading.specs.Numbers.{read-numbers}
 
 -- bytes whose byte 4 is not 2, and so every record of version 1, are read as the first reader reads them
-pub first-same : (s : List ℕ) → (versionOf s ≡ secondVersion → ⊥) → readingOf s ≡ firstReadingOf s
+pub first-reader-same : (s : List ℕ) → (versionOf s ≡ secondVersion → ⊥) → readingOf s ≡ firstReadingOf s
 unfolding readingBy oneOf
-first-same s h = rw (ne-eqb (versionOf s) secondVersion h)
+first-reader-same s h = rw (ne-eqb (versionOf s) secondVersion h)
 
--- with the numbers of the time before version 2
-pub record First (version : ℕ) : Type 0 where
+-- in every version but 2 the layout is that of version 1, in numbers
+pub record FirstLayout (version : ℕ) : Type 0 where
   pub noSeconds : secondsSize version ≡ 0
   pub gateCapacity : gateCapacityOffset version ≡ 8
   pub gateQueue : gateQueueOffset version ≡ 12
@@ -33,7 +33,7 @@ pub record First (version : ℕ) : Type 0 where
   pub size : (n T : ℕ) → sizeOf version n T ≡ 16 + 24 * n + T * (4 + 8 * n)
   pub unread : (seconds : ℕ) → secondsOk version seconds ≡ true
 
-pub first-layout : (version : ℕ) → (version ≡ secondVersion → ⊥) → First version
+pub first-layout : (version : ℕ) → (version ≡ secondVersion → ⊥) → FirstLayout version
 first-layout version h =
     let e = seconds-none version h in
     record {
@@ -95,7 +95,7 @@ module _ (s : List ℕ) (a : ReadAnswer) (e : a ≡ readingOf s) (h : a .number 
   unfolding numberOf
   read-untimed z =
       let n = read-numbers s a e h in
-      n .seconds ∙ ap (numberOf s 8) (seconds-none (versionOf s) (λ w. z (n .version ∙ w)))
+      n .seconds ∙ ap (numberOf s secondsOffset) (seconds-none (versionOf s) (λ w. z (n .version ∙ w)))
 
   -- so that 900 bounds them in both
   pub read-seconds : a .road .seconds ≤ mostSeconds
@@ -113,4 +113,4 @@ module _ (s : List ℕ) (a : ReadAnswer) (e : a ≡ readingOf s) (h : a .number 
 
   -- and one of version 1 reads there as it does here
   pub read-same-first : (a .road .version ≡ secondVersion → ⊥) → a ≡ firstReadingOf s
-  read-same-first z = e ∙ first-same s (λ k. z (read-numbers s a e h .version ∙ k))
+  read-same-first z = e ∙ first-reader-same s (λ k. z (read-numbers s a e h .version ∙ k))

@@ -106,7 +106,8 @@ fn first_row(bytes: &[u8], road: Road, steps: usize) -> usize
     t
 }
 
-fn refused(refusal: Refusal, place: usize) -> Reading
+// A refusal gives an all-zero road and state.
+pub fn refused(refusal: Refusal, place: usize) -> Reading
     ensures { λ a. ⌜ readAnswer a ≡ refusedOf (refusalNumber refusal) place ⌝ }
 {
     Reading {

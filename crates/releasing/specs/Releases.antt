@@ -3,11 +3,7 @@ use mathlib.Core.List.{List}
 use Prim.Native.Nat.{ℕ, zero, suc, _+_, _*_}
 use lib.ListN.{set}
 use Rattle.rows.specs.Placed.{placed}
-use Rattle.fields.specs.Fields.{numberSize, versionOf, rowStart, bytesOf}
-
--- the byte at which number k of the row of step t starts in a version's layout
-abbrev pub entryStart : ℕ → ℕ → ℕ → ℕ → ℕ
-entryStart version n t k = rowStart version n t + numberSize * k
+use Rattle.fields.specs.Fields.{numberSize, versionOf, entryStart, bytesOf}
 
 -- x put as number k of the row of step t
 abbrev pub putEntry : List ℕ → ℕ → ℕ → ℕ → ℕ → List ℕ

@@ -9,9 +9,9 @@ use lib.ListN.{length, set, length-set}
 use lib.Seq.{getD-set-same, getD-set-other, ext-getD}
 use Rattle.numbers.specs.Lists.{at}
 use Rattle.rows.specs.Placed.{length-placed}
-use Rattle.fields.specs.Fields.{numberSize, versionOffset, versionOf, rowSize, rowStart, bytesOf, entryOf, recordRow, HoldsRow}
+use Rattle.fields.specs.Fields.{numberSize, versionOffset, versionOf, rowSize, rowStart, bytesOf, entryStart, entryOf, recordRow, HoldsRow}
 use Rattle.fields.specs.FieldsLaws.{length-row, row-at, row-within}
-use Rattle.releasing.specs.Releases.{entryStart, putEntry, releaseNumber, putReleases, putTable, releasedRow}
+use Rattle.releasing.specs.Releases.{putEntry, releaseNumber, putReleases, putTable, releasedRow}
 use Rattle.releasing.specs.Bytes.{Outside, Apart, compare, byte-other, number-placed, number-apart}
 
 -- the rows do not overlap, and neither do the numbers of a row

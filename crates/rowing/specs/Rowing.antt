@@ -7,7 +7,7 @@ use lib.ListN.{length, replicate}
 use Rattle.numbers.specs.First.{unless}
 use Rattle.road.specs.Road.{mostCells, mostSteps}
 use Rattle.rows.specs.Rows.{fillOf}
-use Rattle.fields.specs.Fields.{numberSize, numberOf, versionOf, rowStart, rowNumbers}
+use Rattle.fields.specs.Fields.{numberSize, numberOf, versionOf, entryStart, rowNumbers}
 
 -- an array of as many numbers as a row of 64 cells has: all 0
 abbrev pub noNumbers : List ℕ
@@ -19,7 +19,7 @@ entryOr s i = unless (leb (i + numberSize) (length s)) 0 (numberOf s i numberSiz
 
 -- number k of the row of step t, 0 where the bytes hold none: in version 2's layout where byte 4 is 2, and else in version 1's
 abbrev pub numberAt : List ℕ → ℕ → ℕ → ℕ → ℕ
-numberAt s n t k = entryOr s (rowStart (versionOf s) n t + numberSize * k)
+numberAt s n t k = entryOr s (entryStart (versionOf s) n t k)
 
 -- the numbers of a row of n cells, 0 past them
 abbrev pub numbersAt : List ℕ → ℕ → ℕ → List ℕ

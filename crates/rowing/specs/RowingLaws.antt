@@ -1,13 +1,16 @@
 -- Laws of a row's numbers: what the code finds, and that a record that reads gives each of its rows. Assumes nothing.
 use mathlib.Core.Path.{_≡_, refl, sym, ap, _∙_}
+use mathlib.Core.Bool.{Bool, true, false, _&&_}
 use mathlib.Core.List.{List}
 use Prim.Native.Nat.{ℕ, _+_, _*_, _≤_, _<_}
 use native.Mathlib.Omega.{arith}
 use borrow.Author.Tests.{le-leb, lt-leb}
-use lib.ListN.{length, set, take, List·getD-eq-default}
+use lib.Dec.{leb}
+use lib.ListN.{length, set, take, length-replicate, List·getD-eq-default}
+use Rattle.numbers.specs.First.{unless}
 use Rattle.road.specs.Road.{mostCells, mostSteps}
 use Rattle.rows.specs.Rows.{fillOf}
-use Rattle.rows.specs.RowsLaws.{fill-more, fill-same}
+use Rattle.rows.specs.RowsLaws.{fill-more, fill-same, length-fill}
 use Rattle.fields.specs.Fields.{versionOffset, numberSize, numberOf, versionOf, rowStart, rowNumbers, entryOf, recordRow, HoldsRow}
 use Rattle.fields.specs.FieldsLaws.{row-taken, holds-row}
 use Rattle.reading.specs.Reading.{ReadAnswer, stepsOf, readingOf}
@@ -46,6 +49,15 @@ module _ (s : List ℕ) (n t : ℕ) where
   array-numbers h l e =
       let k : t + 1 ≤ mostSteps = omega arith in
       e ∙ rw (le-leb n mostCells h, le-leb (t + 1) mostSteps k)
+
+  -- it has 129 numbers
+  pub length-array : length (rowArray s n t) ≡ rowNumbers mostCells
+  unfolding rowArray
+  length-array = go (leb n mostCells && leb (t + 1) mostSteps)
+    where
+      go : (b : Bool) → length (unless b noNumbers (numbersAt s n t)) ≡ rowNumbers mostCells
+      go true = length-fill (numberAt s n t) (rowNumbers n) noNumbers ∙ length-replicate {A = ℕ} (rowNumbers mostCells) 0
+      go false = length-replicate {A = ℕ} (rowNumbers mostCells) 0
 
 -- the loop over a row's numbers: the first k stand in l
 pub record Taken (s : List ℕ) (n t : ℕ) (l : List ℕ) (k : ℕ) : Type 0 where

@@ -48,7 +48,7 @@ pub fn run(bytes: &[u8], table: &[u8], out: &mut [u32]) -> Ended
     ensures list { λ e. ⌜ now (out .exit) ≡ listAfter (now (bytes .entry)) (now (table .entry)) (now (out .entry)) ⌝ }
     ensures demand { λ e. ⌜ (Taken (now (bytes .entry)) (now (table .entry)) → Promised (now (bytes .entry)) (now (table .entry)) (now (out .exit)) (endAnswer e)) ⌝ }
 {
-    let a = reading::read(bytes);
+    let a = opening::opened(bytes, table);
     let refusal = a.refusal;
     if refusal.number() != 0 {
         return Ended::without_state(refusal, a.place);
@@ -56,13 +56,7 @@ pub fn run(bytes: &[u8], table: &[u8], out: &mut [u32]) -> Ended
     let road = a.road;
     let state = a.state;
     let steps = a.steps;
-    let n = road.n;
-    let q = closures::refused(table, n, steps);
-    let closed = q.refusal;
-    if closed.number() != 0 {
-        return Ended::without_state(closed, q.place);
-    }
-    if out.len() < steps * (n + 1) {
+    if out.len() < steps * (road.n + 1) {
         return Ended::without_state(Refusal::ListLength, 0);
     }
     run_rows(bytes, table, road, state, steps, out)

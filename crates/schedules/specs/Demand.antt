@@ -68,7 +68,7 @@ pub record Grounds (bytes lanes out : List ℕ) (e : EndAnswer) : Type 0 where
       → judgingOf bytes lanes zs .state ≡ scheduledAt (studyOf bytes lanes) zs (stepsMade (studyOf bytes lanes) (judgingOf bytes lanes zs))
   pub judgedRoad : (zs : List ℕ) → length zs ≡ tableSize (studyOf bytes lanes) → judgingOf bytes lanes zs .road ≡ studyOf bytes lanes .road
 
--- no refusal of the record (1 to 6) or of its table of lanes (17, 18) applies
+-- no refusal of the record (those of reading) or of its table of lanes (17, 18) applies
 pub record Taken (bytes lanes : List ℕ) : Type 0 where
   pub reads : readingOf bytes .number ≡ 0
   pub opens : lanesFault (studyOf bytes lanes) .number ≡ 0

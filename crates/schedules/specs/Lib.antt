@@ -2,8 +2,9 @@ pub mod Schedules
 pub mod SchedulesLaws
 pub mod TableLaws
 pub mod Demand
-pub mod Ends
 pub mod Readable
+pub mod Opening
+pub mod Ends
 pub mod DemandLaws
 pub mod Whole
 pub mod Judged

@@ -19,9 +19,9 @@ use Rattle.model.specs.Rules.{outflowsOf}
 use Rattle.model.specs.Step.{lowestOf, tableFault}
 use Rattle.model.specs.Verdict.{outflowFaultAt, verdictOf}
 use Rattle.model.specs.Runs.{scheduleAfter, engineAfter}
-use Rattle.reading.specs.Reading.{readingBy, readingOf, studyOf}
+use Rattle.reading.specs.Reading.{readingBy, studyOf}
 use Rattle.reading.specs.Sample.{sample, header, upstream, downstream, row}
-use Rattle.schedules.specs.Schedules.{scheduledAt, endOf, runningOf, judgingOf, stepsMade, listAfter}
+use Rattle.schedules.specs.Schedules.{scheduledAt, endOf, openingOf, runningOf, judgingOf, stepsMade, listAfter}
 use Rattle.schedules.specs.Demand.{Ahead, Taken, Reaches}
 use Rattle.schedules.specs.Whole.{promised}
 
@@ -47,7 +47,7 @@ unfolding sample header upstream downstream row readingBy oneOf numberOf seconds
     thousandthsOf demandOf gateDemandOf supplyOf roomOf onwardOf enteringOf greatestOf outflowOf
     sumOf fillOf listOf firstFrom firstOf firstFault placeOk rowOk
     capacityAt demandAt mostReleaseAt shareAt cumulativeAt movedTo countedOf exitsOf outflowsOf lowestOf outflowFaultAt verdictOf
-    tableFault roadAt scheduleAfter engineAfter rowAt endOf runningOf judgingOf
+    tableFault roadAt scheduleAfter engineAfter rowAt endOf openingOf runningOf judgingOf
 both = record { taken = record { reads = refl; opens = refl }; right = refl; run = refl; judged = refl; fast = refl; slow = refl; fastRamp = refl; slowRamp = refl; exits = refl }
 
 -- the schedule reaches all three steps

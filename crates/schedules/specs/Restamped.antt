@@ -3,16 +3,17 @@ use mathlib.Core.Path.{_≡_, refl, sym, ap, _∙_}
 use mathlib.Core.Bool.{Bool, true, false}
 use mathlib.Core.Logic.{⊎-elim}
 use mathlib.Core.List.{List, _++_}
-use Prim.Native.Nat.{ℕ, zero, suc, _+_, _*_, _≤_, _<_}
+use Prim.Native.Nat.{ℕ, _+_, _*_, _≤_, _<_}
 use native.Mathlib.Omega.{arith}
 use lib.Dec.{eqb}
-use lib.ListN.{length, drop}
+use lib.ListN.{length}
 use borrow.Author.Tests.{eqb-true, eqb-false}
 use Rattle.numbers.specs.FirstLaws.{fault-same}
 use Rattle.numbers.specs.Tests.{order}
 use Rattle.road.specs.declared.Road.{Road}
 use Rattle.road.specs.declared.State.{State}
-use Rattle.rows.specs.Tables.{rowAt}
+use Rattle.rows.specs.Tables.{rowAt, frontOf}
+use Rattle.rows.specs.TablesLaws.{front-same}
 use Rattle.road.specs.Study.{Study, roadAt, places, tableSize}
 use Rattle.model.specs.Step.{Fault}
 use Rattle.model.specs.StepLaws.{number-of}
@@ -22,7 +23,7 @@ use Rattle.model.specs.Stamped.{Restamped, same-state, same-outflows, same-rele
 use Rattle.reading.specs.Reading.{studyOf}
 use Rattle.schedules.specs.Demand.{Taken}
 use Rattle.schedules.specs.Schedules.{proposedAt, scheduledAt, runSays, judgeSays, firstStep, EndAnswer, endOf, runEnd, judgeEnd}
-use Rattle.schedules.specs.Schedules.{flowsOf, tableOf, runTable, runningOf, judgingOf, listAfter}
+use Rattle.schedules.specs.Schedules.{tableOf, runTable, runningOf, judgingOf, listAfter}
 use Rattle.schedules.specs.SchedulesLaws.{step-within, end-all, end-fault}
 use Rattle.schedules.specs.Ends.{runs-short, runs-long, writes-short, writes-long, judges-length, judges-ends}
 
@@ -90,19 +91,13 @@ module _ {a b : Study} (h : Restamped a b) where
       (λ k l. ap (λ (p : ℕ). scheduleAfter b (rowAt zs p) k) same-places ∙ same-schedule h (proposedAt a zs) k l)
 
   -- the same rows
-  same-flows : (k : ℕ) → k ≤ a .steps → flowsOf b k ≡ flowsOf a k
-  unfolding flowsOf
-  same-flows zero l = refl
-  same-flows (suc k) l =
-      ap (λ (x : List ℕ). x ++ outflowsAt b k) (same-flows k (omega arith)) ∙ ap (λ (x : List ℕ). flowsOf a k ++ x) (same-outflows h k l)
-
   pub same-rows : (list : List ℕ) → runTable b list ≡ runTable a list
-  unfolding tableOf
   same-rows list =
       let k = firstStep (runSays a) (a .steps) in
+      let l : k ≤ a .steps = step-within (runSays a) (a .steps) in
       ap (tableOf b list) run-first
-      ∙ ap (λ (x : List ℕ). x ++ drop (k * places b) list) (same-flows k (step-within (runSays a) (a .steps)))
-      ∙ ap (λ (p : ℕ). flowsOf a k ++ drop (k * p) list) same-places
+      ∙ front-same (outflowsAt b) (outflowsAt a) (places b) list k (λ i m. same-outflows h i (omega arith))
+      ∙ ap (λ (p : ℕ). frontOf (outflowsAt a) p list k) same-places
 
 -- of two records that are taken with one table of lanes: running and judging answer alike, and running leaves the same list
 module _ (s t lanes : List ℕ) (first : Taken s lanes) (other : Taken t lanes) (h : Restamped (studyOf s lanes) (studyOf t lanes)) (list : List ℕ) where

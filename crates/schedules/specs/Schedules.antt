@@ -1,11 +1,11 @@
 -- docs/MODEL.md, 'Running' and 'Judging': step by step over the rows of a study. Assumes nothing.
 use mathlib.Core.Bool.{cond}
-use mathlib.Core.List.{List, [], _++_}
-use Prim.Native.Nat.{ℕ, zero, suc, _*_}
+use mathlib.Core.List.{List}
+use Prim.Native.Nat.{ℕ}
 use lib.Dec.{leb, eqb}
-use lib.ListN.{length, drop}
+use lib.ListN.{length}
 use Rattle.numbers.specs.First.{unless, firstFault}
-use Rattle.rows.specs.Tables.{rowAt}
+use Rattle.rows.specs.Tables.{rowAt, frontOf}
 use Rattle.road.specs.declared.Road.{Road}
 use Rattle.road.specs.declared.State.{State}
 use Rattle.road.specs.declared.Ended.{Ended}
@@ -15,7 +15,7 @@ use Rattle.road.specs.Study.{Study, roadAt, places, tableSize}
 use Rattle.model.specs.Step.{Fault, releasesOf, tableFault}
 use Rattle.model.specs.Verdict.{verdictOf}
 use Rattle.model.specs.Runs.{scheduleAfter, engineAfter, outflowsAt}
-use Rattle.reading.specs.Reading.{readingOf, studyOf}
+use Rattle.reading.specs.Reading.{ReadAnswer, refusedOf, readingOf, studyOf}
 
 -- a schedule is a table of outflows, gate first, one row a step: its row k
 abbrev pub proposedAt : Study → List ℕ → ℕ → List ℕ
@@ -75,36 +75,40 @@ judgeEnd a zs = endOf a (judgeSays a zs) (scheduledAt a zs)
 abbrev pub lanesFault : Study → Fault
 lanesFault a = tableFault (a .lanes) (a .road .n) (a .steps)
 
--- running takes a record, a table of lanes and a lent list: the refusals of reading; 17 and 18; 11, list shorter than T × (n + 1); then 9 or 10 with its
--- step and cell
+-- a record is opened with a table of lanes: the refusals of reading, then 17 and 18; otherwise what reading gives
+unfoldable pub openingOf : List ℕ → List ℕ → ReadAnswer
+openingOf bytes lanes =
+    let f = lanesFault (studyOf bytes lanes) in
+    unless (eqb (readingOf bytes .number) 0) (readingOf bytes)
+    (unless (eqb (f .number) 0) (refusedOf (f .number) (f .place))
+    (readingOf bytes))
+
+-- a record that isn't opened is refused so by running and judging alike
+abbrev pub unlessOpened : List ℕ → List ℕ → EndAnswer → EndAnswer
+unlessOpened bytes lanes e =
+    unless (eqb (openingOf bytes lanes .number) 0) (noState (openingOf bytes lanes .number) (openingOf bytes lanes .place)) e
+
+-- running takes a record, a table of lanes and a lent list: 11, list shorter than T × (n + 1); then 9 or 10 with its step and cell
 unfoldable pub runningOf : List ℕ → List ℕ → List ℕ → EndAnswer
 runningOf bytes lanes list =
-    unless (eqb (readingOf bytes .number) 0) (noState (readingOf bytes .number) (readingOf bytes .place))
-    (unless (eqb (lanesFault (studyOf bytes lanes) .number) 0) (noState (lanesFault (studyOf bytes lanes) .number) (lanesFault (studyOf bytes lanes) .place))
+    unlessOpened bytes lanes
     (unless (leb (tableSize (studyOf bytes lanes)) (length list)) (noState 11 0)
-    (runEnd (studyOf bytes lanes))))
+    (runEnd (studyOf bytes lanes)))
 
--- judging takes a record, a table of lanes and a proposed schedule: the refusals of reading; 17 and 18; 12, list not of length T × (n + 1); then, step by step, 9 or 10,
--- and 13 or 14
+-- judging takes a record, a table of lanes and a proposed schedule: 12, list not of length T × (n + 1); then, step by step, 9 or 10, and 13 or 14
 unfoldable pub judgingOf : List ℕ → List ℕ → List ℕ → EndAnswer
 judgingOf bytes lanes zs =
-    unless (eqb (readingOf bytes .number) 0) (noState (readingOf bytes .number) (readingOf bytes .place))
-    (unless (eqb (lanesFault (studyOf bytes lanes) .number) 0) (noState (lanesFault (studyOf bytes lanes) .number) (lanesFault (studyOf bytes lanes) .place))
+    unlessOpened bytes lanes
     (unless (eqb (length zs) (tableSize (studyOf bytes lanes))) (noState 12 0)
-    (judgeEnd (studyOf bytes lanes) zs)))
+    (judgeEnd (studyOf bytes lanes) zs))
 
 -- how many steps an answer has made: all T, or those before the refused one (none where no step is named)
 abbrev pub stepsMade : Study → EndAnswer → ℕ
 stepsMade a e = cond (eqb (e .number) 0) (a .steps) (e .step)
 
--- the engine's rows of the first k steps
-unfoldable pub flowsOf : Study → ℕ → List ℕ
-flowsOf a zero = []
-flowsOf a (suc k) = flowsOf a k ++ outflowsAt a k
-
--- the lent list with these rows written in front
-unfoldable pub tableOf : Study → List ℕ → ℕ → List ℕ
-tableOf a list k = flowsOf a k ++ drop (k * places a) list
+-- the lent list with the engine's rows of the first k steps written in front
+abbrev pub tableOf : Study → List ℕ → ℕ → List ℕ
+tableOf a list k = frontOf (outflowsAt a) (places a) list k
 
 -- the lent list after a run step by step: the rows before its end
 abbrev pub runTable : Study → List ℕ → List ℕ

@@ -7,10 +7,12 @@ use Prim.Native.Nat.{ℕ, zero, suc, _+_, _*_, _≤_, _<_}
 use native.Mathlib.Nat.{mul-le-mul}
 use native.Mathlib.Omega.{arith}
 use lib.Dec.{leb, eqb}
-use lib.ListN.{length, drop}
+use lib.ListN.{length}
 use Rattle.numbers.specs.Lists.{at}
 use Rattle.numbers.specs.First.{unless}
 use Rattle.numbers.specs.FirstLaws.{first-none, all-true}
+use Rattle.rows.specs.Tables.{frontOf}
+use Rattle.rows.specs.TablesLaws.{front-same}
 use Rattle.lanes.specs.Lanes.{lanesAt, builtIn, openIn, tableAt, tableBytes}
 use Rattle.lanes.specs.LanesLaws.{lanes-all}
 use Rattle.road.specs.declared.Road.{Road}
@@ -20,14 +22,15 @@ use Rattle.limits.specs.LimitsLaws.{RoadOk}
 use Rattle.model.specs.Move.{nextOf}
 use Rattle.model.specs.Rules.{outflowsOf}
 use Rattle.model.specs.Step.{Fault, fault, releasesOf, tableFault}
-use Rattle.model.specs.StepLaws.{table-passes}
+use Rattle.model.specs.StepLaws.{number-of, table-passes}
 use Rattle.model.specs.Verdict.{verdictOf}
-use Rattle.model.specs.Runs.{scheduleAfter, engineAfter}
+use Rattle.model.specs.Runs.{scheduleAfter, engineAfter, outflowsAt}
 use Rattle.model.specs.Opened.{same-road, other-road, opened-all}
 use Rattle.reading.specs.Reading.{readingOf, studyOf}
 use Rattle.reading.specs.Within.{read-within}
-use Rattle.schedules.specs.Schedules.{proposedAt, scheduledAt, EndAnswer, noState, endOf, runEnd, judgeEnd, runningOf, judgingOf, stepsMade}
-use Rattle.schedules.specs.Schedules.{flowsOf, tableOf, listAfter}
+use Rattle.schedules.specs.Schedules.{proposedAt, scheduledAt, EndAnswer, noState, endOf, openingOf, runEnd, judgeEnd, runningOf, judgingOf}
+use Rattle.schedules.specs.Schedules.{stepsMade, tableOf, listAfter}
+use Rattle.schedules.specs.Opening.{opening-same, opening-empty}
 use Rattle.schedules.specs.SchedulesLaws.{step-within, end-made, end-same}
 
 -- the engine's state and a schedule's after k steps, on one road
@@ -49,11 +52,10 @@ plainJudge a zs =
     (λ k. verdictOf (a .road) (plainScheduled (a .road) (a .start) (a .rows) (proposedAt a zs) k) (a .rows k) (proposedAt a zs k))
     (plainScheduled (a .road) (a .start) (a .rows) (proposedAt a zs))
 
-unfoldable pub plainFlows : Road → State → (ℕ → List ℕ) → ℕ → List ℕ
-plainFlows r s rows zero = []
-plainFlows r s rows (suc k) = plainFlows r s rows k ++ outflowsOf r (plainAfter r s rows k) (rows k)
+abbrev pub plainOutflows : Study → ℕ → List ℕ
+plainOutflows a k = outflowsOf (a .road) (plainAfter (a .road) (a .start) (a .rows) k) (a .rows k)
 
--- running and judging of a record without closures: 1 to 6, 11 or 12, then step by step
+-- running and judging of a record without closures: the refusals of reading, 11 or 12, then step by step
 unfoldable pub plainRunning : List ℕ → List ℕ → EndAnswer
 plainRunning bytes list =
     unless (eqb (readingOf bytes .number) 0) (noState (readingOf bytes .number) (readingOf bytes .place))
@@ -69,8 +71,7 @@ plainJudging bytes zs =
 unfoldable pub plainList : List ℕ → List ℕ → List ℕ
 plainList bytes list =
     let a = studyOf bytes [] in
-    let k = stepsMade a (plainRunning bytes list) in
-    plainFlows (a .road) (a .start) (a .rows) k ++ drop (k * places a) list
+    frontOf (plainOutflows a) (places a) list (stepsMade a (plainRunning bytes list))
 
 -- a study whose road is the same in each of its steps
 module _ (a : Study) (one : (k : ℕ) → k < a .steps → roadAt a k ≡ a .road) where
@@ -93,23 +94,22 @@ module _ (a : Study) (one : (k : ℕ) → k < a .steps → roadAt a k ≡ a .roa
       end-same a _ _ (scheduledAt a zs) (plainScheduled (a .road) (a .start) (a .rows) (proposedAt a zs))
       (λ k l. rw (one k l, scheduled-plain (proposedAt a zs) k (omega arith)) refl) (scheduled-plain (proposedAt a zs))
 
-  flows-plain : (k : ℕ) → k ≤ a .steps → flowsOf a k ≡ plainFlows (a .road) (a .start) (a .rows) k
-  unfolding flowsOf plainFlows
-  flows-plain zero l = refl
-  flows-plain (suc k) l = rw (flows-plain k (omega arith), one k l, after-plain k (omega arith)) refl
+  table-plain : (list : List ℕ) (k : ℕ) → k ≤ a .steps → tableOf a list k ≡ frontOf (plainOutflows a) (places a) list k
+  table-plain list k l =
+      front-same (outflowsAt a) (plainOutflows a) (places a) list k (λ i m. rw (one i (omega arith), after-plain i (omega arith)) refl)
 
 -- the empty table: one road
 module _ (bytes : List ℕ) where
-  empty-one : (k : ℕ) → k < studyOf bytes [] .steps → roadAt (studyOf bytes []) k ≡ studyOf bytes [] .road
+  pub empty-one : (k : ℕ) → k < studyOf bytes [] .steps → roadAt (studyOf bytes []) k ≡ studyOf bytes [] .road
   empty-one k l = sym (same-road (studyOf bytes []) refl k)
 
   pub empty-runs : (list : List ℕ) → runningOf bytes [] list ≡ plainRunning bytes list
-  unfolding runningOf plainRunning tableFault
-  empty-runs list = rw (run-plain (studyOf bytes []) empty-one) refl
+  unfolding runningOf plainRunning
+  empty-runs list = rw (opening-empty bytes, run-plain (studyOf bytes []) empty-one) refl
 
   pub empty-judges : (zs : List ℕ) → judgingOf bytes [] zs ≡ plainJudging bytes zs
-  unfolding judgingOf plainJudging tableFault
-  empty-judges zs = rw (judge-plain (studyOf bytes []) empty-one zs) refl
+  unfolding judgingOf plainJudging
+  empty-judges zs = rw (opening-empty bytes, judge-plain (studyOf bytes []) empty-one zs) refl
 
   -- no more steps than T are made
   made : (list : List ℕ) → stepsMade (studyOf bytes []) (plainRunning bytes list) ≤ studyOf bytes [] .steps
@@ -127,9 +127,9 @@ module _ (bytes : List ℕ) where
       go false c e = rw e (omega arith)
 
   pub empty-writes : (list : List ℕ) → listAfter bytes [] list ≡ plainList bytes list
-  unfolding listAfter plainList tableOf
+  unfolding listAfter plainList
   empty-writes list =
-      rw (empty-runs list, flows-plain (studyOf bytes []) empty-one (stepsMade (studyOf bytes []) (plainRunning bytes list)) (made list)) refl
+      rw (empty-runs list) (table-plain (studyOf bytes []) empty-one list (stepsMade (studyOf bytes []) (plainRunning bytes list)) (made list))
 
 -- a table that opens all built lanes in every row
 pub record AllOpen (table : List ℕ) (n T : ℕ) : Type 0 where
@@ -150,44 +150,47 @@ module _ (bytes table : List ℕ) (reads : readingOf bytes .number ≡ 0) (h : A
       let t : 1 ≤ a .steps + 1 = omega arith in
       omega (arith, h .right, z, mul-le-mul (road-ok .some) t)
 
-  passes : tableFault table (a .road .n) (a .steps) ≡ fault 0 0
-  passes =
+  pub open-passes : tableFault table (studyOf bytes table .road .n) (studyOf bytes table .steps) ≡ fault 0 0
+  open-passes =
       let n = a .road .n in
       let T = a .steps in
       table-passes table n T some (h .right) (first-none (tableAt table n T) n
       (λ i l. all-true (λ k. lanesAt (builtIn table n) (openIn table n k) i) T (λ k m. rw (h .all k m) (lanes-all (at (builtIn table n) i) (h .some i l)))))
 
-  one : (k : ℕ) → k < studyOf bytes table .steps → roadAt (studyOf bytes table) k ≡ studyOf bytes table .road
-  one k l =
+  opens : openingOf bytes table ≡ readingOf bytes
+  opens = opening-same bytes table (number-of open-passes)
+
+  pub open-one : (k : ℕ) → k < studyOf bytes table .steps → roadAt (studyOf bytes table) k ≡ studyOf bytes table .road
+  open-one k l =
       sym (other-road a some k)
       ∙ opened-all (a .road) (builtIn table (a .road .n)) (openIn table (a .road .n) k) road-ok
       (λ i m. (h .some i m, ap (λ (x : List ℕ). at x i) (h .all k l)))
 
   open-run : runEnd a ≡ plainRun (studyOf bytes [])
   unfolding endOf
-  open-run = run-plain a one
+  open-run = run-plain a open-one
 
   open-judge : (zs : List ℕ) → judgeEnd a zs ≡ plainJudge (studyOf bytes []) zs
   unfolding endOf
-  open-judge zs = judge-plain a one zs
+  open-judge zs = judge-plain a open-one zs
 
   pub open-runs : (list : List ℕ) → runningOf bytes table list ≡ runningOf bytes [] list
   unfolding runningOf plainRunning
   open-runs list = plain ∙ sym (empty-runs bytes list)
     where
       plain : runningOf bytes table list ≡ plainRunning bytes list
-      plain = rw (passes, open-run) refl
+      plain = rw (opens, open-run) refl
 
   pub open-judges : (zs : List ℕ) → judgingOf bytes table zs ≡ judgingOf bytes [] zs
   unfolding judgingOf plainJudging
   open-judges zs = plain ∙ sym (empty-judges bytes zs)
     where
       plain : judgingOf bytes table zs ≡ plainJudging bytes zs
-      plain = rw (passes, open-judge zs) refl
+      plain = rw (opens, open-judge zs) refl
 
   pub open-writes : (list : List ℕ) → listAfter bytes table list ≡ listAfter bytes [] list
-  unfolding listAfter plainList tableOf
+  unfolding listAfter plainList
   open-writes list = plain ∙ sym (empty-writes bytes list)
     where
       plain : listAfter bytes table list ≡ plainList bytes list
-      plain = rw (open-runs list, empty-runs bytes list, flows-plain a one (stepsMade a (plainRunning bytes list)) (made bytes list)) refl
+      plain = rw (open-runs list, empty-runs bytes list) (table-plain a open-one list (stepsMade a (plainRunning bytes list)) (made bytes list))

@@ -24,8 +24,8 @@ use Rattle.model.specs.RunsLaws.{StudyOk}
 use Rattle.reading.specs.Reading.{readingOf, studyOf}
 use Rattle.reading.specs.Numbers.{read-numbers}
 use Rattle.schedules.specs.Schedules.{proposedAt, scheduledAt, runSays, judgeSays, firstStep, EndAnswer, noState, runEnd, judgeEnd, runningOf, judgingOf}
-use Rattle.schedules.specs.Schedules.{stepsMade, flowsOf, tableOf, listAfter}
-use Rattle.schedules.specs.TableLaws.{length-flows, flows-row, table-row, table-front}
+use Rattle.schedules.specs.Schedules.{stepsMade, tableOf, listAfter}
+use Rattle.schedules.specs.TableLaws.{flowsOf, length-flows, flows-row, table-row, table-front}
 use Rattle.schedules.specs.SchedulesLaws.{step-within, end-made, end-state, end-road, end-number, run-began, obeys-faults, faults-obeys}
 use Rattle.schedules.specs.Ends.{runs-short, runs-long, writes-short, writes-long, judges-length, judges-ends}
 use Rattle.schedules.specs.Readable.{readable}

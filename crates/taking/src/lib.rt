@@ -1,45 +1,47 @@
-// A record's rows and start, as writing takes them.
+// A record's rows in one list, as writing takes them.
 use road::Road;
-use road::Start;
-use road::State;
+ghost use mathlib.Core.Path.{_≡_};
+ghost use Prim.Native.Nat.{_≤_};
+ghost use lib.ListN.{length, take};
+ghost use Rattle.road.specs.Road.{mostCells};
+ghost use Rattle.fields.specs.Fields.{rowNumbers};
+ghost use Rattle.taking.specs.Taking.{takenCount, takenList};
 
-// Puts the 1 + 2n numbers of a row from `at` on, and answers where they end.
-fn put_row(list: &mut [u32], at: usize, row: [u32; 129], n: usize) -> usize {
-    if Road::CELLS < n {
-        return at;
-    }
-    if list.len() < at {
-        return at;
-    }
-    if list.len() - at < 1 + 2 * n {
-        return at;
-    }
+// Puts the first numbers of a row into a lent part, as many as it has.
+fn put_numbers(part: &mut [u32], row: [u32; 129])
+    requires { ⌜ length (now part) ≤ rowNumbers mostCells ⌝ }
+    ensures { λ r. ⌜ now (part .exit) ≡ take (length (now (part .entry))) row ⌝ }
+{
     let mut k = 0;
-    while k < 1 + 2 * n {
-        list[at + k] = row[k];
+    while k < part.len() {
+        part[k] = row[k];
         k += 1;
     }
-    at + k
 }
 
-// Puts a record's rows into a list, one after the other, and answers where they end.
-pub fn rows(bytes: &[u8], n: usize, steps: usize, list: &mut [u32]) -> usize {
-    let mut end = 0;
+// Puts the rows of the first steps into a list, one after the other, and answers how many numbers they have; 0 where there is no room for them.
+pub fn rows(bytes: &[u8], n: usize, steps: usize, list: &mut [u32]) -> usize
+    ensures count { λ c. ⌜ c ≡ takenCount n steps (length (now (list .entry))) ⌝ }
+    ensures list { λ c. ⌜ now (list .exit) ≡ takenList (now (bytes .entry)) n steps (now (list .entry)) ⌝ }
+{
+    if Road::CELLS < n {
+        return 0;
+    }
+    if Road::STEPS < steps {
+        return 0;
+    }
+    let numbers = 1 + 2 * n;
+    if list.len() < steps * numbers {
+        return 0;
+    }
+    let mut from = 0;
     let mut t = 0;
     while t < steps {
-        end = put_row(list, end, freeway::row(bytes, n, t), n);
+        let row = rowing::row(bytes, n, t);
+        let end = from + numbers;
+        put_numbers(&mut list[from..end], row);
+        from = end;
         t += 1;
     }
-    end
-}
-
-// What a state that was read started from.
-pub fn start(state: State) -> Start {
-    let held = state.held;
-    let queue = state.queue;
-    Start {
-        gate_queue: state.gate_queue,
-        held: held,
-        queue: queue,
-    }
+    from
 }

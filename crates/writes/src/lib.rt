@@ -1,9 +1,10 @@
-// The cases of writing: a record written, a record read and written again, and the numbers of a row.
+// The cases of writing: a record written, a record read and written again, the numbers of a row, and all rows in one list.
 use answers::line;
 use frames::case;
 use frames::case::Case;
 use frames::field;
 use frames::input;
+use frames::lent;
 use road::Reading;
 
 // How much longer the target of a record written again is.
@@ -66,6 +67,34 @@ pub fn row(record: &mut [u8], out: &mut [u8], at: usize) -> Case {
     row_line(&record[..size], n, t, out, at)
 }
 
+// The line of the rows of a record in the list that was lent.
+fn rows_line(
+    bytes: &[u8],
+    n: usize,
+    steps: usize,
+    list: &mut [u32],
+    out: &mut [u8],
+    at: usize,
+) -> Case {
+    lent::list(list);
+    let count = freeway::rows(bytes, n, steps, list);
+    case::whole(line::of_rows(out, at, count, list))
+}
+
+pub fn rows(record: &mut [u8], list: &mut [u32], out: &mut [u8], at: usize) -> Case {
+    let n = input::size();
+    let steps = input::size();
+    let length = input::size();
+    if list.len() < length {
+        return case::cut();
+    }
+    let size = input::bytes(record);
+    if record.len() < size {
+        return case::cut();
+    }
+    rows_line(&record[..size], n, steps, &mut list[..length], out, at)
+}
+
 // The line's end, of what was read and these rows.
 fn again_line(
     reading: Reading,
@@ -75,7 +104,8 @@ fn again_line(
     at: usize,
 ) -> Case {
     lend(target);
-    let start = taking::start(reading.state);
+    let state = reading.state;
+    let start = state.start();
     let written = freeway::write(reading.road, reading.steps, start, rows, target);
     case::whole(line::of_again(out, at, written, target))
 }
@@ -84,7 +114,7 @@ fn again_line(
 pub fn again(bytes: &[u8], list: &mut [u32], target: &mut [u8], out: &mut [u8], at: usize) -> Case {
     let reading = freeway::read(bytes);
     let road = reading.road;
-    let length = taking::rows(bytes, road.n, reading.steps, list);
+    let length = freeway::rows(bytes, road.n, reading.steps, list);
     if list.len() < length {
         return case::cut();
     }

@@ -4,10 +4,10 @@ use mathlib.Core.Bool.{Bool, true, false, cond}
 use mathlib.Core.List.{List, _++_}
 use Prim.Native.Nat.{ℕ, _+_, _*_, _≤_, _<_}
 use native.Mathlib.Omega.{arith}
-use lib.Dec.{leb, eqb}
+use lib.Dec.{leb}
 use lib.ListN.{length, drop}
 use borrow.Author.Tests.{leb-true, eqb-true, eq-eqb, ne-eqb}
-use Rattle.numbers.specs.First.{unless, oneOf, firstOf, allOf}
+use Rattle.numbers.specs.First.{unless, oneOf, allOf}
 use Rattle.numbers.specs.FirstLaws.{all-at}
 use Rattle.rows.specs.Tables.{rowAt}
 use Rattle.rows.specs.TablesLaws.{row-ends}
@@ -18,7 +18,7 @@ use Rattle.road.specs.Road.{mostBytes}
 use Rattle.road.specs.Study.{Study}
 use Rattle.fields.specs.Fields.{rowNumbers}
 use Rattle.limits.specs.Limits.{placeOk}
-use Rattle.reading.specs.Reading.{sizeOf, bothVersions, cellsAndStepsOk, secondsOk}
+use Rattle.reading.specs.Reading.{sizeOf, bothVersions, secondsOk}
 use Rattle.reading.specs.ReadingLaws.{Counts, counts-facts}
 use Rattle.putting.specs.Record.{recordSize, recordOf, given}
 use Rattle.putting.specs.Putting.{Fits, length-record, record-stands}

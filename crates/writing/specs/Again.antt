@@ -1,5 +1,5 @@
 -- A record that was read and is written again has the same bytes. Assumes nothing.
-use mathlib.Core.Path.{_≡_, refl, sym, ap, _∙_}
+use mathlib.Core.Path.{_≡_, refl, ap, _∙_}
 use mathlib.Core.List.{List, _++_}
 use Prim.Native.Nat.{ℕ, _+_, _-_, _*_, _≤_, _<_}
 use native.Mathlib.Omega.{arith}
@@ -11,11 +11,9 @@ use Rattle.rows.specs.Concat.{concat-same}
 use Rattle.rows.specs.Tables.{rowAt}
 use Rattle.rows.specs.TablesLaws.{row-ends}
 use Rattle.road.specs.declared.Road.{Road}
-use Rattle.road.specs.declared.State.{State}
-use Rattle.road.specs.declared.Start.{Start}
-use Rattle.road.specs.Road.{startState}
+use Rattle.road.specs.Road.{startState, startIn}
 use Rattle.road.specs.Study.{Study}
-use Rattle.fields.specs.Fields.{countSize, versionOf, secondsSize, headerSize, gateCapacityOffset, gateQueueOffset, cellSize, shortSize, numberSize}
+use Rattle.fields.specs.Fields.{countSize, versionOf, secondsSize, headerSize, gateQueueOffset, cellSize, shortSize, numberSize}
 use Rattle.fields.specs.Fields.{rowNumbers, rowSize, rowStart, numberOf, recordRow, bytesOf}
 use Rattle.fields.specs.FieldsLaws.{Column, row-at}
 use Rattle.fields.specs.BytesLaws.{partOf, part-join, part-next, part-concat, bytes-part}
@@ -24,10 +22,6 @@ use Rattle.reading.specs.Found.{Accepted}
 use Rattle.reading.specs.Numbers.{Numbers, read-numbers}
 use Rattle.reading.specs.Within.{read-within}
 use Rattle.putting.specs.Record.{headerOf, cellOf, headerBytes, cellBytes, rowBytes, recordOf, given}
-
--- the start of a state before step 0
-abbrev pub startIn : State → Start
-startIn s = record { «gate_queue» = s .«gate_queue»; held = s .held; queue = s .queue }
 
 module _ (s : List ℕ) (small : (i : ℕ) → at s i < 256) (reads : readingOf s .number ≡ 0) (rows : List ℕ)
     (same : (t : ℕ) → t < readingOf s .steps → rowAt rows (rowNumbers (readingOf s .road .n)) t ≡ recordRow s (readingOf s .road .n) t) where

@@ -3,7 +3,6 @@ use mathlib.Core.Path.{_≡_, refl, sym, ap, _∙_}
 use mathlib.Core.Bool.{Bool, true, false}
 use mathlib.Core.List.{List}
 use Prim.Native.Nat.{ℕ, _+_, _*_, _≤_, _<_}
-use native.Mathlib.Nat.{mul-le-mul}
 use native.Mathlib.Omega.{arith}
 use lib.Dec.{leb, eqb}
 use lib.ListN.{length}
@@ -112,11 +111,7 @@ module _ (a : Study) (numbers : ℕ) where
       go true false w x y eu ev ew ex ey k = absurd (omega arith)
       go false v w x y eu ev ew ex ey k = absurd (omega arith)
 
--- the count of all numbers is computed in 64 bits
-pub numbers-small : {n T : ℕ} → Counts n T → T * rowNumbers n ≤ mostSteps * rowNumbers mostCells
-numbers-small {n} {T} c = let k : rowNumbers n ≤ rowNumbers mostCells = omega (arith, c .cells) in mul-le-mul (c .steps) k
-
--- the loop over them: those of the t steps passed are within their limits, and the next begins at `from`
+-- the loop over the rows: those of the t steps passed are within their limits, and the next begins at `from`
 pub record Passed (ramp rows : List ℕ) (n T from t : ℕ) : Type 0 where
   pub within : t ≤ T
   pub place : from ≡ t * rowNumbers n

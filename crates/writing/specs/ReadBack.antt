@@ -32,7 +32,7 @@ use Rattle.reading.specs.ReadingLaws.{known-most, least-both}
 use Rattle.putting.specs.Record.{headerBytes, cellBytes, recordOf, given}
 use Rattle.putting.specs.Putting.{length-record}
 use Rattle.writing.specs.Accepted.{Accepted}
-use Rattle.writing.specs.Cut.{cutOf, keptSeconds, cutRoad, cutState, kept-second, kept-none, kept-ok, cut-road, cut-state, cut-row}
+use Rattle.writing.specs.Cut.{cutOf, keptSeconds, cutRoad, cutState, kept-ok, cut-road, cut-state, cut-row}
 use Rattle.writing.specs.Stands.{HeaderFields, header-fields, CellFields, cell-fields, in-header, in-cell, in-row}
 
 module _ (road : Road) (T : ℕ) (start : Start) (rows : List ℕ) (room : ℕ) (ok : Accepted (given road T start rows) (length rows) room) where

@@ -13,7 +13,7 @@ use Rattle.rows.specs.Tables.{rowAt}
 use Rattle.road.specs.declared.Road.{Road}
 use Rattle.road.specs.declared.State.{State}
 use Rattle.road.specs.declared.Start.{Start}
-use Rattle.road.specs.Road.{zeros, startState}
+use Rattle.road.specs.Road.{zeros, startState, startIn}
 use Rattle.road.specs.Study.{Study}
 use Rattle.fields.specs.Fields.{secondVersion, rowNumbers, recordRow}
 use Rattle.limits.specs.Limits.{placeOk, rowOk}
@@ -28,7 +28,7 @@ use Rattle.writing.specs.Checks.{answer-written, by-given}
 use Rattle.writing.specs.Accepted.{given-accepted, refused-count, target-refused, target-written}
 use Rattle.writing.specs.Cut.{cutRoad, cutState, kept-second, kept-none}
 use Rattle.writing.specs.ReadBack.{reads-back, rows-read}
-use Rattle.writing.specs.Again.{startIn, same-bytes}
+use Rattle.writing.specs.Again.{same-bytes}
 
 -- the record's bytes in the target
 abbrev pub savedOf : Road → ℕ → Start → List ℕ → List ℕ → List ℕ
@@ -72,6 +72,15 @@ module _ (road : Road) (T : ℕ) (start : Start) (rows target : List ℕ) where
   pub saved-road : Saved → (lanes : List ℕ) → studyOf (savedOf road T start rows target) lanes .road ≡ cutRoad road
   saved-road k lanes = rw (k .reads)
 
+  pub saved-start : Saved → (lanes : List ℕ) → studyOf (savedOf road T start rows target) lanes .start ≡ cutState (road .n) (startState start)
+  saved-start k lanes = rw (k .reads)
+
+  pub saved-steps : Saved → (lanes : List ℕ) → studyOf (savedOf road T start rows target) lanes .steps ≡ T
+  saved-steps k lanes = rw (k .reads)
+
+  pub saved-rows : Saved → (lanes : List ℕ) (t : ℕ) → t < T → studyOf (savedOf road T start rows target) lanes .rows t ≡ rowAt rows (rowNumbers (road .n)) t
+  saved-rows k lanes t l = rw (k .reads) (k .row t l)
+
   -- it keeps the version, and in version 2 the seconds; in version 1 they are 0
   pub saved-version : Saved → readingOf (savedOf road T start rows target) .road .version ≡ road .version
   saved-version k = rw (k .reads)
@@ -81,15 +90,6 @@ module _ (road : Road) (T : ℕ) (start : Start) (rows target : List ℕ) where
 
   pub saved-untimed : Saved → (road .version ≡ secondVersion → ⊥) → readingOf (savedOf road T start rows target) .road .seconds ≡ 0
   saved-untimed k h = rw (k .reads) (kept-none (road .version) (road .seconds) h)
-
-  pub saved-start : Saved → (lanes : List ℕ) → studyOf (savedOf road T start rows target) lanes .start ≡ cutState (road .n) (startState start)
-  saved-start k lanes = rw (k .reads)
-
-  pub saved-steps : Saved → (lanes : List ℕ) → studyOf (savedOf road T start rows target) lanes .steps ≡ T
-  saved-steps k lanes = rw (k .reads)
-
-  pub saved-rows : Saved → (lanes : List ℕ) (t : ℕ) → t < T → studyOf (savedOf road T start rows target) lanes .rows t ≡ rowAt rows (rowNumbers (road .n)) t
-  saved-rows k lanes t l = rw (k .reads) (k .row t l)
 
 -- a state before step 0 is that of its start
 start-state : (q : State) → q .done ≡ 0 → q .«gate_time» ≡ 0 → q .«road_time» ≡ 0 → q .«ramp_time» ≡ 0

@@ -66,6 +66,16 @@ impl Cases {
         self.list.push(Case::Row { n, t, bytes });
     }
 
+    pub fn rows(&mut self, n: u32, steps: u32, length: usize, bytes: &[u8]) {
+        assert!(bytes.len() <= MAX_RECORD && length <= MAX_ROWS);
+        self.list.push(Case::Rows {
+            n,
+            steps,
+            length,
+            bytes: bytes.to_vec(),
+        });
+    }
+
     pub fn fill(&mut self, input: &FillInput) {
         assert!(input.record.len() <= MAX_RECORD && input.length <= MAX_LIST);
         assert!(input.lanes.len() <= MAX_LANES);

@@ -39,6 +39,10 @@
 //!      u32 last release, u32 entered, u32 held, u32 cap
 //! 'C'  the capacity that open lanes leave
 //!      u32 C, at most 1,000,000, u8 lanes built, u8 lanes open
+//! 'T'  the rows of a record in one list
+//!      u32 n, u32 T, the number of steps
+//!      u32 L, the lent list's length
+//!      u32 B, B bytes of a record, whole or not
 //!
 //! road   u32 n, u32 gate capacity, 64 x (u16 v, w, b, ramp mark), 64 x (u32 J, C),
 //!        u32 version (0 to 255), u32 seconds (0 to 65,535)
@@ -54,8 +58,8 @@
 //! is read as 0. A number marked - is not looked at, whatever its bits.
 //!
 //! Counts are within these limits: B at most 65,540; L of 'U' and 'F', Y and Z
-//! at most 9,000; K of 'S' at most 200; K of 'W' at most 16,512; L of 'W' at
-//! most 65,600. No frame has more than 110,553 bytes. `report` says what each
+//! at most 9,000; K of 'S' at most 200; K of 'W' and L of 'T' at most 16,512; L
+//! of 'W' at most 65,600. No frame has more than 110,553 bytes. `report` says what each
 //! frame must print.
 
 use crate::fill::Laws;
@@ -71,7 +75,7 @@ pub const MAX_LIST: usize = 9_000;
 pub const MAX_LANES: usize = 9_000;
 /// Most numbers of a row.
 pub const MAX_ROW: usize = 200;
-/// Most numbers of all rows to be written.
+/// Most numbers of all rows to be written, and of a list lent for rows.
 pub const MAX_ROWS: usize = 16_512;
 /// Greatest length of a target to be written.
 pub const MAX_TARGET: usize = 65_600;
@@ -105,6 +109,12 @@ pub enum Case {
         capacity: u32,
         built: u8,
         open: u8,
+    },
+    Rows {
+        n: u32,
+        steps: u32,
+        length: usize,
+        bytes: Vec<u8>,
     },
 }
 
@@ -269,6 +279,18 @@ impl Case {
                 put(out, *capacity);
                 out.extend([*built, *open]);
             }
+            Case::Rows {
+                n,
+                steps,
+                length,
+                bytes,
+            } => {
+                out.push(b'T');
+                put(out, *n);
+                put(out, *steps);
+                put(out, *length as u32);
+                put_bytes(out, bytes);
+            }
         }
     }
 }
@@ -406,6 +428,12 @@ impl<'a> Reader<'a> {
                 capacity: self.u32("the capacity")?,
                 built: self.take(1, "the lanes")?[0],
                 open: self.take(1, "the lanes")?[0],
+            }),
+            b'T' => Ok(Case::Rows {
+                n: self.u32("the cells")?,
+                steps: self.u32("the steps")?,
+                length: self.count("the list's length", MAX_ROWS)?,
+                bytes: self.record()?,
             }),
             kind => Err(format!("{kind} is not a kind of frame")),
         }

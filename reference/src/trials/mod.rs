@@ -18,6 +18,7 @@ mod leaves;
 mod meters;
 mod refusals;
 mod roads;
+mod rows;
 mod samples;
 mod steps;
 mod sweep;
@@ -52,6 +53,8 @@ pub fn all_cases() -> Vec<Case> {
     closures::add(&mut cases);
     // Group 9: version 2, refusal 19.
     versions::add(&mut cases, &trials);
+    // Group 10: all rows of a record in one list.
+    rows::add(&mut cases, &trials);
     cases.list
 }
 

@@ -14,6 +14,7 @@
 //! 'F'  fill NUMBER STEP PLACE total T SUMS list D record D
 //! 'L'  wish BITS release RELEASE
 //! 'C'  capacity CAPACITY
+//! 'T'  rows COUNT D
 //!
 //! SUMS   gate G road R ramp W exits E present P digest D
 //! AGAIN  NUMBER PLACE COUNT target D
@@ -33,6 +34,9 @@
 //! every wish that isn't a number; RELEASE is its release under the cap.
 //!
 //! CAPACITY is what the open lanes leave of C, 0 where no lane is built.
+//!
+//! The list of 'T' is lent as running's and digested at its whole lent length.
+//! COUNT is how many of its numbers are the rows', 0 where it stays as lent.
 //!
 //! AGAIN: the record is read; its rows are taken step by step, for each t below
 //! the T that reading gives the first 1 + 2n numbers of its row; the road, T,
@@ -101,6 +105,12 @@ pub fn line(case: &Case) -> Line {
             "capacity {}",
             lanes::open_capacity(*capacity, *built, *open)
         ),
+        Case::Rows {
+            n,
+            steps,
+            length,
+            bytes,
+        } => rows_line(*n as usize, *steps as usize, *length, bytes),
     };
     Line {
         text,
@@ -163,6 +173,12 @@ fn write_line(input: &WriteInput) -> String {
 fn row_line(n: usize, t: usize, bytes: &[u8]) -> String {
     let numbers = record::row_numbers(bytes, n, t);
     format!("row digest {}", digest::of_list(&numbers))
+}
+
+fn rows_line(n: usize, steps: usize, length: usize, bytes: &[u8]) -> String {
+    let mut list = lent(length);
+    let count = record::rows(bytes, n, steps, &mut list);
+    format!("rows {count} {}", digest::of_list(&list))
 }
 
 fn fill_line(input: &FillInput) -> String {

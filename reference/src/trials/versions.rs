@@ -3,7 +3,7 @@
 
 use super::cases::{table_length, Cases};
 use super::dice::Dice;
-use super::frame::{Case, FillInput, LawInput, WriteInput};
+use super::frame::{Case, FillInput, LawInput, WriteInput, MAX_RECORD};
 use super::samples;
 use super::steps;
 use super::trial::Trial;
@@ -173,18 +173,21 @@ const RELEASES: [Change; 8] = [
     |d| (d.cells[2].queue, d.rows[2][6]) = (5_000, 3_000),
 ];
 
-/// No version 2 has just 65,536 bytes: 65,022 are the most of 64 cells, and a
-/// step more has 65,538.
+/// No version 2 has just 65,536 bytes: 65,526 are the most, with 6 cells, and
+/// 65,022 are the most of 64 cells. A step more has 65,578 and 65,538; the first
+/// is cut to what a frame holds.
 fn long(cases: &mut Cases) {
     cases.read(&samples::even(64, 124).timed(20).encode());
-    let longest = samples::even(6, 1_256).timed(20);
+    let longest = samples::even(6, 1_257).timed(20);
     cases.run(table_length(&longest), &longest.encode());
-    cases.read(&samples::even(6, 1_257).timed(20).encode());
+    let mut longer = samples::even(6, 1_258).timed(20);
+    longer.cut = 65_578 - MAX_RECORD;
+    cases.read(&longer.encode());
     cases.read(&samples::even(1, 1_440).timed(900).encode());
 }
 
 /// A record of version 1 as version 2.
-fn timed(record: &[u8], seconds: u16) -> Vec<u8> {
+pub fn timed(record: &[u8], seconds: u16) -> Vec<u8> {
     let mut bytes = [&record[..8], &seconds.to_be_bytes(), &record[8..]].concat();
     let length = bytes.len() as u32 - 4;
     bytes[..4].copy_from_slice(&length.to_be_bytes());

@@ -12,6 +12,7 @@ mod order;
 mod program;
 mod random;
 mod reading;
+mod rows;
 mod running;
 mod stepping;
 mod support;

@@ -53,7 +53,7 @@ fn roads_start(cases: &[Case]) -> usize {
 }
 
 /// One small case of each kind.
-fn small_cases() -> [Case; 9] {
+fn small_cases() -> [Case; 10] {
     let reading = read(&record_of(EXAMPLE));
     [
         Case::Read {
@@ -86,6 +86,12 @@ fn small_cases() -> [Case; 9] {
         Case::Row {
             n: 2,
             t: 1,
+            bytes: vec![0xAA],
+        },
+        Case::Rows {
+            n: 2,
+            steps: 1,
+            length: 9,
             bytes: vec![0xAA],
         },
         Case::Fill(Box::new(FillInput {
@@ -177,7 +183,7 @@ fn small_frames_byte_by_byte() {
 
 #[test]
 fn frames_of_writing_byte_by_byte() {
-    let [_, _, _, _, write, row, ..] = small_cases().map(|case| encoded(&case));
+    let [_, _, _, _, write, row, rows, ..] = small_cases().map(|case| encoded(&case));
     // The road as in a step; T; gate queue, held and queues; rows; length.
     assert_eq!(write.len(), 1 + 1040 + 4 + 516 + 12 + 4);
     let step = encoded(&small_cases()[3]);
@@ -188,6 +194,8 @@ fn frames_of_writing_byte_by_byte() {
     let rest = [0, 0, 0, 2, 0, 0, 0, 6, 0, 0, 0, 7, 0, 0, 0, 130];
     assert_eq!(write[1561..], rest);
     assert_eq!(row, [b'N', 0, 0, 0, 2, 0, 0, 0, 1, 0, 0, 0, 1, 0xAA]);
+    let wanted = [0, 0, 0, 2, 0, 0, 0, 1, 0, 0, 0, 9, 0, 0, 0, 1, 0xAA];
+    assert_eq!(rows, [&b"T"[..], &wanted].concat());
 }
 
 #[test]
@@ -262,6 +270,26 @@ fn lines_of_writing_and_of_rows() {
 }
 
 #[test]
+fn lines_of_all_rows_in_a_list() {
+    let said = |length| {
+        let (n, steps, bytes) = (2, 3, record_of(EXAMPLE));
+        let case = Case::Rows {
+            n,
+            steps,
+            length,
+            bytes,
+        };
+        line(&case).text
+    };
+    let mut list = [1000, 0, 0, 500, 300].repeat(3);
+    assert_eq!(said(15), format!("rows 15 {}", of_list(&list)));
+    list.extend([108, 115]);
+    assert_eq!(said(17), format!("rows 15 {}", of_list(&list)));
+    assert_eq!(said(14), format!("rows 0 {}", of_list(&lent(14))));
+    assert_eq!(said(0), "rows 0 0");
+}
+
+#[test]
 fn a_record_that_reads_is_written_again_and_no_other() {
     let (cases, lines, _) = made();
     let mut again = 0;
@@ -330,6 +358,9 @@ fn frames_beyond_their_limits_are_rejected() {
     let mut write = encoded(&small_cases()[4]);
     write[1573..].copy_from_slice(&65_601_u32.to_be_bytes());
     assert!(error(&write).ends_with("the target's length: 65601 is more than 65600"));
+    // A list of 16,513 numbers for rows.
+    let rows = [b'T', 0, 0, 0, 2, 0, 0, 0, 1, 0, 0, 0x40, 0x81];
+    assert!(error(&rows).ends_with("the list's length: 16513 is more than 16512"));
 }
 
 #[test]
@@ -402,6 +433,7 @@ fn there_are_enough_cases_of_each_kind() {
     assert!(count(0, "step 0 ") >= 200);
     assert!(count(0, "write ") >= 300 && count(0, "write 0 ") >= 150);
     assert!(count(0, "row ") >= 80);
+    assert!(count(0, "rows ") >= 60 && count(0, "rows 0 ") >= 20);
     assert!(count(0, "wish ") >= 1_000);
     assert!(count(0, "fill 0 ") >= 400);
     assert!(count(0, "capacity ") >= 900);

@@ -1,4 +1,6 @@
 -- `fields::header_size` meets its contract. Assumes nothing.
+use mathlib.Core.Path.{ap}
+use Prim.Native.Nat.{ℕ, _+_}
 use native.Mathlib.Omega.{arith}
 use Rattle.fields.specs.FieldsLaws.{seconds-most}
 use borrow.Author.Needs.{needs}
@@ -12,7 +14,7 @@ add-result : tie.Need-add-result
 add-result c = omega (arith, c .seconds-size .ensures, seconds-most (c .before .args .version))
 
 returns : tie.Need-returns
-returns c = search needs
+returns c = ap (λ (seconds : ℕ). 16 + seconds) (c .seconds-size .ensures)
 
 pub header-size-spec : {M : Type 1} → statement M
 header-size-spec = tie.close (tie.spec seconds-size-requires add-result returns)

@@ -1,5 +1,5 @@
 -- `fields::put_seconds` meets its contract. Assumes nothing.
-use mathlib.Core.Path.{_≡_, sym}
+use mathlib.Core.Path.{_≡_}
 use native.Mathlib.Omega.{arith}
 use Rattle.fields.specs.Fields.{shortSize, secondsSize}
 use Rattle.fields.specs.FieldsLaws.{seconds-second, seconds-none}

@@ -10,9 +10,12 @@ use native.Mathlib.Omega.{arith}
 use Rattle.filling.proofs.fill_row.Statement.{statement}
 use Rattle.filling.proofs.fill_row.Tie as tie
 
--- the places: the row read, the releases granted and put, the row read again; and the arguments
+-- the places: the state taken, the row read, the releases granted and put, the row read again; and the arguments
+abbrev to-state : tie.After-row → tie.After-s
+to-state c = c .before .before .before .before
+
 abbrev A : tie.After-row → tie.Start
-A c = c .before .before .before .before .before .before .before
+A c = to-state c .before .before .before
 
 abbrev to-row : tie.After-releases → tie.After-row
 to-row c = c .before .before

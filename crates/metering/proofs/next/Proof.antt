@@ -4,12 +4,15 @@ use borrow.Author.Needs.{needs}
 use Rattle.metering.proofs.next.Statement.{statement}
 use Rattle.metering.proofs.next.Tie as tie
 
--- the place after the step, and the arguments from it
+-- the place after the step, what it is given, and the arguments
 abbrev Stepped : tie.After-entries-arg → tie.After-next
 Stepped c = c .before .before .before
 
+abbrev Given : tie.After-next → tie.After-s
+Given c = c .before .before .before
+
 abbrev A : tie.After-next → tie.Start
-A c = c .before .before .before .before .before .before
+A c = Given c .before .before .before
 
 next-requires : tie.Need-next-requires
 next-requires c κs = search needs

@@ -24,7 +24,7 @@ abbrev μ-loop : tie.MeasureT-loop
 μ-loop bytes r steps buffer₀ n numbers places u₀ end₀ k₀ buffer u end k = steps - k
 
 -- places of the code: the header from the loop's place, the arguments from the header, the loop's place from the last lines' call,
--- the row of a turn from the fault, the fault from the move
+-- the row of a turn from the fault, the fault from the row as it is lent, that from the step made, and the step from the turn's end
 abbrev to-header : tie.At-loop Inv-loop μ-loop → tie.After-header Inv-loop μ-loop
 to-header c = c .before .before .before
 
@@ -39,6 +39,12 @@ to-row c = c .before .before .before
 
 abbrev to-fault : tie.After-row3 Inv-loop μ-loop → tie.After-number Inv-loop μ-loop
 to-fault c = c .before .before
+
+abbrev to-lent : tie.After-step-lines Inv-loop μ-loop → tie.After-row3 Inv-loop μ-loop
+to-lent c = c .before .before .before
+
+abbrev to-made : tie.After-u Inv-loop μ-loop → tie.After-step-lines Inv-loop μ-loop
+to-made c = c .before .before .before .before
 
 -- the study, and the numbers of the row as they are lent
 abbrev Of : tie.Start Inv-loop μ-loop → Study
@@ -138,7 +144,7 @@ step-lines-requires c κs =
 
 add-k : tie.Need-add-k Inv-loop μ-loop
 add-k c =
-    let r = to-row (to-fault (c .before .before .before .before .before .before .before)) in
+    let r = to-row (to-fault (to-lent (to-made c))) in
     omega (arith, r .before .loop-test .taken, Args r .pre .readable .ok .steps)
 
 loop-less : tie.Need-loop-less Inv-loop μ-loop
@@ -146,8 +152,8 @@ loop-less c = search needs
 
 loop-again : tie.Need-loop-again Inv-loop μ-loop
 loop-again c =
-    let m = c .before .before .before .before in
-    let f = to-fault (m .before .before .before) in
+    let m = to-made c in
+    let f = to-fault (to-lent m) in
     lined-more (to-row f .before .before .loop .inv) (turn (to-row f)) (f .before .releases .ensures) (search needs) (m .step-lines .ensures .0) refl (m .step-lines .ensures .1)
 
 last-lines-requires : tie.Need-last-lines-requires Inv-loop μ-loop

@@ -15,12 +15,15 @@ Inv-loop target₀ at road start n end₀ i₀ target end i = (i ≤ n) × Putti
 abbrev μ-loop : tie.MeasureT-loop
 μ-loop target₀ at road start n end₀ i₀ target end i = n - i
 
--- the arguments, from the loop's place; the loop's test, from the place before the last argument of the call
+-- the arguments, from the loop's place; the loop's test, from the place before the last argument of the call, by the one in the middle
 abbrev A : tie.At-loop Inv-loop μ-loop → tie.Start Inv-loop μ-loop
 A c = c .before .before
 
+abbrev Half : tie.After-put-cell-arg8 Inv-loop μ-loop → tie.After-put-cell-arg4 Inv-loop μ-loop
+Half c = c .before .before .before .before
+
 abbrev In : tie.After-put-cell-arg8 Inv-loop μ-loop → tie.In-loop Inv-loop μ-loop
-In c = c .before .before .before .before .before .before .before .before
+In c = Half c .before .before .before .before
 
 loop-holds : tie.Need-loop-holds Inv-loop μ-loop
 loop-holds c =

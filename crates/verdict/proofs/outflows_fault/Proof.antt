@@ -14,7 +14,8 @@ Inv-loop row y r s n share₀ cumulative₀ demand₀ i₀ share cumulative dema
 abbrev μ-loop : tie.MeasureT-loop
 μ-loop row y r s n share₀ cumulative₀ demand₀ i₀ share cumulative demand i = r .n - i
 
--- places of the code: the arguments from the loop's place, a turn's start from its supply, the supply and the room from the refusal
+-- places of the code: the arguments from the loop's place, a turn's start from its supply, the supply and the room from the refusal, and the refusal
+-- from the turn's end, by its test
 abbrev A : tie.At-loop Inv-loop μ-loop → tie.Start Inv-loop μ-loop
 A c = c .before .before .before .before
 
@@ -27,8 +28,11 @@ Supply c = c .before .before .before .before .before
 abbrev Room : tie.After-outflow-refusal Inv-loop μ-loop → tie.After-room Inv-loop μ-loop
 Room c = c .before .before .before
 
+abbrev Else : tie.After-demand Inv-loop μ-loop → tie.Else1 Inv-loop μ-loop
+Else c = c .before .before .before .before
+
 abbrev Refusal : tie.After-demand Inv-loop μ-loop → tie.After-outflow-refusal Inv-loop μ-loop
-Refusal c = c .before .before .before .before .before .before
+Refusal c = Else c .before .before
 
 -- what a turn knows
 turn : (c : tie.After-outflow-refusal Inv-loop μ-loop) →

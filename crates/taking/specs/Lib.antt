@@ -1,0 +1,3 @@
+pub mod Taking
+pub mod TakingLaws
+pub mod Again
