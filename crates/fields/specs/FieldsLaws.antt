@@ -8,7 +8,7 @@ use native.Mathlib.Numerals.{add-one}
 use native.Mathlib.Omega.{arith}
 use lib.Dec.{eqb}
 use borrow.Author.Tests.{eq-eqb, ne-eqb}
-use lib.ListN.{length, take, drop, set, replicate, length-replicate}
+use lib.ListN.{length, take, drop, set}
 use lib.Seq.{take-at}
 use Rattle.numbers.specs.Lists.{at}
 use Rattle.road.specs.Road.{mostCells, mostSteps, zeros}
@@ -104,10 +104,9 @@ start-small version n t h l =
 pub holds-row : (s : List ℕ) (n t T : ℕ) → n ≤ mostCells → rowStart (versionOf s) n T ≤ length s → t < T → HoldsRow s n t
 holds-row s n t T h k l = record { cells = h; row = omega (arith, row-within (versionOf s) n t T l) }
 
--- the numbers of a row, taken from the array that they were stored in
-pub row-taken : (s : List ℕ) (n t : ℕ) (r : List ℕ) → n ≤ 64
-    → r ≡ fillOf (entryOf s n t) (1 + 2 * n) (replicate 129 0) → take (1 + 2 * n) r ≡ recordRow s n t
-row-taken s n t r h e =
-    let l : 1 + 2 * n ≤ length {A = ℕ} (replicate 129 0) = omega (arith, length-replicate {A = ℕ} 129 0) in
-    ap (take (1 + 2 * n)) (e ∙ fill-list (entryOf s n t) (1 + 2 * n) (replicate 129 0) l)
-    ∙ take-at (recordRow s n t) (drop (1 + 2 * n) (replicate 129 0)) (1 + 2 * n) (length-row s n t)
+-- the numbers of a row, taken from the array l that they were stored in
+pub row-taken : (s : List ℕ) (n t : ℕ) (l r : List ℕ) → 1 + 2 * n ≤ length l → r ≡ fillOf (entryOf s n t) (1 + 2 * n) l
+    → take (1 + 2 * n) r ≡ recordRow s n t
+row-taken s n t l r h e =
+    ap (take (1 + 2 * n)) (e ∙ fill-list (entryOf s n t) (1 + 2 * n) l h)
+    ∙ take-at (recordRow s n t) (drop (1 + 2 * n) l) (1 + 2 * n) (length-row s n t)

@@ -155,18 +155,26 @@ pub fn row_start(version: u8, n: usize, t: usize) -> usize
     header_size(version) + CELL_SIZE * n + t * (NUMBER_SIZE + RATES_SIZE * n)
 }
 
-// The row of step `t` in the first 1 + 2n numbers: gate arrivals, then each cell's arrivals and release.
-pub fn row(bytes: &[u8], n: usize, t: usize) -> [u32; 129]
-    requires { ⌜ HoldsRow (now bytes) n t ⌝ }
-    ensures { λ r. ⌜ take (1 + 2 * n) r ≡ recordRow (now (bytes .entry)) n t ⌝ }
+// Reads the row of step `t` into the first 1 + 2n numbers: gate arrivals, then each cell's arrivals and release.
+pub fn read_row(bytes: &[u8], n: usize, t: usize, r: &mut [u32; 129])
+    requires { ⌜ (HoldsRow (now bytes) n t) × (1 + 2 * n ≤ length (now r)) ⌝ }
+    ensures { λ _. ⌜ take (1 + 2 * n) (now (r .exit)) ≡ recordRow (now (bytes .entry)) n t ⌝ }
 {
     let start = row_start(version(bytes), n, t);
-    let mut r = [0u32; 129];
     let mut k = 0;
     while k < 1 + 2 * n {
         r[k] = number(bytes, start + NUMBER_SIZE * k, NUMBER_SIZE);
         k += 1;
     }
+}
+
+// The row of step `t`, in the first 1 + 2n numbers of an array.
+pub fn row(bytes: &[u8], n: usize, t: usize) -> [u32; 129]
+    requires { ⌜ HoldsRow (now bytes) n t ⌝ }
+    ensures { λ r. ⌜ take (1 + 2 * n) r ≡ recordRow (now (bytes .entry)) n t ⌝ }
+{
+    let mut r = [0u32; 129];
+    read_row(bytes, n, t, &mut r);
     r
 }
 

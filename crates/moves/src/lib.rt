@@ -1,4 +1,6 @@
-// One step's parts: present and exits of a state, the engine's outflows, the move by a row of outflows, the count.
+// One step's parts: present and exits of a state, the engine's outflows, and on lent columns the move by a row of outflows and the count.
+pub mod lent;
+
 use road::Road;
 use road::State;
 ghost use mathlib.Core.Path.{_≡_};
@@ -6,9 +8,38 @@ ghost use Prim.Native.Nat.{_+_, _*_, _-_, _^_, min, _≤_, _<_};
 ghost use lib.ListN.{length, take};
 ghost use Rattle.rows.specs.Sum.{sumOf};
 ghost use Rattle.flow.specs.Flow.{onwardOf};
-ghost use Rattle.model.specs.Move.{heldSum, queueSum, presentOf, exitsOf, movedOf, countedOf};
+ghost use Rattle.model.specs.Move.{heldSum, queueSum, presentOf, exitsOf};
 ghost use Rattle.model.specs.Rules.{outflowsOf};
-ghost use Rattle.moves.specs.Asked.{Movable, Countable};
+ghost use Rattle.moves.specs.Lent.{stateOf};
+
+// What a state holds beside its columns: the steps done, the three times, the gate's queue and its F.
+pub struct Ledger {
+    pub done: usize,
+    pub gate_time: u64,
+    pub road_time: u64,
+    pub ramp_time: u64,
+    pub gate_queue: u32,
+    pub gate_cumulative: u32,
+}
+
+impl Ledger {
+    // The state of this ledger and these columns.
+    pub fn state(self, held: [u32; 64], queue: [u32; 64], cumulative: [u32; 64]) -> State
+        ensures { λ s. ⌜ s ≡ stateOf self held queue cumulative ⌝ }
+    {
+        State {
+            done: self.done,
+            gate_time: self.gate_time,
+            road_time: self.road_time,
+            ramp_time: self.ramp_time,
+            gate_queue: self.gate_queue,
+            gate_cumulative: self.gate_cumulative,
+            held: held,
+            queue: queue,
+            cumulative: cumulative,
+        }
+    }
+}
 
 fn wide(x: u32) -> u64
     ensures { λ r. ⌜ r ≡ x ⌝ }
@@ -84,62 +115,19 @@ pub fn outflows(r: Road, s: State, row: &[u32], y: &mut [u32])
     requires { ⌜ (r .n ≤ 64) × ((length (now row) ≡ 1 + 2 * r .n) × (length (now y) ≡ r .n + 1)) ⌝ }
     ensures { λ _. ⌜ now (y .exit) ≡ outflowsOf r s (now (row .entry)) ⌝ }
 {
-    let n = r.n;
-    let mut share = Road::WHOLE;
-    let mut cumulative = s.gate_cumulative;
-    let mut demand = flow::gate_demand(r.gate_capacity, s.gate_queue);
-    let mut i = 0;
-    while i < n {
-        let held = s.held[i];
-        let capacity = r.capacity[i];
-        let supply = flow::supply(r.wave[i], capacity, r.jam[i], held);
-        let room = flow::room(supply, row[2 * i + 2]);
-        y[i] = flow::outflow(share, cumulative, room, demand);
-        share = r.share[i];
-        cumulative = s.cumulative[i];
-        demand = flow::demand(r.speed[i], capacity, held);
-        i += 1;
-    }
-    y[n] = demand;
-}
-
-// Moves every place by a row of outflows that obeys the rules.
-pub fn moved(r: Road, s: State, row: &[u32], y: &[u32]) -> State
-    requires { ⌜ Movable r s (now row) (now y) ⌝ }
-    ensures { λ t. ⌜ t ≡ movedOf r s (now (row .entry)) (now (y .entry)) ⌝ }
-{
-    let n = r.n;
-    let mut t = s;
-    let first = y[0];
-    t.gate_queue = s.gate_queue + row[0] - first;
-    t.gate_cumulative = s.gate_cumulative + first;
-    let mut entering = flow::entering(Road::WHOLE, s.gate_cumulative, first);
-    let mut i = 0;
-    while i < n {
-        let release = row[2 * i + 2];
-        let outflow = y[i + 1];
-        let cumulative = s.cumulative[i];
-        t.held[i] = s.held[i] + (entering as u32) + release - outflow;
-        t.queue[i] = s.queue[i] + row[2 * i + 1] - release;
-        t.cumulative[i] = cumulative + outflow;
-        entering = flow::entering(r.share[i], cumulative, outflow);
-        i += 1;
-    }
-    t
-}
-
-// Counts a step that is done: the three parts of present after it go into the three times.
-pub fn counted(r: Road, s: State) -> State
-    requires { ⌜ Countable r s ⌝ }
-    ensures { λ t. ⌜ t ≡ countedOf r s ⌝ }
-{
-    let gate = wide(s.gate_queue);
-    let held = on_road(r, s);
-    let queues = at_ramps(r, s);
-    let mut t = s;
-    t.done = s.done + 1;
-    t.gate_time = s.gate_time + gate;
-    t.road_time = s.road_time + held;
-    t.ramp_time = s.ramp_time + queues;
-    t
+    lent::outflows(
+        r.n,
+        r.gate_capacity,
+        &r.speed,
+        &r.wave,
+        &r.share,
+        &r.jam,
+        &r.capacity,
+        s.gate_queue,
+        s.gate_cumulative,
+        &s.held,
+        &s.cumulative,
+        row,
+        y,
+    );
 }

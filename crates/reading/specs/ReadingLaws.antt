@@ -11,12 +11,13 @@ use borrow.Author.Tests.{leb-true, le-leb, lt-leb, eqb-true, eqb-false, eq-eqb, 
 use Rattle.road.specs.declared.Road.{Road}
 use Rattle.road.specs.declared.State.{State}
 use Rattle.road.specs.Road.{mostCells, mostSteps, mostBytes, mostSeconds}
-use Rattle.fields.specs.Fields.{firstVersion, secondVersion, versionOf, secondsOf, countSize, headerSize, rowSize, numberOf, recordRow, HoldsRow}
-use Rattle.fields.specs.FieldsLaws.{seconds-none, mostSize, start-small, holds-row}
+use Rattle.fields.specs.Fields.{firstVersion, secondVersion, versionOf, secondsOf, numberSize, countSize, headerSize, rowSize, rowStart, numberOf, recordRow, HoldsRow}
+use Rattle.fields.specs.FieldsLaws.{seconds-none, mostSize, start-small, holds-row, row-at}
+use Rattle.numbers.specs.Lists.{at}
 use Rattle.numbers.specs.Tests.{le-head}
 use Rattle.numbers.specs.First.{oneOf, firstOf}
 use Rattle.numbers.specs.FirstLaws.{first-stop, first-none}
-use Rattle.limits.specs.Limits.{placeOk, rowOk}
+use Rattle.limits.specs.Limits.{placeOk, ratesOk, ratesAt, rowOk}
 use Rattle.numbers.specs.First.{unlessFirst}
 use Rattle.reading.specs.Headers.{Cells, Steps, Header}
 use Rattle.reading.specs.Reading.{cellsOf, stepsOf, sizeOf, roadOf, startOf, bothVersions, leastSize}
@@ -219,12 +220,11 @@ pub record Checked (s ramp : List ℕ) (n T t : ℕ) : Type 0 where
   pub within : t ≤ T
   pub before : (j : ℕ) → j < t → rowOk ramp n (recordRow s n j) ≡ true
 
--- a turn of it: the row that the code holds, and what it finds of it
-pub record Turn (s ramp : List ℕ) (n T t : ℕ) (row : List ℕ) (b : Bool) : Type 0 where
+-- a turn of it: what the code finds of the row
+pub record Turn (s ramp : List ℕ) (n T t : ℕ) (b : Bool) : Type 0 where
   pub checked : Checked s ramp n T t
   pub left : t < T
-  pub numbers : row ≡ recordRow s n t
-  pub test : b ≡ rowOk ramp n row
+  pub test : b ≡ rowOk ramp n (recordRow s n t)
 
 pub checked-none : {s ramp : List ℕ} {n T : ℕ} → Checked s ramp n T 0
 checked-none = record { within = omega arith; before = below-none _ }
@@ -235,12 +235,24 @@ module _ {s ramp : List ℕ} {n T t : ℕ} where
       let e : T ≡ t = omega (arith, h .within) in
       sym (first-none (λ (j : ℕ). rowOk ramp n (recordRow s n j)) T (λ j k. h .before j (omega arith)) ∙ e)
 
-  module _ {row : List ℕ} {b : Bool} (u : Turn s ramp n T t row b) where
+  module _ {b : Bool} (u : Turn s ramp n T t b) where
     found : rowOk ramp n (recordRow s n t) ≡ b
-    found = sym (rw (u .numbers) at (u .test))
+    found = sym (u .test)
 
     pub checked-more : b ≡ true → Checked s ramp n T (t + 1)
     checked-more z = record { within = omega (arith, u .left); before = below-more _ _ (u .checked .before) (found ∙ z) }
 
     pub checked-fault : b ≡ false → t ≡ firstOf (λ (j : ℕ). rowOk ramp n (recordRow s n j)) T
     checked-fault z = first-stop (λ (j : ℕ). rowOk ramp n (recordRow s n j)) T t (u .left) (u .checked .before) (found ∙ z)
+
+-- number k of a row, as the code reads it at its place in the bytes
+pub entry-read : (s : List ℕ) (n t k : ℕ) {start place x : ℕ} → start ≡ rowStart (versionOf s) n t → place ≡ start + numberSize * k
+    → x ≡ numberOf s place numberSize → k < 1 + 2 * n → x ≡ at (recordRow s n t) k
+entry-read s n t k e p ex l =
+    ex ∙ ap (λ (i : ℕ). numberOf s i numberSize) (p ∙ ap (λ (i : ℕ). i + numberSize * k) e) ∙ sym (row-at s n t k l)
+
+-- and what it finds of a cell's rates
+pub rates-read : (ramp row : List ℕ) (i : ℕ) {arrivals release : ℕ} {b : Bool} → b ≡ ratesOk (at ramp i) arrivals release
+    → arrivals ≡ at row (2 * i + 1) → release ≡ at row (2 * i + 2) → ratesAt ramp row i ≡ b
+rates-read ramp row i {release = release} e a r =
+    sym (e ∙ ap (λ (x : ℕ). ratesOk (at ramp i) x release) a ∙ ap (ratesOk (at ramp i) (at row (2 * i + 1))) r)

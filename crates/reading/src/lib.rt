@@ -6,6 +6,8 @@ use road::State;
 ghost use mathlib.Core.Path.{_≡_};
 ghost use Rattle.road.specs.Refusals.{refusalNumber};
 ghost use Rattle.numbers.specs.First.{oneOf, firstOf};
+ghost use Rattle.limits.specs.Limits.{rowOk};
+ghost use Rattle.fields.specs.Fields.{recordRow, HoldsRow};
 ghost use Rattle.reading.specs.Reading.{bothVersions, lengthOk, cellsAndStepsOk, secondsOk, roadOf, startOf, stepOk, refusedOf, readAnswer, readingOf};
 ghost use Rattle.reading.specs.Headers.{Cells, Steps, Header};
 
@@ -88,6 +90,28 @@ fn start_of(bytes: &[u8], n: usize) -> State
     }
 }
 
+// Whether the row of step t is within its limits, number after number as the bytes have them.
+fn row_within(bytes: &[u8], ramp: &[u16; 64], n: usize, t: usize) -> bool
+    requires { ⌜ HoldsRow (now bytes) n t ⌝ }
+    ensures { λ r. ⌜ r ≡ rowOk (now (ramp .entry)) n (recordRow (now (bytes .entry)) n t) ⌝ }
+{
+    let start = fields::row_start(fields::version(bytes), n, t);
+    if Road::RATE < fields::number(bytes, start, fields::NUMBER_SIZE) {
+        return false;
+    }
+    let mut i = 0;
+    while i < n {
+        let place = start + fields::NUMBER_SIZE * (2 * i + 1);
+        let arrivals = fields::number(bytes, place, fields::NUMBER_SIZE);
+        let release = fields::number(bytes, place + fields::NUMBER_SIZE, fields::NUMBER_SIZE);
+        if !limits::rates_within(ramp[i], arrivals, release) {
+            return false;
+        }
+        i += 1;
+    }
+    true
+}
+
 // The first step whose row is out of its limits, or `steps`.
 fn first_row(bytes: &[u8], road: Road, steps: usize) -> usize
     requires { ⌜ Steps (now bytes) (road .n) steps ⌝ }
@@ -97,8 +121,7 @@ fn first_row(bytes: &[u8], road: Road, steps: usize) -> usize
     let ramp = road.ramp;
     let mut t = 0;
     while t < steps {
-        let row = fields::row(bytes, n, t);
-        if !limits::row_within(ramp, n, &row[..1 + 2 * n]) {
+        if !row_within(bytes, &ramp, n, t) {
             return t;
         }
         t += 1;

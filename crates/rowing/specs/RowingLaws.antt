@@ -87,7 +87,7 @@ held-numbers s n t h =
 pub row-held : (s : List ℕ) (n t : ℕ) → t < mostSteps → HoldsRow s n t → take (rowNumbers n) (rowArray s n t) ≡ recordRow s n t
 row-held s n t l h =
     ap (take (rowNumbers n)) (sym (array-numbers s n t (h .cells) l refl))
-    ∙ row-taken s n t (numbersAt s n t) (h .cells) (held-numbers s n t h)
+    ∙ row-taken s n t noNumbers (numbersAt s n t) (omega (arith, length-replicate {A = ℕ} 129 0, h .cells)) (held-numbers s n t h)
 
 -- a record that reads without refusal gives the row of each of its steps
 found-row : (s : List ℕ) {a : ReadAnswer} → Found s a → a .number ≡ 0 → (t : ℕ) → t < a .steps

@@ -1,4 +1,5 @@
 // Running: the engine's outflows of every step of a record, written into a lent list.
+use moves::Ledger;
 use road::Ended;
 use road::Refusal;
 use road::Road;
@@ -20,7 +21,17 @@ fn run_rows(bytes: &[u8], table: &[u8], r: Road, s: State, steps: usize, out: &m
     let places = n + 1;
     let capacity = r.capacity;
     let mut road = r;
-    let mut u = s;
+    let mut held = s.held;
+    let mut queue = s.queue;
+    let mut cumulative = s.cumulative;
+    let mut l = Ledger {
+        done: s.done,
+        gate_time: s.gate_time,
+        road_time: s.road_time,
+        ramp_time: s.ramp_time,
+        gate_queue: s.gate_queue,
+        gate_cumulative: s.gate_cumulative,
+    };
     let mut k = 0;
     let mut to = 0;
     while k < steps {
@@ -28,18 +39,41 @@ fn run_rows(bytes: &[u8], table: &[u8], r: Road, s: State, steps: usize, out: &m
             let left = lanes::step_capacities(capacity, table, n, k);
             road.capacity = left;
         }
-        let row = fields::row(bytes, n, k);
-        let q = stepping::releases(road, u, &row[..numbers]);
+        let mut row = [0u32; 129];
+        fields::read_row(bytes, n, k, &mut row);
+        let q = stepping::lent::releases(
+            road.n,
+            &road.wave,
+            &road.jam,
+            &road.capacity,
+            &held,
+            &queue,
+            &row[..numbers],
+        );
         let refusal = q.refusal;
         if refusal.number() != 0 {
-            return Ended::at_step(refusal, k, q.place, r, u);
+            return Ended::at_step(refusal, k, q.place, r, l.state(held, queue, cumulative));
         }
         let end = to + places;
-        u = stepping::next(road, u, &row[..numbers], &mut out[to..end]);
+        l = stepping::lent::next(
+            road.n,
+            road.gate_capacity,
+            &road.speed,
+            &road.wave,
+            &road.share,
+            &road.jam,
+            &road.capacity,
+            l,
+            &mut held,
+            &mut queue,
+            &mut cumulative,
+            &row[..numbers],
+            &mut out[to..end],
+        );
         to = end;
         k += 1;
     }
-    Ended::complete(r, u)
+    Ended::complete(r, l.state(held, queue, cumulative))
 }
 
 // Runs a record under a table of lanes: the refusals of reading, 17, 18, 11, then 9 or 10 with its step and cell.

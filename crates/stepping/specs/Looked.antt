@@ -21,16 +21,14 @@ use Rattle.lanes.specs.LanesLaws.{lanes-facts}
 use Rattle.limits.specs.Limits.{inputOk}
 use Rattle.limits.specs.LimitsLaws.{InputOk, input-facts}
 use Rattle.model.specs.Places.{arrivalsAt, releaseAt, capacityAt, mostReleaseAt}
-use Rattle.model.specs.Move.{movedTo, movedOf, nextOf}
+use Rattle.model.specs.Move.{nextOf}
 use Rattle.model.specs.Rules.{Released, outflowsOf, Sized}
 use Rattle.model.specs.Step.{Answer, fault, releaseFault, releaseFaultAt, releasesOf, answer, stepOn, steppingOf}
-use Rattle.model.specs.MoveLaws.{counted-present}
 use Rattle.model.specs.RulesLaws.{length-outflows, outflows-obey}
 use Rattle.model.specs.StepLaws.{lowest-none, lowest-at, releases-fit, on-done, on-refused, on-next, stepping-input, stepping-lanes, stepping-on}
 use Rattle.model.specs.Roads.{step-state, step-row}
 use Rattle.model.specs.Opened.{opened}
-use Rattle.model.specs.Kept.{present-bound}
-use Rattle.moves.specs.Asked.{Movable, Steppable, Countable}
+use Rattle.moves.specs.Asked.{Movable, Steppable}
 use Rattle.stepping.specs.declared.Fault.{Fault}
 use Rattle.stepping.specs.Answers.{faultOf}
 use Rattle.model.specs.Step as model
@@ -65,15 +63,6 @@ module _ {r : Road} {s : State} {row : List ℕ} where
 
     pub fitted-fault : (m ≡ 0 → ⊥) → fault m (i + 1) ≡ releasesOf r s row
     fitted-fault n = sym (lowest-at (releaseFaultAt r s row) (r .n) 1 i m (t .left) (t .fitted .before) found n)
-
--- counting after a move asks nothing more
-pub countable : {r : Road} {s : State} {row y : List ℕ} {t : State} → Movable r s row y → s .done < mostSteps → t ≡ movedOf r s row y → Countable r t
-unfolding movedTo
-countable {r} {s} {row} {y} {t} m d e = rw e (record {
-  done = d;
-  total = omega (arith, m .input .state .total, m .input .state .done);
-  present = omega (arith, present-bound r s row y (m .input) (m .sized) (m .obeys) d, counted-present r (movedOf r s row y));
-})
 
 -- the engine's row may be moved by, and the state after it is the next
 module _ {r : Road} {s : State} {row y : List ℕ} (ok : Steppable r s row) (e : y ≡ outflowsOf r s row) where

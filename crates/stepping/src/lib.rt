@@ -1,4 +1,7 @@
 // Stepping: the next state of a road, or a refusal with its place and the state that was given.
+pub mod lent;
+
+use moves::Ledger;
 use road::Refusal;
 use road::Road;
 use road::State;
@@ -28,7 +31,7 @@ pub fn most_release(queue: u32, arrivals: u32) -> u64
 }
 
 // One cell's release: not above what its ramp may release at most, nor above its supply.
-fn release_refusal(release: u32, most: u64, supply: u32) -> Refusal
+pub fn release_refusal(release: u32, most: u64, supply: u32) -> Refusal
     ensures { λ q. ⌜ refusalNumber q ≡ releaseFault release most supply ⌝ }
 {
     if most < release as u64 {
@@ -45,24 +48,7 @@ pub fn releases(r: Road, s: State, row: &[u32]) -> Fault
     requires { ⌜ (r .n ≤ 64) × (length (now row) ≡ 1 + 2 * r .n) ⌝ }
     ensures { λ q. ⌜ faultOf q ≡ releasesOf r s (now (row .entry)) ⌝ }
 {
-    let n = r.n;
-    let mut i = 0;
-    while i < n {
-        let supply = flow::supply(r.wave[i], r.capacity[i], r.jam[i], s.held[i]);
-        let most = most_release(s.queue[i], row[2 * i + 1]);
-        let refusal = release_refusal(row[2 * i + 2], most, supply);
-        if refusal.number() != 0 {
-            return Fault {
-                refusal: refusal,
-                place: i + 1,
-            };
-        }
-        i += 1;
-    }
-    Fault {
-        refusal: Refusal::None,
-        place: 0,
-    }
+    lent::releases(r.n, &r.wave, &r.jam, &r.capacity, &s.held, &s.queue, row)
 }
 
 // The state after a step by a row of outflows that obeys the rules.
@@ -70,8 +56,28 @@ pub fn next_by(r: Road, s: State, row: &[u32], y: &[u32]) -> State
     requires { ⌜ (Movable r s (now row) (now y)) × (s .done < 1440) ⌝ }
     ensures { λ t. ⌜ t ≡ nextOf r s (now (row .entry)) (now (y .entry)) ⌝ }
 {
-    let t = moves::moved(r, s, row, y);
-    moves::counted(r, t)
+    let mut held = s.held;
+    let mut queue = s.queue;
+    let mut cumulative = s.cumulative;
+    let l = Ledger {
+        done: s.done,
+        gate_time: s.gate_time,
+        road_time: s.road_time,
+        ramp_time: s.ramp_time,
+        gate_queue: s.gate_queue,
+        gate_cumulative: s.gate_cumulative,
+    };
+    let t = moves::lent::advance(
+        r.n,
+        &r.share,
+        l,
+        &mut held,
+        &mut queue,
+        &mut cumulative,
+        row,
+        y,
+    );
+    t.state(held, queue, cumulative)
 }
 
 // Fills a row with the engine's outflows, and gives the state after the step by them.

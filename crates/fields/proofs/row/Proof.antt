@@ -1,111 +1,16 @@
--- `fields::row` meets its contract. The invariant: the k numbers passed are stored. Assumes nothing.
-use mathlib.Core.Path.{_≡_, refl, ap, _∙_}
-use Prim.Native.Nat.{ℕ, _≤_, _-_, _+_, _*_}
-use lib.ListN.{replicate}
-use Rattle.rows.specs.Rows.{fillOf}
-use Rattle.rows.specs.RowsLaws.{fill-more}
-use Rattle.fields.specs.Fields.{versionOf, numberSize, rowStart, numberOf, entryOf}
-use Rattle.fields.specs.FieldsLaws.{row-taken}
-use borrow.Author.Needs.{needs}
+-- `fields::row` meets its contract. Assumes nothing.
+use Prim.Native.Nat.{ℕ}
+use lib.ListN.{length-replicate}
 use native.Mathlib.Omega.{arith}
+use borrow.Author.Needs.{needs}
 use Rattle.fields.proofs.row.Statement.{statement}
 use Rattle.fields.proofs.row.Tie as tie
 
-abbrev Inv-loop : tie.InvT-loop
-Inv-loop bytes n t start r₀ k₀ r k = (k ≤ 1 + 2 * n) × (r ≡ fillOf (entryOf bytes n t) k (replicate 129 0))
+read-row-requires : tie.Need-read-row-requires
+read-row-requires c κs = let s = c .before .before in (s .pre, omega (arith, length-replicate {A = ℕ} 129 0, s .pre .cells))
 
-abbrev μ-loop : tie.MeasureT-loop
-μ-loop bytes n t start r₀ k₀ r k = 1 + 2 * n - k
-
-version-requires : tie.Need-version-requires Inv-loop μ-loop
-version-requires c κs = search needs
-
--- the arguments, from the version and from the row's start, and this start
-abbrev A : tie.After-version Inv-loop μ-loop → tie.Start Inv-loop μ-loop
-A c = c .before .before
-
-abbrev Args : tie.After-row-start Inv-loop μ-loop → tie.Start Inv-loop μ-loop
-Args c = A (c .before)
-
-start : (c : tie.After-row-start Inv-loop μ-loop) →
-    let a = Args c .args in
-    c .row-start .result ≡ rowStart (versionOf (a .bytes .now)) (a .n) (a .t)
-start c =
-    let a = Args c .args in
-    c .row-start .ensures ∙ ap (λ (v : ℕ). rowStart v (a .n) (a .t)) (c .before .version .ensures)
-
-row-start-requires : tie.Need-row-start-requires Inv-loop μ-loop
-row-start-requires c κs =
-    let a = A c .args in
-    let e : rowStart (c .version .result) (a .n) (a .t) ≡ rowStart (versionOf (a .bytes .now)) (a .n) (a .t) =
-    ap (λ (v : ℕ). rowStart v (a .n) (a .t)) (c .version .ensures) in
-    omega (arith, e, A c .pre .row)
-
-loop-holds : tie.Need-loop-holds Inv-loop μ-loop
-unfolding fillOf
-loop-holds c = (omega arith, refl)
-
-mul-loop : tie.Need-mul-loop Inv-loop μ-loop
-mul-loop c = search needs
-
-add-loop : tie.Need-add-loop Inv-loop μ-loop
-add-loop c = search needs
-
-mul-number : tie.Need-mul-number Inv-loop μ-loop
-mul-number c = search needs
-
-add-number : tie.Need-add-number Inv-loop μ-loop
-add-number c = let s = c .before .before in omega (arith, start s, Args s .pre .row)
-
-number-requires : tie.Need-number-requires Inv-loop μ-loop
-number-requires c κs = let s = c .before .before in (omega arith, omega (arith, start s, Args s .pre .row))
-
-mul-r : tie.Need-mul-r Inv-loop μ-loop
-mul-r c = search needs
-
-array-write-r : tie.Need-array-write-r Inv-loop μ-loop
-array-write-r c = search needs
-
-add-k : tie.Need-add-k Inv-loop μ-loop
-add-k c = search needs
-
-loop-less : tie.Need-loop-less Inv-loop μ-loop
-loop-less c = search needs
-
-loop-again : tie.Need-loop-again Inv-loop μ-loop
-loop-again c =
-    let l = c .before .before in
-    let s = l .before in
-    let a = Args s .args in
-    let f = entryOf (a .bytes .now) (a .n) (a .t) in
-    let e : c .number .result ≡ f (l .loop .k) =
-    c .number .ensures .0 ∙ ap (λ (x : ℕ). numberOf (a .bytes .now) (x + numberSize * l .loop .k) numberSize) (start s) in
-    (omega arith, cc (fill-more f (l .loop .k) (replicate 129 0), e, l .loop .inv .1))
-
-returns : tie.Need-returns Inv-loop μ-loop
-returns c =
-    let l = c .before .loop in
-    let a = Args (c .before .before) .args in
-    let e : l .k ≡ 1 + 2 * a .n = omega arith in
-    row-taken (a .bytes .now) (a .n) (a .t) (l .r) (omega arith) (l .inv .1 ∙ ap (λ (j : ℕ). fillOf (entryOf (a .bytes .now) (a .n) (a .t)) j (replicate 129 0)) e)
+returns : tie.Need-returns
+returns c = c .read-row .ensures
 
 pub row-spec : {M : Type 1} → statement M
-row-spec =
-    tie.close
-    (tie.spec
-    Inv-loop
-    μ-loop
-    version-requires
-    row-start-requires
-    loop-holds
-    mul-loop
-    add-loop
-    mul-number
-    add-number
-    number-requires
-    mul-r
-    array-write-r
-    add-k
-    loop-less
-    loop-again
-    returns)
+row-spec = tie.close (tie.spec read-row-requires returns)

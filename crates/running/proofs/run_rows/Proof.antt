@@ -4,16 +4,21 @@ use mathlib.Core.Path.{_≡_, sym, ap, _∙_}
 use mathlib.Core.Logic.{inl, inr}
 use mathlib.Core.List.{List}
 use Prim.Native.Nat.{ℕ, _+_, _-_, _≤_}
-use lib.ListN.{length, take}
+use lib.ListN.{length, take, length-take, length-replicate}
 use Rattle.rows.specs.TablesLaws.{part-length}
+use Rattle.road.specs.declared.State.{State}
+use Rattle.road.specs.Refusals.{refusalNumber}
 use Rattle.road.specs.Study.{Study, places, withCapacity}
 use Rattle.fields.specs.Fields.{rowNumbers}
 use Rattle.fields.specs.FieldsLaws.{length-row}
 use Rattle.lanes.specs.LanesLaws.{rows-within}
 use Rattle.model.specs.Opened.{OnRoad, Turned, on-road, turned-road, turned-on}
+use Rattle.model.specs.Step.{releasesOf}
+use Rattle.stepping.specs.Answers.{faultOf}
+use Rattle.moves.specs.Lent.{stateOf}
 use Rattle.reading.specs.Reading.{studyBy}
 use Rattle.reading.specs.Table.{mostOutflows}
-use Rattle.schedules.specs.Schedules.{endAnswer}
+use Rattle.schedules.specs.Schedules.{ended, endAnswer}
 use Rattle.running.specs.Ran.{RanTurn, releasable, same-places, ends-ran, ends-fault, steps-on}
 use Rattle.running.specs.Made.{Made, made-none, made-more, same-length, row-fits, row-ends-by, table-end, table-fault}
 use borrow.Author.Needs.{needs}
@@ -22,31 +27,41 @@ use Rattle.running.proofs.run_rows.Statement.{statement}
 use Rattle.running.proofs.run_rows.Tie as tie
 
 abbrev Inv-loop : tie.InvT-loop
-Inv-loop bytes table r steps out₀ n numbers places capacity road₀ u₀ k₀ to₀ out road u k to =
-    Made (studyBy bytes table r u₀ steps) out₀ out u k to × OnRoad (studyBy bytes table r u₀ steps) road
+Inv-loop bytes table r steps out₀ n numbers places capacity road₀ held₀ queue₀ cumulative₀ l₀ k₀ to₀ out road held queue cumulative l k to =
+    let a = studyBy bytes table r (stateOf l₀ held₀ queue₀ cumulative₀) steps in
+    Made a out₀ out (stateOf l held queue cumulative) k to × OnRoad a road
 
 abbrev μ-loop : tie.MeasureT-loop
-μ-loop bytes table r steps out₀ n numbers places capacity road₀ u₀ k₀ to₀ out road u k to = steps - k
+μ-loop bytes table r steps out₀ n numbers places capacity road₀ held₀ queue₀ cumulative₀ l₀ k₀ to₀ out road held queue cumulative l k to = steps - k
 
 -- places of the code: the arguments from the loop's place, that place and the turn's start from its row, and the row from the places after it
 abbrev A : tie.At-loop Inv-loop μ-loop → tie.Start Inv-loop μ-loop
-A c = c .before .before .before .before .before
+A c = c .before .before .before .before .before .before .before .before
 
-abbrev In : tie.After-row Inv-loop μ-loop → tie.In-loop Inv-loop μ-loop
-In c = c .before .before
+abbrev Joined : tie.After-read-row Inv-loop μ-loop → tie.Joined1 Inv-loop μ-loop
+Joined c = c .before .before
 
-abbrev to-row : tie.After-number Inv-loop μ-loop → tie.After-row Inv-loop μ-loop
-to-row c = c .before .before .before
+abbrev In : tie.After-read-row Inv-loop μ-loop → tie.In-loop Inv-loop μ-loop
+In c = Joined c .before
 
-abbrev to-fault : tie.After-row3 Inv-loop μ-loop → tie.After-number Inv-loop μ-loop
-to-fault c = c .before .before
+abbrev to-row : tie.After-queue2 Inv-loop μ-loop → tie.After-read-row Inv-loop μ-loop
+to-row c = c .before .before .before .before .before .before
 
--- the study, and the numbers of the row as they are lent
+abbrev to-passed : tie.After-cumulative2 Inv-loop μ-loop → tie.Else2 Inv-loop μ-loop
+to-passed c = c .before .before .before .before .before .before .before .before .before
+
+abbrev Read : tie.After-number Inv-loop μ-loop → tie.After-read-row Inv-loop μ-loop
+Read c = to-row (c .before .before .before)
+
+-- the study, the state that the columns are of, and the numbers of the row as they are lent
 abbrev Of : tie.Start Inv-loop μ-loop → Study
 Of c = studyBy (c .args .bytes .now) (c .args .table .now) (c .args .r) (c .args .s) (c .args .steps)
 
-abbrev Row : tie.After-row Inv-loop μ-loop → List ℕ
-Row c = take (rowNumbers (A (In c .before) .args .r .n)) (c .row .result)
+abbrev Now : tie.At-loop Inv-loop μ-loop → State
+Now c = let p = c .loop in stateOf (p .l) (p .held) (p .queue) (p .cumulative)
+
+abbrev Row : tie.After-read-row Inv-loop μ-loop → List ℕ
+Row c = take (rowNumbers (A (In c .before) .args .r .n)) (c .read-row .last .1 .1 .1 .0)
 
 -- the road of the turn, with the capacities of its step or, with an empty table, as it was
 turned : (c : tie.Joined1 Inv-loop μ-loop) →
@@ -63,21 +78,38 @@ turned c =
     }
 
 -- what a turn knows
-turn : (c : tie.After-row Inv-loop μ-loop) →
+turn : (c : tie.After-read-row Inv-loop μ-loop) →
     let l = In c .before in
-    RanTurn (Of (A l)) (l .loop .u) (l .loop .k) (c .before .if1 .road) (Row c)
+    RanTurn (Of (A l)) (Now l) (l .loop .k) (Joined c .if1 .road) (Row c)
 turn c =
     let l = In c .before in
     record {
       ok = A l .pre .readable .ok;
       ran = l .loop .inv .0 .ran;
       left = In c .loop-test .taken;
-      road = turned-road (turned (c .before));
-      numbers = c .row .ensures;
+      road = turned-road (turned (Joined c));
+      numbers = c .read-row .ensures;
     }
 
-numbers : (c : tie.After-row Inv-loop μ-loop) → length (Row c) ≡ rowNumbers (A (In c .before) .args .r .n)
-numbers c = let a = A (In c .before) .args in ap length (c .row .ensures) ∙ length-row (a .bytes .now) (a .r .n) _
+numbers : (c : tie.After-read-row Inv-loop μ-loop) → length (Row c) ≡ rowNumbers (A (In c .before) .args .r .n)
+numbers c = let a = A (In c .before) .args in ap length (c .read-row .ensures) ∙ length-row (a .bytes .now) (a .r .n) _
+
+holds : (c : tie.After-read-row Inv-loop μ-loop) → rowNumbers (A (In c .before) .args .r .n) ≤ length (c .read-row .last .1 .1 .1 .0)
+holds c =
+    let n = A (In c .before) .args .r .n in
+    omega (arith, numbers c, length-take (rowNumbers n) (c .read-row .last .1 .1 .1 .0))
+
+-- what the code finds of the releases, and of which number
+found : (c : tie.After-number Inv-loop μ-loop) →
+    let r = Read c in
+    faultOf (c .before .releases .result) ≡ releasesOf (Joined r .if1 .road) (Now (In r .before)) (Row r)
+found c =
+    let r = Read c in
+    let p = In r .before .loop in
+    c .before .releases .ensures (Joined r .if1 .road) (p .l) (p .cumulative)
+
+passes : (c : tie.Else2 Inv-loop μ-loop) → refusalNumber (c .before .before .releases .result .refusal) ≡ 0
+passes c = sym (c .before .number .ensures) ∙ c .if2 .left
 
 -- the part of the list that the turn's row goes to
 fits : (c : tie.In-loop Inv-loop μ-loop) → c .before .loop .to + places (Of (A (c .before))) ≤ length (c .before .loop .out)
@@ -113,47 +145,54 @@ step-capacities-requires c κs =
       ),
     )
 
-row-requires : tie.Need-row-requires Inv-loop μ-loop
-row-requires c κs = let i = c .before in A (i .before) .pre .readable .row (i .before .loop .k) (i .loop-test .taken)
+read-row-requires : tie.Need-read-row-requires Inv-loop μ-loop
+read-row-requires c κs =
+    let i = c .before .before in
+    let t = A (i .before) .pre .readable in
+    (t .row (i .before .loop .k) (i .loop-test .taken), omega (arith, length-replicate {A = ℕ} 129 0, t .ok .road .cells))
 
 array-share-prefix-row : tie.Need-array-share-prefix-row Inv-loop μ-loop
-array-share-prefix-row c = search needs
+array-share-prefix-row c = omega (arith, holds (to-row c))
 
 slice-aggregate-releases : tie.Need-slice-aggregate-releases Inv-loop μ-loop
-slice-aggregate-releases c = sym (numbers (c .before))
+slice-aggregate-releases c = sym (numbers (to-row (c .before)))
 
 releases-requires : tie.Need-releases-requires Inv-loop μ-loop
-releases-requires c κs = releasable (turn (c .before))
+releases-requires c κs = releasable (turn (to-row (c .before)))
 
 number-requires : tie.Need-number-requires Inv-loop μ-loop
 number-requires c κs = search needs
+
+state-requires : tie.Need-state-requires Inv-loop μ-loop
+state-requires c κs = search needs
 
 at-step-requires : tie.Need-at-step-requires Inv-loop μ-loop
 at-step-requires c κs = search needs
 
 same-length-fault : tie.Need-same-length Inv-loop μ-loop
-same-length-fault c = list-kept (In (to-row (c .before .before)) .before)
+same-length-fault c = list-kept (In (Read (c .before .before .before)) .before)
 
 returns : tie.Need-returns Inv-loop μ-loop
 returns c =
-    let f = c .before .before in
-    let t = turn (to-row f) in
-    let e = f .before .releases .ensures in (
-      ends-fault t e (search needs) (ap endAnswer (c .at-step .ensures)),
-      table-fault (In (to-row f) .before .loop .inv .0) t e (search needs),
-    )
+    let f = c .before .before .before in
+    let q = f .before .releases .result in
+    let l = In (Read f) .before in
+    let r = A l .args .r in
+    let t = turn (Read f) in
+    let e = ap endAnswer (c .at-step .ensures) ∙ ap (λ (u : State). ended (refusalNumber (q .refusal)) (l .loop .k) (q .place) r u) (c .before .state .ensures) in
+    (ends-fault t (found f) (search needs) e, table-fault (l .loop .inv .0) t (found f) (search needs))
 
 add-end : tie.Need-add-end Inv-loop μ-loop
-add-end c = omega (arith, small (In (to-row (c .before))))
+add-end c = omega (arith, small (In (Read (c .before))))
 
 array-share-prefix-row-2 : tie.Need-array-share-prefix-row-2 Inv-loop μ-loop
-array-share-prefix-row-2 c = search needs
+array-share-prefix-row-2 c = omega (arith, holds (Read (to-passed c .before)))
 
 slice-aggregate-next : tie.Need-slice-aggregate-next Inv-loop μ-loop
-slice-aggregate-next c = sym (numbers (to-row (to-fault c)))
+slice-aggregate-next c = sym (numbers (Read (to-passed (c .before) .before)))
 
 mul-next : tie.Need-mul-next Inv-loop μ-loop
-mul-next c = omega (arith, small (In (to-row (to-fault c))))
+mul-next c = omega (arith, small (In (Read (to-passed (c .before) .before))))
 
 sub-next : tie.Need-sub-next Inv-loop μ-loop
 sub-next c = search needs
@@ -162,43 +201,53 @@ part-next-start : tie.Need-part-next-start Inv-loop μ-loop
 part-next-start c = search needs
 
 part-next-end : tie.Need-part-next-end Inv-loop μ-loop
-part-next-end c = omega (arith, fits (In (to-row (to-fault c))))
+part-next-end c = omega (arith, fits (In (Read (to-passed (c .before) .before))))
 
 next-requires : tie.Need-next-requires Inv-loop μ-loop
 next-requires c κs =
-    let f = to-fault (c .before) in
-    let l = In (to-row f) .before in (
-      steps-on (turn (to-row f)) (f .before .releases .ensures) (search needs),
-      same-places (turn (to-row f)) (part-length (l .loop .out) (l .loop .to) (places (Of (A l))) (fits (In (to-row f)))),
-    )
+    let p = to-passed (c .before .before) in
+    let f = p .before in
+    let i = In (Read f) in
+    let l = i .before in
+    record {
+      road = Joined (Read f) .if1 .road;
+      steppable = steps-on (turn (Read f)) (found f) (passes p);
+      places = same-places (turn (Read f)) (part-length (l .loop .out) (l .loop .to) (places (Of (A l))) (fits i));
+    }
 
 add-k : tie.Need-add-k Inv-loop μ-loop
 add-k c =
-    let i = In (to-row (to-fault (c .before .before .before .before))) in
+    let i = In (Read (to-passed (c .before .before .before .before .before) .before)) in
     omega (arith, i .loop-test .taken, A (i .before) .pre .readable .ok .steps)
 
 loop-less : tie.Need-loop-less Inv-loop μ-loop
-loop-less c = search needs
+loop-less c = omega (arith, In (Read (to-passed (c .before .before .before .before .before) .before)) .loop-test .taken)
 
 loop-again : tie.Need-loop-again Inv-loop μ-loop
 loop-again c =
     let n = c .before .before in
-    let f = to-fault (n .before .before) in
-    let r = to-row f in (
-      made-more (In r .before .loop .inv .0) (turn r) (f .before .releases .ensures) (search needs) (n .next .ensures .0) (n .next .ensures .1),
-      turned-on (turned (r .before)),
+    let p = to-passed (n .before .before .before) in
+    let f = p .before in
+    let r = Read f in
+    let q = Joined r .if1 .road in (
+      made-more (In r .before .loop .inv .0) (turn r) (found f) (passes p) (n .next .ensures .0 q) (n .next .ensures .1 q),
+      turned-on (turned (Joined r)),
     )
+
+state-requires-2 : tie.Need-state-requires-2 Inv-loop μ-loop
+state-requires-2 c κs = search needs
 
 complete-requires : tie.Need-complete-requires Inv-loop μ-loop
 complete-requires c κs = search needs
 
 same-length-end : tie.Need-same-length-2 Inv-loop μ-loop
-same-length-end c = list-kept (c .before .before)
+same-length-end c = list-kept (c .before .before .before)
 
 returns-2 : tie.Need-returns-2 Inv-loop μ-loop
 returns-2 c =
-    let l = c .before .before in
-    (ends-ran (l .loop .inv .0 .ran) (search needs) (ap endAnswer (c .complete .ensures)), table-end (l .loop .inv .0) (search needs))
+    let l = c .before .before .before in
+    let e = ap endAnswer (c .complete .ensures) ∙ ap (λ (u : State). ended 0 0 0 (A l .args .r) u) (c .before .state2 .ensures) in
+    (ends-ran (l .loop .inv .0 .ran) (search needs) e, table-end (l .loop .inv .0) (search needs))
 
 pub run-rows-spec : {M : Type 1} → statement M
 run-rows-spec =
@@ -211,11 +260,12 @@ run-rows-spec =
     add-places
     loop-holds
     step-capacities-requires
-    row-requires
+    read-row-requires
     array-share-prefix-row
     slice-aggregate-releases
     releases-requires
     number-requires
+    state-requires
     at-step-requires
     same-length-fault
     returns
@@ -230,6 +280,7 @@ run-rows-spec =
     add-k
     loop-less
     loop-again
+    state-requires-2
     complete-requires
     same-length-end
     returns-2)

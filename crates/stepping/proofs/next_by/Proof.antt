@@ -1,23 +1,21 @@
--- `stepping::next_by` meets its contract. Assumes nothing.
-use mathlib.Core.Path.{ap, _∙_}
-use Rattle.model.specs.Move.{countedOf}
-use Rattle.stepping.specs.Looked.{countable}
+-- `stepping::next_by` meets its contract: road and state are those of the columns that they lend. Assumes nothing.
+use mathlib.Core.Path.{_∙_}
 use borrow.Author.Needs.{needs}
 use Rattle.stepping.proofs.next_by.Statement.{statement}
 use Rattle.stepping.proofs.next_by.Tie as tie
 
--- the arguments, from the move
-abbrev A : tie.After-moved → tie.Start
-A c = c .before .before .before
+-- the arguments, from the columns that are lent
+abbrev A : tie.After-cumulative2 → tie.Start
+A c = c .before .before .before .before .before .before .before .before .before .before
 
-moved-requires : tie.Need-moved-requires
-moved-requires c κs = search needs
+advance-requires : tie.Need-advance-requires
+advance-requires c κs = record { road = A c .args .t1; movable = A c .pre .0; left = A c .pre .1 }
 
-counted-requires : tie.Need-counted-requires
-counted-requires c κs = countable (A c .pre .0) (A c .pre .1) (c .moved .ensures)
+state-requires : tie.Need-state-requires
+state-requires c κs = search needs
 
 returns : tie.Need-returns
-returns c = c .counted .ensures ∙ ap (countedOf (A (c .before) .args .r)) (c .before .moved .ensures)
+returns c = let m = c .before in c .state .ensures ∙ m .advance .ensures (A (m .before) .args .t1)
 
 pub next-by-spec : {M : Type 1} → statement M
-next-by-spec = tie.close (tie.spec moved-requires counted-requires returns)
+next-by-spec = tie.close (tie.spec advance-requires state-requires returns)

@@ -1,0 +1,153 @@
+-- A road and a state whose columns are lent, and what a loop over them knows. What is not lent is that of any road and any state. Assumes nothing.
+use mathlib.Core.Path.{_≡_, ap, _∙_}
+use mathlib.Core.List.{List}
+use Prim.Native.Nat.{ℕ, _+_, _-_, _≤_, _<_}
+use native.Mathlib.Nat.{le-refl}
+use lib.ListN.{length, set, take}
+use Rattle.flow.specs.Flow.{enteringOf}
+use Rattle.rows.specs.Sum.{sumOf}
+use Rattle.rows.specs.Rows.{fillOf}
+use Rattle.rows.specs.RowsLaws.{fill-past}
+use Rattle.road.specs.declared.Road.{Road}
+use Rattle.road.specs.declared.State.{State}
+use Rattle.numbers.specs.Lists.{at}
+use Rattle.road.specs.Road.{mostSteps}
+use Rattle.model.specs.Places.{arrivalsAt, releaseAt}
+use Rattle.model.specs.Move.{heldOf, queueOf, cumulativeOf, movedTo, movedOf, countedOf, nextOf}
+use Rattle.model.specs.MoveLaws.{counted-is, counted-present}
+use Rattle.model.specs.Kept.{present-bound}
+use native.Mathlib.Omega.{arith}
+use Rattle.model.specs.Rules.{outflowsOf}
+use Rattle.moves.specs.Asked.{Movable, Steppable, Countable, Moved, moved-cell, moved-end}
+use Rattle.moves.specs.declared.Ledger.{Ledger}
+
+-- a road with these columns, and otherwise as r
+abbrev pub roadOf : Road → ℕ → ℕ → List ℕ → List ℕ → List ℕ → List ℕ → List ℕ → Road
+roadOf r n gate speed wave share jam capacity = record {
+  n = n;
+  version = r .version;
+  seconds = r .seconds;
+  «gate_capacity» = gate;
+  speed = speed;
+  wave = wave;
+  share = share;
+  ramp = r .ramp;
+  jam = jam;
+  capacity = capacity;
+}
+
+-- a road with these cells' shares, and otherwise as r
+abbrev pub sharing : Road → ℕ → List ℕ → Road
+sharing r n share = roadOf r n (r .«gate_capacity») (r .speed) (r .wave) share (r .jam) (r .capacity)
+
+-- a road whose supplies go by these columns, and otherwise as r
+abbrev pub supplying : Road → ℕ → List ℕ → List ℕ → List ℕ → Road
+supplying r n wave jam capacity = roadOf r n (r .«gate_capacity») (r .speed) wave (r .share) jam capacity
+
+-- the ledger of a state
+abbrev pub ledgerOf : State → Ledger
+ledgerOf s = record {
+  done = s .done;
+  «gate_time» = s .«gate_time»;
+  «road_time» = s .«road_time»;
+  «ramp_time» = s .«ramp_time»;
+  «gate_queue» = s .«gate_queue»;
+  «gate_cumulative» = s .«gate_cumulative»;
+}
+
+-- a ledger with this queue and this F of the gate, and otherwise as l
+abbrev pub gated : Ledger → ℕ → ℕ → Ledger
+gated l queue cumulative = record {
+  done = l .done;
+  «gate_time» = l .«gate_time»;
+  «road_time» = l .«road_time»;
+  «ramp_time» = l .«ramp_time»;
+  «gate_queue» = queue;
+  «gate_cumulative» = cumulative;
+}
+
+-- a state of a ledger and of columns
+abbrev pub stateOf : Ledger → List ℕ → List ℕ → List ℕ → State
+stateOf l held queue cumulative = record {
+  done = l .done;
+  «gate_time» = l .«gate_time»;
+  «road_time» = l .«road_time»;
+  «ramp_time» = l .«ramp_time»;
+  «gate_queue» = l .«gate_queue»;
+  «gate_cumulative» = l .«gate_cumulative»;
+  held = held;
+  queue = queue;
+  cumulative = cumulative;
+}
+
+-- advancing asks that the row may be moved by on some road with these shares, and that steps are left
+pub record Advances (n : ℕ) (share : List ℕ) (l : Ledger) (held queue cumulative row y : List ℕ) : Type 0 where
+  pub road : Road
+  pub movable : Movable (sharing road n share) (stateOf l held queue cumulative) row y
+  pub left : l .done < mostSteps
+
+-- a step of the engine asks that it may be made on some road with these columns
+pub record Nexts (n gate : ℕ) (speed wave share jam capacity : List ℕ) (s : State) (row y : List ℕ) : Type 0 where
+  pub road : Road
+  pub steppable : Steppable (roadOf road n gate speed wave share jam capacity) s row
+  pub places : length y ≡ n + 1
+
+-- the state after a step of the engine
+abbrev pub engineNext : Road → State → List ℕ → State
+engineNext r s row = nextOf r s row (outflowsOf r s row)
+
+module _ {r : Road} {s : State} {row y : List ℕ} {t : State} {entering i : ℕ} (h : Moved r s row y t entering i) where
+  -- the cell at i is not yet moved
+  pub held-there : at (t .held) i ≡ at (s .held) i
+  unfolding movedTo
+  held-there = ap (λ (x : State). at (x .held) i) (h .moved) ∙ fill-past (heldOf r s row y) i (s .held) i (le-refl i)
+
+  pub queue-there : at (t .queue) i ≡ at (s .queue) i
+  unfolding movedTo
+  queue-there = ap (λ (x : State). at (x .queue) i) (h .moved) ∙ fill-past (queueOf s row) i (s .queue) i (le-refl i)
+
+  pub cumulative-there : at (t .cumulative) i ≡ at (s .cumulative) i
+  unfolding movedTo
+  cumulative-there = ap (λ (x : State). at (x .cumulative) i) (h .moved) ∙ fill-past (cumulativeOf s y) i (s .cumulative) i (le-refl i)
+
+  -- so it is moved in place
+  pub moved-there : {next : ℕ} → i < r .n → next ≡ enteringOf (at (r .share) i) (at (t .cumulative) i) (at y (i + 1))
+      → Moved r s row y (record {
+        done = t .done;
+        «gate_time» = t .«gate_time»;
+        «road_time» = t .«road_time»;
+        «ramp_time» = t .«ramp_time»;
+        «gate_queue» = t .«gate_queue»;
+        «gate_cumulative» = t .«gate_cumulative»;
+        held = set (t .held) i (at (t .held) i + entering + releaseAt row i - at y (i + 1));
+        queue = set (t .queue) i (at (t .queue) i + arrivalsAt row i - releaseAt row i);
+        cumulative = set (t .cumulative) i (at (t .cumulative) i + at y (i + 1));
+      }) next (i + 1)
+  moved-there l e =
+      let g = rw cumulative-there at e in
+      rw (held-there, queue-there, cumulative-there) (moved-cell h l g)
+
+  -- and when all are moved the step is counted
+  pub counted-there : {gate road ramp : ℕ} → r .n ≤ i → gate ≡ t .«gate_queue» → road ≡ sumOf (take (r .n) (t .held))
+      → ramp ≡ sumOf (take (r .n) (t .queue))
+      → record {
+        done = t .done + 1;
+        «gate_time» = t .«gate_time» + gate;
+        «road_time» = t .«road_time» + road;
+        «ramp_time» = t .«ramp_time» + ramp;
+        «gate_queue» = t .«gate_queue»;
+        «gate_cumulative» = t .«gate_cumulative»;
+        held = t .held;
+        queue = t .queue;
+        cumulative = t .cumulative;
+      } ≡ nextOf r s row y
+  counted-there l eg er eq = counted-is r t eg er eq ∙ ap (countedOf r) (moved-end h l)
+
+-- counting after a move asks nothing more
+pub countable : {r : Road} {s : State} {row y : List ℕ} {t : State} → Movable r s row y → s .done < mostSteps → t ≡ movedOf r s row y → Countable r t
+unfolding movedTo
+countable {r} {s} {row} {y} {t} m d e = rw e (record {
+  done = d;
+  total = omega (arith, m .input .state .total, m .input .state .done);
+  present = omega (arith, present-bound r s row y (m .input) (m .sized) (m .obeys) d, counted-present r (movedOf r s row y));
+})

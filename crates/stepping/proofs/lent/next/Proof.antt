@@ -1,0 +1,53 @@
+-- `stepping::lent::next` meets its contract: the row that is filled may be moved by. Assumes nothing.
+use mathlib.Core.Path.{ap, _∙_}
+use Rattle.road.specs.declared.Road.{Road}
+use Rattle.road.specs.declared.State.{State}
+use Rattle.model.specs.Move.{nextOf}
+use Rattle.stepping.specs.Looked.{movable}
+use Rattle.moves.specs.Lent.{roadOf, stateOf}
+use borrow.Author.Needs.{needs}
+use Rattle.stepping.proofs.lent.next.Statement.{statement}
+use Rattle.stepping.proofs.lent.next.Tie as tie
+
+-- the row filled, from the move's arguments, and the arguments from it
+abbrev Filled : tie.After-advance-arg4 → tie.After-outflows
+Filled c = c .before .before .before .before .before .before
+
+abbrev A : tie.After-outflows → tie.Start
+A c = c .before .before .before .before .before .before
+
+-- any road with the columns that were lent, and the state
+abbrev On : tie.Start → Road → Road
+On c r =
+    let a = c .args in
+    roadOf r (a .n) (a .gate-capacity) (a .speed .now) (a .wave .now) (a .share .now) (a .jam .now) (a .capacity .now)
+
+abbrev From : tie.Start → State
+From c = let a = c .args in stateOf (a .l) (a .held .now) (a .queue .now) (a .cumulative .now)
+
+outflows-requires : tie.Need-outflows-requires
+outflows-requires c κs = search needs
+
+advance-requires : tie.Need-advance-requires
+advance-requires c κs =
+    let o = Filled c in
+    let s = A o in
+    record {
+      road = On s (s .pre .road);
+      movable = movable (s .pre .steppable) (o .outflows .ensures (s .pre .road) (s .args .l) (s .args .queue .now));
+      left = s .pre .steppable .left;
+    }
+
+same-length : tie.Need-same-length
+same-length c = search needs
+
+returns : tie.Need-returns
+returns c =
+    let o = Filled (c .before) in
+    let s = A o in (
+      λ r. c .advance .ensures (On s r) ∙ ap (nextOf (On s r) (From s) (s .args .row .now)) (o .outflows .ensures r (s .args .l) (s .args .queue .now)),
+      λ r. o .outflows .ensures r (s .args .l) (s .args .queue .now),
+    )
+
+pub next-spec : {M : Type 1} → statement M
+next-spec = tie.close (tie.spec outflows-requires advance-requires same-length returns)
