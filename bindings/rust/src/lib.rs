@@ -1,0 +1,394 @@
+//! Safe calls of the proved freeway engine. Counts are in parts, thousandths of a vehicle; times in part-steps.
+//!
+//! Each call passes slices whole, so pointer, count, alignment and the borrows are Rust's own; the engine asks nothing more.
+
+/// Limits of a road and its record.
+pub const CELLS: usize = 64;
+pub const STEPS: usize = 1_440;
+pub const BYTES: usize = 65_536;
+/// The most numbers that a table of T rows of n + 1 outflows can have.
+pub const MOST_OUTFLOWS: usize = 8_799;
+
+/// What doesn't change during a run. Cell i stands at i - 1; entries from n on belong to no cell.
+#[repr(C)]
+#[derive(Clone, Copy, Debug, PartialEq, Eq)]
+pub struct Road {
+    pub n: usize,
+    pub version: u8,
+    pub seconds: u16,
+    pub gate_capacity: u32,
+    pub speed: [u16; CELLS],
+    pub wave: [u16; CELLS],
+    pub share: [u16; CELLS],
+    pub ramp: [u16; CELLS],
+    pub jam: [u32; CELLS],
+    pub capacity: [u32; CELLS],
+}
+
+/// What changes from step to step.
+#[repr(C)]
+#[derive(Clone, Copy, Debug, PartialEq, Eq)]
+pub struct State {
+    pub done: usize,
+    pub gate_time: u64,
+    pub road_time: u64,
+    pub ramp_time: u64,
+    pub gate_queue: u32,
+    pub gate_cumulative: u32,
+    pub held: [u32; CELLS],
+    pub queue: [u32; CELLS],
+    pub cumulative: [u32; CELLS],
+}
+
+/// What a study starts from.
+#[repr(C)]
+#[derive(Clone, Copy, Debug, PartialEq, Eq)]
+pub struct Start {
+    pub gate_queue: u32,
+    pub held: [u32; CELLS],
+    pub queue: [u32; CELLS],
+}
+
+/// The lanes of one step, each set bit a lane.
+#[repr(C)]
+#[derive(Clone, Copy, Debug, PartialEq, Eq)]
+pub struct Lanes {
+    pub built: [u8; CELLS],
+    pub usable: [u8; CELLS],
+}
+
+/// What reading answers; number 0 without a refusal.
+#[repr(C)]
+#[derive(Clone, Copy, Debug, PartialEq, Eq)]
+pub struct Reading {
+    pub number: u64,
+    pub place: u64,
+    pub steps: u64,
+    pub road: Road,
+    pub state: State,
+}
+
+/// What running, filling, judging and history answer; number 0 without a refusal.
+#[repr(C)]
+#[derive(Clone, Copy, Debug, PartialEq, Eq)]
+pub struct Ended {
+    pub number: u64,
+    pub step: u64,
+    pub place: u64,
+    pub total: u64,
+    pub present: u64,
+    pub exits: u64,
+    pub road: Road,
+    pub state: State,
+}
+
+/// What stepping answers; after a refusal the state is the one given.
+#[repr(C)]
+#[derive(Clone, Copy, Debug, PartialEq, Eq)]
+pub struct Stepped {
+    pub number: u64,
+    pub place: u64,
+    pub state: State,
+}
+
+/// What writing answers: the count of bytes, 0 after a refusal.
+#[repr(C)]
+#[derive(Clone, Copy, Debug, PartialEq, Eq)]
+pub struct Written {
+    pub number: u64,
+    pub place: u64,
+    pub count: u64,
+}
+
+const _: () =
+    assert!(size_of::<Road>() == 1040 && size_of::<State>() == 808 && size_of::<Start>() == 516);
+const _: () = assert!(
+    size_of::<Reading>() == 1872 && size_of::<Ended>() == 1896 && size_of::<Stepped>() == 824
+);
+
+/// A meter law.
+#[derive(Clone, Copy, Debug, PartialEq)]
+pub enum Law {
+    Fixed {
+        rate: f64,
+    },
+    Alinea {
+        gain: f64,
+        target: f64,
+    },
+    DemandCapacity {
+        capacity: f64,
+        critical: f64,
+        least: f64,
+    },
+}
+
+impl Law {
+    fn flat(self) -> (u8, [f64; 3]) {
+        match self {
+            Law::Fixed { rate } => (0, [rate, 0.0, 0.0]),
+            Law::Alinea { gain, target } => (1, [gain, target, 0.0]),
+            Law::DemandCapacity {
+                capacity,
+                critical,
+                least,
+            } => (2, [capacity, critical, least]),
+        }
+    }
+}
+
+mod raw {
+    use super::{Ended, Lanes, Reading, Road, Start, State, Stepped, Written};
+    extern "C" {
+        pub fn nobyaluk_read(record: *const u8, bytes: usize) -> Reading;
+        pub fn nobyaluk_run(
+            record: *const u8,
+            bytes: usize,
+            lanes: *const u8,
+            lanes_count: usize,
+            list: *mut u32,
+            count: usize,
+        ) -> Ended;
+        pub fn nobyaluk_judge(
+            record: *const u8,
+            bytes: usize,
+            lanes: *const u8,
+            lanes_count: usize,
+            schedule: *const u32,
+            count: usize,
+        ) -> Ended;
+        pub fn nobyaluk_history(
+            record: *const u8,
+            bytes: usize,
+            lanes: *const u8,
+            lanes_count: usize,
+            schedule: *const u32,
+            count: usize,
+            held: *mut u32,
+            held_count: usize,
+            queue: *mut u32,
+            queue_count: usize,
+        ) -> Ended;
+        pub fn nobyaluk_fill(
+            record: *mut u8,
+            bytes: usize,
+            kinds: *const u8,
+            kinds_count: usize,
+            numbers: *const f64,
+            numbers_count: usize,
+            lanes: *const u8,
+            lanes_count: usize,
+            list: *mut u32,
+            count: usize,
+        ) -> Ended;
+        pub fn nobyaluk_write(
+            road: Road,
+            steps: usize,
+            start: Start,
+            rows: *const u32,
+            count: usize,
+            target: *mut u8,
+            bytes: usize,
+        ) -> Written;
+        pub fn nobyaluk_rows(
+            record: *const u8,
+            bytes: usize,
+            n: usize,
+            steps: usize,
+            list: *mut u32,
+            count: usize,
+        ) -> usize;
+        pub fn nobyaluk_step(
+            road: Road,
+            state: State,
+            row: *const u32,
+            numbers: usize,
+            lanes: Lanes,
+        ) -> Stepped;
+        pub fn nobyaluk_demand(speed: u16, capacity: u32, held: u32) -> u32;
+        pub fn nobyaluk_supply(wave: u16, capacity: u32, jam: u32, held: u32) -> u32;
+        pub fn nobyaluk_outflow(share: u16, cumulative: u32, room: u32, demand: u32) -> u32;
+        pub fn nobyaluk_open_capacity(capacity: u32, built: u8, usable: u8) -> u32;
+    }
+}
+
+/// Reads a record.
+pub fn read(record: &[u8]) -> Reading {
+    unsafe { raw::nobyaluk_read(record.as_ptr(), record.len()) }
+}
+
+/// Runs a record under a table of lanes (empty: all open) into a lent list: the engine's own shape.
+pub fn run_into(record: &[u8], lanes: &[u8], list: &mut [u32]) -> Ended {
+    unsafe {
+        raw::nobyaluk_run(
+            record.as_ptr(),
+            record.len(),
+            lanes.as_ptr(),
+            lanes.len(),
+            list.as_mut_ptr(),
+            list.len(),
+        )
+    }
+}
+
+/// Judges a schedule, a row of n + 1 outflows a step, gate first.
+pub fn judge(record: &[u8], lanes: &[u8], schedule: &[u32]) -> Ended {
+    unsafe {
+        raw::nobyaluk_judge(
+            record.as_ptr(),
+            record.len(),
+            lanes.as_ptr(),
+            lanes.len(),
+            schedule.as_ptr(),
+            schedule.len(),
+        )
+    }
+}
+
+/// Judges a schedule and writes, after each step made, what each place holds and what waits at each ramp.
+pub fn history_into(
+    record: &[u8],
+    lanes: &[u8],
+    schedule: &[u32],
+    held: &mut [u32],
+    queue: &mut [u32],
+) -> Ended {
+    unsafe {
+        raw::nobyaluk_history(
+            record.as_ptr(),
+            record.len(),
+            lanes.as_ptr(),
+            lanes.len(),
+            schedule.as_ptr(),
+            schedule.len(),
+            held.as_mut_ptr(),
+            held.len(),
+            queue.as_mut_ptr(),
+            queue.len(),
+        )
+    }
+}
+
+/// Fills the record's releases by a law for each cell, and runs it.
+pub fn fill_into(record: &mut [u8], laws: &[Law], lanes: &[u8], list: &mut [u32]) -> Ended {
+    let (kinds, numbers): (Vec<u8>, Vec<[f64; 3]>) = laws.iter().map(|law| law.flat()).unzip();
+    let numbers = numbers.as_flattened();
+    unsafe {
+        raw::nobyaluk_fill(
+            record.as_mut_ptr(),
+            record.len(),
+            kinds.as_ptr(),
+            kinds.len(),
+            numbers.as_ptr(),
+            numbers.len(),
+            lanes.as_ptr(),
+            lanes.len(),
+            list.as_mut_ptr(),
+            list.len(),
+        )
+    }
+}
+
+/// Writes the record of a road, a start and its rows into a target.
+pub fn write_into(
+    road: Road,
+    steps: usize,
+    start: Start,
+    rows: &[u32],
+    target: &mut [u8],
+) -> Written {
+    unsafe {
+        raw::nobyaluk_write(
+            road,
+            steps,
+            start,
+            rows.as_ptr(),
+            rows.len(),
+            target.as_mut_ptr(),
+            target.len(),
+        )
+    }
+}
+
+/// The rows of a record's first steps, and how many numbers they have.
+pub fn rows_into(record: &[u8], n: usize, steps: usize, list: &mut [u32]) -> usize {
+    unsafe {
+        raw::nobyaluk_rows(
+            record.as_ptr(),
+            record.len(),
+            n,
+            steps,
+            list.as_mut_ptr(),
+            list.len(),
+        )
+    }
+}
+
+/// One step by a row of the record's order.
+pub fn step(road: Road, state: State, row: &[u32], lanes: Lanes) -> Stepped {
+    unsafe { raw::nobyaluk_step(road, state, row.as_ptr(), row.len(), lanes) }
+}
+
+pub fn demand(speed: u16, capacity: u32, held: u32) -> u32 {
+    unsafe { raw::nobyaluk_demand(speed, capacity, held) }
+}
+
+pub fn supply(wave: u16, capacity: u32, jam: u32, held: u32) -> u32 {
+    unsafe { raw::nobyaluk_supply(wave, capacity, jam, held) }
+}
+
+pub fn outflow(share: u16, cumulative: u32, room: u32, demand: u32) -> u32 {
+    unsafe { raw::nobyaluk_outflow(share, cumulative, room, demand) }
+}
+
+pub fn open_capacity(capacity: u32, built: u8, usable: u8) -> u32 {
+    unsafe { raw::nobyaluk_open_capacity(capacity, built, usable) }
+}
+
+/// A refusal by its number, with step and place (0 where none is named).
+#[derive(Clone, Copy, Debug, PartialEq, Eq)]
+pub struct Refused {
+    pub number: u64,
+    pub step: u64,
+    pub place: u64,
+}
+
+impl std::fmt::Display for Refused {
+    fn fmt(&self, f: &mut std::fmt::Formatter<'_>) -> std::fmt::Result {
+        write!(f, "refused {} {} {}", self.number, self.step, self.place)
+    }
+}
+
+impl std::error::Error for Refused {}
+
+/// A run without refusal, with its tables: one row a step, n + 1 numbers a row, gate first.
+#[derive(Clone, Debug)]
+pub struct Run {
+    pub ended: Ended,
+    pub outflow: Vec<u32>,
+    pub held: Vec<u32>,
+    pub queue: Vec<u32>,
+}
+
+/// Runs a record whole, under a table of lanes.
+pub fn run(record: &[u8], lanes: &[u8]) -> Result<Run, Refused> {
+    let reading = read(record);
+    let size = reading.steps as usize * (reading.road.n + 1);
+    let mut outflow = vec![0; size];
+    let ended = run_into(record, lanes, &mut outflow);
+    if ended.number != 0 {
+        return Err(Refused {
+            number: ended.number,
+            step: ended.step,
+            place: ended.place,
+        });
+    }
+    let (mut held, mut queue) = (vec![0; size], vec![0; size]);
+    history_into(record, lanes, &outflow, &mut held, &mut queue);
+    Ok(Run {
+        ended,
+        outflow,
+        held,
+        queue,
+    })
+}
