@@ -1,21 +1,26 @@
 //! A record told as text, the way back from `text`.
 //!
-//! Every record can be told whose bytes are a head, whole cells and whole
-//! numbers, refused ones too. The text is canonical: zeros that need no name
-//! have none, like rows that follow each other are one line, and `damage`
-//! stands last.
+//! Every record of at most 65,536 bytes can be told that is a head, whole cells
+//! and whole numbers, refused ones too. The text is canonical: `refused` stands
+//! first where reading refuses, zeros that need no name have none, like rows
+//! that follow each other are one line, and `damage` stands last.
 
 use crate::draft::CellDraft;
+use crate::model::Road;
 use crate::record;
 use std::fmt::Write;
 
-/// Most rows that a text can have.
-const MAX_ROWS: usize = u16::MAX as usize;
-
 /// The text that gives these bytes again, or why there is none.
 pub fn text_of(bytes: &[u8]) -> Result<String, String> {
+    if bytes.len() > Road::MAX_BYTES {
+        return Err(format!("a record has at most {} bytes", Road::MAX_BYTES));
+    }
     let told = Told::of(bytes)?;
     let mut out = String::new();
+    let number = record::read(bytes).number;
+    if number != 0 {
+        put(&mut out, format_args!("refused {number}\n"));
+    }
     if let Some(seconds) = told.seconds {
         put(&mut out, format_args!("version 2\nseconds {seconds}\n"));
     }
@@ -101,13 +106,7 @@ fn whole_rows(bytes: &[u8], width: usize) -> Result<Vec<Vec<u32>>, String> {
         ));
     }
     let numbers: Vec<u32> = parts.map(|part| record::u32_at(part, 0)).collect();
-    let rows: Vec<Vec<u32>> = numbers.chunks(width).map(<[u32]>::to_vec).collect();
-    match rows.len() {
-        0..=MAX_ROWS => Ok(rows),
-        count => Err(format!(
-            "the record has {count} rows, a text at most {MAX_ROWS}"
-        )),
-    }
+    Ok(numbers.chunks(width).map(<[u32]>::to_vec).collect())
 }
 
 /// A cell's line, without its end.
@@ -128,13 +127,11 @@ fn put_rows(out: &mut String, cells: &[CellDraft], like: &[Vec<u32>], step: usiz
         put(out, format_args!("repeat {count} "));
     }
     let whole = row.len() == 1 + 2 * cells.len();
-    if !whole || !only_at_ramps(cells, row) {
-        out.push_str("unchecked ");
-    }
     out.push_str("row");
-    match whole {
-        true => put_places(out, row),
-        false => row.iter().for_each(|x| put(out, format_args!(" {x}"))),
+    if whole {
+        put_places(out, row);
+    } else {
+        row.iter().for_each(|x| put(out, format_args!(" {x}")));
     }
     match count {
         1 => put(out, format_args!("  # step {step}\n")),
@@ -155,12 +152,6 @@ fn put_places(out: &mut String, row: &[u32]) {
             put_named(out, "release", pair[1]);
         }
     }
-}
-
-/// No number of a whole row stands at a cell without a ramp.
-fn only_at_ramps(cells: &[CellDraft], row: &[u32]) -> bool {
-    let mut pairs = cells.iter().zip(row[1..].chunks(2));
-    pairs.all(|(cell, pair)| cell.ramp != 0 || pair == [0, 0])
 }
 
 /// A `damage` line for each field of the head that the rest doesn't give.

@@ -7,12 +7,12 @@
 use crate::model::Road;
 
 /// The capacity that its open lanes leave a cell: C x open / built, rounded
-/// down; 0 where no lane is built.
+/// down; 0 where no lane is built, and the greatest number of 32 bits where more
+/// lanes are open than built and the quotient passes it.
 pub fn open_capacity(capacity: u32, built: u8, open: u8) -> u32 {
-    match u64::from(built.count_ones()) {
-        0 => 0,
-        built => (u64::from(capacity) * u64::from(open.count_ones()) / built) as u32,
-    }
+    let whole = u64::from(capacity) * u64::from(open.count_ones());
+    let left = whole.checked_div(u64::from(built.count_ones()));
+    u32::try_from(left.unwrap_or(0)).unwrap_or(u32::MAX)
 }
 
 /// Some lane is built, and every open lane is.

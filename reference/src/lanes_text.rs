@@ -60,12 +60,11 @@ impl Works {
     fn built_line(&mut self, words: &mut Words) -> Result<(), TextError> {
         let count = within(words, "the lanes", 1, MAX_LANES as usize)?;
         let lanes = (u8::MAX) >> (MAX_LANES as usize - count);
-        match words.done() {
-            true => self.built.fill(lanes),
-            false => {
-                let cell = self.cell(words)?;
-                self.built[cell - 1] = lanes;
-            }
+        if words.done() {
+            self.built.fill(lanes);
+        } else {
+            let cell = self.cell(words)?;
+            self.built[cell - 1] = lanes;
         }
         Ok(())
     }
@@ -115,9 +114,5 @@ impl Works {
 
 /// The next word as a number between two others.
 fn within(words: &mut Words, wanted: &str, least: usize, most: usize) -> Result<usize, TextError> {
-    let number = words.number(wanted, most as u64)? as usize;
-    match number < least {
-        true => words.error(format!("{wanted}: {number} is less than {least}")),
-        false => Ok(number),
-    }
+    Ok(words.within(wanted, least as u64, most as u64)? as usize)
 }

@@ -15,6 +15,20 @@ use crate::meter::Law;
 use crate::model::Road;
 use crate::text::{self, TextError, Words};
 
+/// A warning for each line of a sound text whose cell has no ramp on this road,
+/// so that nothing follows its law.
+pub fn unused(text: &str, road: &Road) -> Vec<TextError> {
+    let cells = text::lines(text).filter_map(|mut words| {
+        words.keyword("ramp").ok()?;
+        let cell = words.number("the ramp's cell", Road::MAX_CELLS as u64);
+        Some((cell.ok()? as usize, words))
+    });
+    cells
+        .filter(|&(cell, _)| cell > road.n || road.ramp[cell - 1] == 0)
+        .map(|(cell, words)| words.fault(format!("cell {cell} has no ramp: its law is not used")))
+        .collect()
+}
+
 /// The laws that a text names.
 pub fn laws_of(text: &str) -> Result<Laws, TextError> {
     let mut named = [None; Road::MAX_CELLS];

@@ -18,6 +18,7 @@ pub mod meter;
 pub mod model;
 pub mod print;
 pub mod record;
+pub mod refusals;
 pub mod run;
 pub mod step;
 pub mod text;

@@ -1,10 +1,11 @@
 //! The reference program. A file that isn't named is standard input or output.
-//! An output file is written only where there is no error.
+//! An output file is written only where there is no error, and never over the
+//! input. Exit status: 0; 1 after a refusal or a fault in a file; 2 for a wrong
+//! call.
 //!
 //!     reference record [TEXT [RECORD]]      a text into a record
 //!     reference text [RECORD [TEXT]]        a record into a text
-//!     reference run < RECORD                a run printed whole
-//!     reference run RECORD LANES            the same with lanes closed
+//!     reference run [RECORD [LANES]]        a run printed whole, with lanes closed
 //!     reference judge RECORD SCHEDULE       a schedule's numbers judged
 //!     reference schedule < RECORD           a run's own rows as a schedule
 //!     reference fill RECORD LAWS [LANES]    the record filled by meter laws
@@ -14,17 +15,21 @@
 //!                                           on these and on the trials' records
 //!     reference ctm-records DIR             those records and their prints
 
-use reference::{as_text, compare, fill, judge, lanes_text, laws, print, record, text, trials};
-use std::fs;
+use reference::answer::Answer;
+use reference::model::Road;
+use reference::{
+    as_text, compare, fill, judge, lanes_text, laws, print, record, refusals, text, trials,
+};
+use std::fs::{self, File};
 use std::io::{self, Read, Write};
+use std::os::unix::fs::MetadataExt;
 use std::path::Path;
 use std::process::ExitCode;
 
 const USAGE: &str = "usage:
   reference record [TEXT [RECORD]]
   reference text [RECORD [TEXT]]
-  reference run < RECORD
-  reference run RECORD LANES
+  reference run [RECORD [LANES]]
   reference judge RECORD SCHEDULE
   reference schedule < RECORD
   reference fill RECORD LAWS [LANES]
@@ -34,6 +39,14 @@ const USAGE: &str = "usage:
   reference ctm-records DIR
 ";
 
+/// What is read of a record: one byte more than it may have. Whatever its other
+/// bytes, one that has this byte is refused with 1.
+const RECORD_BYTES: u64 = Road::MAX_BYTES as u64 + 1;
+/// The most that a text may have.
+const TEXT_BYTES: u64 = 1 << 20;
+/// The most that the frames of trials may have.
+const FRAMES_BYTES: u64 = 1 << 26;
+
 /// Bytes to write, or what went wrong.
 type Made = Result<Vec<u8>, String>;
 
@@ -41,16 +54,21 @@ fn main() -> ExitCode {
     let args: Vec<String> = std::env::args().skip(1).collect();
     let words: Vec<&str> = args.iter().map(String::as_str).collect();
     let done = match words[..] {
-        ["record", ref files @ ..] if files.len() <= 2 => convert(files, make_record),
-        ["text", ref files @ ..] if files.len() <= 2 => convert(files, make_text),
-        ["run"] => convert(&[], |record| Ok(print::printed_run(record).into_bytes())),
-        ["run", record, lanes] => run_files(record, lanes).and_then(print_out),
-        ["judge", record, schedule] => judge_files(record, schedule).and_then(print_out),
-        ["schedule"] => convert(&[], print_schedule),
+        ["record", ref files @ ..] if files.len() <= 2 => convert(files, read_text, make_record),
+        ["text", ref files @ ..] if files.len() <= 2 => convert(files, read_record, make_text),
+        ["run"] => run_record(None, &[]),
+        ["run", record] => run_record(Some(record), &[]),
+        ["run", record, lanes] => {
+            read_lanes(lanes).and_then(|table| run_record(Some(record), &table))
+        }
+        ["judge", record, schedule] => judge_files(record, schedule),
+        ["schedule"] => convert(&[], read_record, print_schedule),
         ["fill", record, laws] => fill_files(record, laws, None).and_then(print_out),
         ["fill", record, laws, lanes] => fill_files(record, laws, Some(lanes)).and_then(print_out),
         ["trials-input"] => print_out(trials::input()),
-        ["trials-output"] => convert(&[], |frames| trials::output(frames).map(String::into_bytes)),
+        ["trials-output"] => convert(&[], read_frames, |frames| {
+            trials::output(frames).map(String::into_bytes)
+        }),
         ["compare", program, ref records @ ..] => compare_program(program, records),
         ["ctm-records", dir] => write_records(Path::new(dir)),
         _ => {
@@ -69,14 +87,33 @@ fn main() -> ExitCode {
 
 /// Makes the second file, or standard output, from the first, or from standard
 /// input.
-fn convert(files: &[&str], make: impl FnOnce(&[u8]) -> Made) -> Result<(), String> {
-    let made = match files.first() {
-        Some(name) => make(&read_file(name)?).map_err(|e| format!("{name}: {e}")),
-        None => make(&standard_input()?),
-    }?;
+fn convert(
+    files: &[&str],
+    read: impl FnOnce(Option<&str>) -> Made,
+    make: impl FnOnce(&[u8]) -> Made,
+) -> Result<(), String> {
+    let input = files.first().copied();
+    if let [from, to] = files {
+        if is_same_file(from, to) {
+            return Err(format!("{to} is the input, which would be lost"));
+        }
+    }
+    let made = make(&read(input)?).map_err(|fault| match input {
+        Some(name) => format!("{name}: {fault}"),
+        None => fault,
+    })?;
     match files.get(1) {
         Some(name) => write_file(Path::new(name), &made),
         None => print_out(made),
+    }
+}
+
+/// Both names lead to one file.
+fn is_same_file(one: &str, other: &str) -> bool {
+    let identity = |name| fs::metadata(name).map(|data| (data.dev(), data.ino()));
+    match (identity(one), identity(other)) {
+        (Ok(one), Ok(other)) => one == other,
+        _ => false,
     }
 }
 
@@ -91,57 +128,82 @@ fn make_text(record: &[u8]) -> Made {
     as_text::text_of(record).map(String::into_bytes)
 }
 
-/// The line that judging a schedule prints.
-fn judge_files(record: &str, schedule: &str) -> Made {
-    let bytes = read_file(schedule)?;
-    let numbers = text::decoded(&bytes).and_then(text::schedule_of);
-    let numbers = numbers.map_err(|e| format!("{schedule}: {e}"))?;
-    let answer = judge::judge(&read_file(record)?, &[], &numbers);
-    Ok(print::judgement_line(&answer).into_bytes())
+/// Prints the line that judging a schedule gives; a refusal is an error, too.
+fn judge_files(record: &str, schedule: &str) -> Result<(), String> {
+    let bytes = read_text(Some(schedule))?;
+    let at_line = |fault: text::TextError| format!("{schedule}: {fault}");
+    let told = text::decoded(&bytes).map_err(at_line)?;
+    let numbers = text::schedule_of(told).map_err(at_line)?;
+    let record = read_record(Some(record))?;
+    let answer = judge::judge(&record, &[], &numbers);
+    print_out(print::judgement_line(&answer).into_bytes())?;
+    let reading = record::read(&record);
+    match text::schedule_fault(told, reading.road.n, reading.steps) {
+        Some(fault) if answer.number == 12 => Err(at_line(fault)),
+        _ => passed(&answer),
+    }
+}
+
+/// An error with the words of a refusal, where there is one.
+fn passed(answer: &Answer) -> Result<(), String> {
+    match answer.number {
+        0 => Ok(()),
+        _ => Err(in_words(answer)),
+    }
+}
+
+/// A refusal's line and what it means.
+fn in_words(answer: &Answer) -> String {
+    let line = print::refusal_line(answer);
+    format!("{}: {}", line.trim_end(), refusals::words(answer.number))
 }
 
 /// A refused run has no schedule; the refusal is an error here.
 fn print_schedule(record: &[u8]) -> Made {
-    let text = print::printed_schedule(record);
-    text.map(String::into_bytes)
-        .map_err(|refusal| refusal.trim_end().to_string())
+    match print::printed_schedule(record) {
+        Ok(text) => Ok(text.into_bytes()),
+        Err(answer) => Err(in_words(&answer)),
+    }
 }
 
-/// A run printed whole, with the lanes that a file closes.
-fn run_files(record: &str, lanes: &str) -> Made {
-    let table = read_lanes(lanes)?;
-    let printed = print::printed_under(&read_file(record)?, &table);
-    Ok(printed.into_bytes())
+/// Prints a run whole, with the lanes that a table closes; a refusal is an
+/// error, too.
+fn run_record(name: Option<&str>, table: &[u8]) -> Result<(), String> {
+    let (printed, answer) = print::printed_with_answer(&read_record(name)?, table);
+    print_out(printed.into_bytes())?;
+    passed(&answer)
 }
 
 /// The table of lanes of a file.
 fn read_lanes(name: &str) -> Made {
-    let bytes = read_file(name)?;
+    let bytes = read_text(Some(name))?;
     let table = text::decoded(&bytes).and_then(lanes_text::table_of);
     table.map_err(|e| format!("{name}: {e}"))
 }
 
-/// The record with its releases filled; a refusal is an error here.
+/// The record with its releases filled; a refusal is an error here. A law that
+/// isn't used is warned of.
 fn fill_files(name: &str, laws_name: &str, lanes: Option<&str>) -> Made {
-    let bytes = read_file(laws_name)?;
-    let laws = text::decoded(&bytes).and_then(laws::laws_of);
-    let laws = laws.map_err(|e| format!("{laws_name}: {e}"))?;
+    let bytes = read_text(Some(laws_name))?;
+    let at_line = |fault: text::TextError| format!("{laws_name}: {fault}");
+    let told = text::decoded(&bytes).map_err(at_line)?;
+    let laws = laws::laws_of(told).map_err(at_line)?;
     let table = lanes.map_or(Ok(vec![]), read_lanes)?;
-    let mut filled = read_file(name)?;
+    let mut filled = read_record(Some(name))?;
     let reading = record::read(&filled);
     let mut list = vec![0; reading.steps * (reading.road.n + 1)];
-    let answer = fill::fill(&mut filled, &laws, &table, &mut list);
-    match answer.number {
-        0 => Ok(filled),
-        _ => Err(print::refusal_line(&answer).trim_end().to_string()),
+    passed(&fill::fill(&mut filled, &laws, &table, &mut list))?;
+    for unused in laws::unused(told, &reading.road) {
+        eprintln!("reference: warning: {}", at_line(unused));
     }
+    Ok(filled)
 }
 
 /// Compares on the named files and on the trials' records.
 fn compare_program(program: &str, files: &[&str]) -> Result<(), String> {
     let mut records = Vec::new();
     for name in files {
-        let record = read_file(name)?;
+        let record = read_record(Some(name))?;
         let name = name.to_string();
         records.push(compare::Named { name, record });
     }
@@ -160,17 +222,40 @@ fn write_records(dir: &Path) -> Result<(), String> {
     Ok(())
 }
 
-/// All bytes of standard input.
-fn standard_input() -> Made {
-    let mut bytes = Vec::new();
-    let read = io::stdin().read_to_end(&mut bytes);
-    read.map_err(|e| format!("standard input: {e}"))?;
+/// A record, or as much of it as shows that it is too long.
+fn read_record(name: Option<&str>) -> Made {
+    read_some(name, RECORD_BYTES)
+}
+
+/// A text whole.
+fn read_text(name: Option<&str>) -> Made {
+    read_whole(name, TEXT_BYTES)
+}
+
+/// The frames of trials whole.
+fn read_frames(name: Option<&str>) -> Made {
+    read_whole(name, FRAMES_BYTES)
+}
+
+/// All bytes of a file or of standard input, if they aren't too many.
+fn read_whole(name: Option<&str>, most: u64) -> Made {
+    let bytes = read_some(name, most + 1)?;
+    if bytes.len() as u64 > most {
+        let name = name.unwrap_or("standard input");
+        return Err(format!("{name}: more than {most} bytes"));
+    }
     Ok(bytes)
 }
 
-/// All bytes of a file.
-fn read_file(name: &str) -> Made {
-    fs::read(name).map_err(|e| format!("{name}: {e}"))
+/// The bytes of a file or of standard input, as many as are asked for.
+fn read_some(name: Option<&str>, most: u64) -> Made {
+    let mut bytes = Vec::new();
+    let read = match name {
+        Some(name) => File::open(name).and_then(|file| file.take(most).read_to_end(&mut bytes)),
+        None => io::stdin().lock().take(most).read_to_end(&mut bytes),
+    };
+    read.map_err(|e| format!("{}: {e}", name.unwrap_or("standard input")))?;
+    Ok(bytes)
 }
 
 /// Writes a file whole.

@@ -47,10 +47,13 @@ impl Law {
                 capacity,
                 critical,
                 least,
-            } => match held <= critical {
-                true => capacity - entered,
-                false => least,
-            },
+            } => {
+                if held <= critical {
+                    capacity - entered
+                } else {
+                    least
+                }
+            }
         }
     }
 }
@@ -61,9 +64,9 @@ pub fn release(wish: f64, cap: u32) -> u32 {
     if wish.is_nan() || wish < 0.0 {
         return 0;
     }
-    match wish >= f64::from(cap) {
-        true => cap,
-        // Below the cap the whole number fits 32 bits.
-        false => wish.floor() as u32,
+    if wish >= f64::from(cap) {
+        return cap;
     }
+    // Below the cap the whole number fits 32 bits.
+    wish.floor() as u32
 }

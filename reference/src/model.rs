@@ -157,9 +157,10 @@ pub fn gate_demand(capacity: u32, queue: u32) -> u64 {
     u64::from(capacity.min(queue))
 }
 
-/// Supply of a cell: min(C, w * (J - held) / 1000 rounded down), for held <= J.
+/// Supply of a cell: min(C, w * (J - held) / 1000 rounded down); 0 for held
+/// above J.
 pub fn cell_supply(w: u16, capacity: u32, jam: u32, held: u32) -> u64 {
-    u64::from(capacity).min(u64::from(w) * u64::from(jam - held) / 1_000)
+    u64::from(capacity).min(u64::from(w) * u64::from(jam.saturating_sub(held)) / 1_000)
 }
 
 /// Onward total of a place: share * F / 1000 rounded down.
@@ -172,21 +173,23 @@ pub fn entering(share: u64, f: u64, outflow: u64) -> u64 {
     onward_total(share, f + outflow) - onward_total(share, f)
 }
 
-/// The greatest outflow q <= demand with entering(share, f, q) <= room.
+/// The greatest outflow q <= demand with entering(share, f, q) <= room, found by
+/// search.
 ///
-/// Put R = onward_total(share, f) + room. The condition on q is
-/// floor(share * (f + q) / 1000) <= R. As R is whole, the floor is at most R
-/// exactly when the quotient is below R + 1, that is when
-/// share * (f + q) <= 1000 * R + 999. For a share above 0 this says
-/// f + q <= floor((1000 * R + 999) / share), so the greatest q is that bound
-/// less f, or the demand if it is smaller. The difference isn't negative,
-/// because q = 0 meets the condition. With share 0 nothing ever enters.
+/// An outflow of 0 lets nothing in, so it always fits; what enters never falls
+/// as the outflow grows. The greatest that fits is looked for between one that
+/// fits and one that is too much.
 pub fn greatest_outflow(share: u64, f: u64, demand: u64, room: u64) -> u64 {
-    if share == 0 {
-        return demand;
+    let (mut fits, mut too_much) = (0, demand + 1);
+    while too_much - fits > 1 {
+        let tried = fits + (too_much - fits) / 2;
+        if entering(share, f, tried) <= room {
+            fits = tried;
+        } else {
+            too_much = tried;
+        }
     }
-    let onward_bound = onward_total(share, f) + room;
-    demand.min((1_000 * onward_bound + 999) / share - f)
+    fits
 }
 
 /// Demand of a place in this state.

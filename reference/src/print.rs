@@ -16,12 +16,18 @@ pub fn printed_run(record: &[u8]) -> String {
 
 /// The same under a table of lanes.
 pub fn printed_under(record: &[u8], table: &[u8]) -> String {
+    let (printed, _) = printed_with_answer(record, table);
+    printed
+}
+
+/// The same, with running's answer.
+pub fn printed_with_answer(record: &[u8], table: &[u8]) -> (String, Answer) {
     let reading = record::read(record);
     let width = reading.road.n + 1;
     let mut outflows = vec![0; reading.steps * width];
     let answer = run::run(record, table, &mut outflows);
     if answer.number != 0 {
-        return refusal_line(&answer);
+        return (refusal_line(&answer), answer);
     }
     let mut out = String::from(HEADER);
     let mut state = reading.state;
@@ -34,7 +40,7 @@ pub fn printed_under(record: &[u8], table: &[u8]) -> String {
     if answer.road.version == 2 {
         put(&mut out, format_args!("seconds {}\n", seconds(&answer)));
     }
-    out
+    (out, answer)
 }
 
 /// Total time spent in whole vehicle-seconds, rounded down.
@@ -43,14 +49,14 @@ fn seconds(answer: &Answer) -> u128 {
 }
 
 /// The rows that running writes, as the text of a schedule: a line a step.
-/// Where the run is refused, the refusal line instead.
-pub fn printed_schedule(record: &[u8]) -> Result<String, String> {
+/// Where the run is refused, its answer instead.
+pub fn printed_schedule(record: &[u8]) -> Result<String, Box<Answer>> {
     let reading = record::read(record);
     let width = reading.road.n + 1;
     let mut outflows = vec![0; reading.steps * width];
     let answer = run::run(record, &[], &mut outflows);
     if answer.number != 0 {
-        return Err(refusal_line(&answer));
+        return Err(Box::new(answer));
     }
     let mut out = String::new();
     for flows in outflows.chunks(width) {

@@ -3,6 +3,7 @@
 //! One statement a line; `#` starts a comment; the numbers are decimal.
 //!
 //! ```text
+//! refused N                                  the record is meant to be refused so
 //! version 1|2                                without it the version is 1
 //! seconds N                                  a step's seconds, of version 2 alone
 //! steps T                                    number of steps, as many as rows
@@ -10,25 +11,32 @@
 //! [repeat K] cell v N w N b N jam N capacity N [ramp N] [held N] [queue N]
 //! [repeat K] row [gate N] {ramp CELL [arrivals N] [release N]}
 //! [repeat K] row N N N ...                   all 1 + 2n numbers in the record's order
-//! [repeat K] unchecked row ...               as either row, taken as it is
 //! damage length|version|cells|steps N        another number in that field
 //! damage cut|extra N                         drop or add N bytes at the end
 //! damage byte AT N                           another byte, done last
 //! ```
 //!
-//! Cells stand from upstream and before the rows. What isn't named is 0. A
-//! number beyond the road's limits is kept as it is if its field can hold it.
-//! A row of numbers has all 1 + 2n of them, and a row names nothing but 0 for a
-//! cell without a ramp. An `unchecked row` may break both, to make a record that
-//! is refused. `as_text` goes the other way, from a record to its text.
+//! Cells stand from upstream and before the rows. What isn't named is 0. A text
+//! makes a record that reads: what reading would refuse is a fault of its line.
+//! Only a text that begins with `refused N` is taken as it is, as far as the
+//! fields can hold its numbers, and must make a record that reading refuses with
+//! N. `as_text` goes the other way, from a record to its text.
 
 use crate::draft::{CellDraft, Draft};
+use crate::model::Road;
+use crate::record;
 use std::fmt;
 
 const U16: u64 = u16::MAX as u64;
 const U32: u64 = u32::MAX as u64;
-/// Most bytes that `damage` will add or drop.
-const MAX_DAMAGE_BYTES: u64 = 1_000_000;
+const WHOLE: u64 = Road::WHOLE as u64;
+const RATE: u64 = Road::MAX_RATE as u64;
+const START: u64 = Road::MAX_START_QUEUE as u64;
+/// Most bytes of all rows, and that `damage` will add or drop.
+const MAX_MADE_BYTES: u64 = 1_000_000;
+/// What counts and rates are given in, and what speeds, waves and shares are.
+const PARTS: &str = ", in thousandths of a vehicle";
+const THOUSANDTHS: &str = ", in thousandths";
 
 /// A fault in a text and the line it stands in, counted from 1.
 #[derive(Clone, Debug, PartialEq, Eq)]
@@ -72,10 +80,29 @@ pub fn schedule_of(text: &str) -> Result<Vec<u32>, TextError> {
     let mut schedule = Vec::new();
     for mut words in lines(text) {
         while !words.done() {
-            schedule.push(words.number("an outflow", U32)? as u32);
+            schedule.push(words.measure("an outflow", PARTS, U32)? as u32);
         }
     }
     Ok(schedule)
+}
+
+/// Why a schedule's text, a row a line, isn't T rows of n + 1 numbers: its first
+/// line of another length, or the count of its rows.
+pub fn schedule_fault(text: &str, n: usize, steps: usize) -> Option<TextError> {
+    let width = n + 1;
+    for (step, words) in lines(text).enumerate() {
+        let found = words.words.len();
+        if found != width {
+            return Some(words.fault(format!(
+                "the row of step {step} should have {width} numbers, gate first, not {found}"
+            )));
+        }
+    }
+    let rows = lines(text).count();
+    (rows != steps).then(|| TextError {
+        line: text.lines().count().max(1),
+        message: format!("the schedule has {rows} rows, but the record {steps} steps"),
+    })
 }
 
 /// A text without the byte-order mark that some editors put first.
@@ -105,9 +132,14 @@ pub(crate) struct Words<'a> {
 }
 
 impl<'a> Words<'a> {
-    pub(crate) fn error<T>(&self, message: String) -> Result<T, TextError> {
+    /// What is said of this line.
+    pub(crate) fn fault(&self, message: String) -> TextError {
         let line = self.line;
-        Err(TextError { line, message })
+        TextError { line, message }
+    }
+
+    pub(crate) fn error<T>(&self, message: String) -> Result<T, TextError> {
+        Err(self.fault(message))
     }
 
     pub(crate) fn done(&self) -> bool {
@@ -131,14 +163,30 @@ impl<'a> Words<'a> {
 
     /// The next word as a number from 0 to `most`.
     pub(crate) fn number(&mut self, wanted: &str, most: u64) -> Result<u64, TextError> {
+        self.measure(wanted, "", most)
+    }
+
+    /// The same, where the unit is worth a word.
+    fn measure(&mut self, wanted: &str, unit: &str, most: u64) -> Result<u64, TextError> {
         let word = self.word(wanted)?;
         if !is_number(word) {
-            return self.error(format!("{wanted} should be a number, not '{word}'"));
+            return self.error(format!(
+                "{wanted} should be a whole number{unit}, not '{word}'"
+            ));
         }
         match word.parse::<u64>() {
             Ok(number) if number <= most => Ok(number),
             _ => self.error(format!("{wanted}: {word} is more than {most}")),
         }
+    }
+
+    /// The next word as a number between two others.
+    pub(crate) fn within(&mut self, wanted: &str, least: u64, most: u64) -> Result<u64, TextError> {
+        let number = self.number(wanted, most)?;
+        if number < least {
+            return self.error(format!("{wanted}: {number} is less than {least}"));
+        }
+        Ok(number)
     }
 
     pub(crate) fn end(&self) -> Result<(), TextError> {
@@ -168,7 +216,7 @@ impl<'a> Words<'a> {
 
     /// The rest of the line as pairs of key and number, in any order. Gives
     /// the numbers in the order of the keys, 0 for one that isn't named.
-    fn pairs(&mut self, keys: &[Key]) -> Result<Vec<u64>, TextError> {
+    fn pairs(&mut self, keys: &[Key], free: bool) -> Result<Vec<u64>, TextError> {
         let mut found = vec![None; keys.len()];
         while !self.done() {
             let word = self.word("a keyword")?;
@@ -178,7 +226,8 @@ impl<'a> Words<'a> {
             if found[k].is_some() {
                 return self.error(format!("'{word}' stands twice"));
             }
-            found[k] = Some(self.number(word, keys[k].most)?);
+            let most = if free { keys[k].field } else { keys[k].limit };
+            found[k] = Some(self.measure(word, keys[k].unit, most)?);
         }
         for (key, value) in keys.iter().zip(&found) {
             if key.needed && value.is_none() {
@@ -196,26 +245,55 @@ fn is_number(word: &str) -> bool {
 /// A keyword that takes a number.
 struct Key {
     name: &'static str,
+    unit: &'static str,
+    /// The greatest number that reading takes.
+    limit: u64,
     /// The greatest number that its field can hold.
-    most: u64,
+    field: u64,
     needed: bool,
 }
 
-const fn key(name: &'static str, most: u64, needed: bool) -> Key {
-    Key { name, most, needed }
+/// Speed, wave or share.
+const fn thousandths(name: &'static str) -> Key {
+    Key {
+        name,
+        unit: THOUSANDTHS,
+        limit: WHOLE,
+        field: U16,
+        needed: true,
+    }
 }
 
-const GATE_KEYS: [Key; 2] = [key("capacity", U32, true), key("queue", U32, false)];
+/// A count or a rate.
+const fn parts(name: &'static str, limit: u64, needed: bool) -> Key {
+    Key {
+        name,
+        unit: PARTS,
+        limit,
+        field: U32,
+        needed,
+    }
+}
+
+const RAMP_MARK: Key = Key {
+    name: "ramp",
+    unit: "",
+    limit: 1,
+    field: U16,
+    needed: false,
+};
+
+const GATE_KEYS: [Key; 2] = [parts("capacity", RATE, true), parts("queue", START, false)];
 
 const CELL_KEYS: [Key; 8] = [
-    key("v", U16, true),
-    key("w", U16, true),
-    key("b", U16, true),
-    key("ramp", U16, false),
-    key("jam", U32, true),
-    key("capacity", U32, true),
-    key("held", U32, false),
-    key("queue", U32, false),
+    thousandths("v"),
+    thousandths("w"),
+    thousandths("b"),
+    RAMP_MARK,
+    parts("jam", RATE, true),
+    parts("capacity", RATE, true),
+    parts("held", RATE, false),
+    parts("queue", START, false),
 ];
 
 /// Another number than the one that the sheet would give.
@@ -232,6 +310,8 @@ enum Damage {
 /// What the lines so far have said.
 #[derive(Default)]
 struct Sheet {
+    /// The line of `refused` and its number.
+    refused: Option<(usize, u32)>,
     version: Option<u8>,
     /// The line of `seconds` and its number.
     seconds: Option<(usize, u16)>,
@@ -239,33 +319,72 @@ struct Sheet {
     steps: Option<(usize, u64)>,
     gate: Option<(u32, u32)>,
     cells: Vec<CellDraft>,
+    /// The line of the last cell.
+    cells_line: usize,
     rows: Vec<Vec<u32>>,
+    /// Numbers of all rows.
+    numbers: u64,
     damage: Vec<Damage>,
+    /// The line of the last damage.
+    damage_line: usize,
+    /// Some statement was read.
+    begun: bool,
 }
 
 impl Sheet {
     fn statement(&mut self, words: &mut Words) -> Result<(), TextError> {
         match words.word("a statement")? {
+            "refused" => self.refused_line(words)?,
             "version" => self.version_line(words)?,
             "seconds" => self.seconds_line(words)?,
             "steps" => self.steps_line(words)?,
             "gate" => self.gate_line(words)?,
             "cell" => self.cell_lines(words, 1)?,
-            "row" => self.row_lines(words, 1, true)?,
-            "unchecked" => self.unchecked_lines(words, 1)?,
+            "row" => self.row_lines(words, 1)?,
             "damage" => self.damage_line(words)?,
             "repeat" => {
                 let count = words.number("the count of repeats", U16)? as usize;
                 match words.word("'cell' or 'row'")? {
                     "cell" => self.cell_lines(words, count)?,
-                    "row" => self.row_lines(words, count, true)?,
-                    "unchecked" => self.unchecked_lines(words, count)?,
+                    "row" => self.row_lines(words, count)?,
                     other => return words.error(format!("'{other}' can't be repeated")),
                 }
             }
             other => return words.error(format!("unknown statement '{other}'")),
         }
+        self.begun = true;
         words.end()
+    }
+
+    fn refused_line(&mut self, words: &mut Words) -> Result<(), TextError> {
+        if self.begun {
+            return words.error("'refused' stands before all other statements".to_string());
+        }
+        let number = words.number("the refusal's number", U16)? as u32;
+        if !matches!(number, 1..=6 | 19) {
+            return words.error(format!("reading refuses with 1 to 6 or 19, not {number}"));
+        }
+        self.refused = Some((words.line, number));
+        Ok(())
+    }
+
+    /// The record is meant to be refused, so its numbers need only fit their fields.
+    fn free(&self) -> bool {
+        self.refused.is_some()
+    }
+
+    /// The greatest number of a place that has a limit and a field.
+    fn most(&self, limit: u64, field: u64) -> u64 {
+        if self.free() {
+            field
+        } else {
+            limit
+        }
+    }
+
+    /// The least number where 0 would be refused.
+    fn least(&self) -> u64 {
+        u64::from(!self.free())
     }
 
     fn version_line(&mut self, words: &mut Words) -> Result<(), TextError> {
@@ -285,7 +404,9 @@ impl Sheet {
         if self.seconds.is_some() {
             return words.error("'seconds' stands twice".to_string());
         }
-        self.seconds = Some((words.line, words.number("seconds", U16)? as u16));
+        let most = self.most(u64::from(Road::MAX_SECONDS), U16);
+        let seconds = words.within("seconds", self.least(), most)? as u16;
+        self.seconds = Some((words.line, seconds));
         Ok(())
     }
 
@@ -293,7 +414,9 @@ impl Sheet {
         if self.steps.is_some() {
             return words.error("'steps' stands twice".to_string());
         }
-        self.steps = Some((words.line, words.number("steps", U16)?));
+        let most = self.most(Road::MAX_STEPS as u64, U16);
+        let steps = words.within("steps", self.least(), most)?;
+        self.steps = Some((words.line, steps));
         Ok(())
     }
 
@@ -301,7 +424,7 @@ impl Sheet {
         if self.gate.is_some() {
             return words.error("'gate' stands twice".to_string());
         }
-        let numbers = words.pairs(&GATE_KEYS)?;
+        let numbers = words.pairs(&GATE_KEYS, self.free())?;
         self.gate = Some((numbers[0] as u32, numbers[1] as u32));
         Ok(())
     }
@@ -310,10 +433,11 @@ impl Sheet {
         if !self.rows.is_empty() {
             return words.error("cells stand before the rows".to_string());
         }
-        if self.cells.len() + count > usize::from(u8::MAX) {
-            return words.error("a record can't name more than 255 cells".to_string());
+        let most = self.most(Road::MAX_CELLS as u64, u64::from(u8::MAX));
+        if (self.cells.len() + count) as u64 > most {
+            return words.error(format!("a record has at most {most} cells"));
         }
-        let numbers = words.pairs(&CELL_KEYS)?;
+        let numbers = words.pairs(&CELL_KEYS, self.free())?;
         let cell = CellDraft {
             v: numbers[0] as u16,
             w: numbers[1] as u16,
@@ -324,34 +448,31 @@ impl Sheet {
             held: numbers[6] as u32,
             queue: numbers[7] as u32,
         };
+        if !self.free() {
+            check_cell(words, &cell)?;
+        }
         self.cells.extend(vec![cell; count]);
+        self.cells_line = words.line;
         Ok(())
     }
 
-    /// Rows after the word `unchecked`.
-    fn unchecked_lines(&mut self, words: &mut Words, count: usize) -> Result<(), TextError> {
-        match words.word("'row'")? {
-            "row" => self.row_lines(words, count, false),
-            other => words.error(format!("only a row can be unchecked, not '{other}'")),
-        }
-    }
-
     /// Like rows, all numbers or by name.
-    fn row_lines(
-        &mut self,
-        words: &mut Words,
-        count: usize,
-        checked: bool,
-    ) -> Result<(), TextError> {
-        if self.rows.len() + count > usize::from(u16::MAX) {
-            return words.error("a record can't name more than 65535 steps".to_string());
+    fn row_lines(&mut self, words: &mut Words, count: usize) -> Result<(), TextError> {
+        let most = self.most(Road::MAX_STEPS as u64, U16);
+        if (self.rows.len() + count) as u64 > most {
+            return words.error(format!("a record has at most {most} steps"));
         }
+        let most = self.most(RATE, U32);
         let row = match words.peek() {
-            Some(word) if is_number(word) => plain_row(words)?,
-            _ => named_row(words, self.cells.len())?,
+            Some(word) if is_number(word) => plain_row(words, most)?,
+            _ => named_row(words, self.cells.len(), most)?,
         };
-        if checked {
+        if !self.free() {
             self.check_row(words, &row)?;
+        }
+        self.numbers += (row.len() * count) as u64;
+        if 4 * self.numbers > MAX_MADE_BYTES {
+            return words.error(format!("the rows take more than {MAX_MADE_BYTES} bytes"));
         }
         self.rows.extend(vec![row; count]);
         Ok(())
@@ -388,8 +509,8 @@ impl Sheet {
             "version" => Damage::Version(words.number(what, 255)? as u8),
             "cells" => Damage::Cells(words.number(what, 255)? as u8),
             "steps" => Damage::Steps(words.number(what, U16)? as u16),
-            "cut" => Damage::Cut(words.number(what, MAX_DAMAGE_BYTES)? as usize),
-            "extra" => Damage::Extra(words.number(what, MAX_DAMAGE_BYTES)? as usize),
+            "cut" => Damage::Cut(words.number(what, MAX_MADE_BYTES)? as usize),
+            "extra" => Damage::Extra(words.number(what, MAX_MADE_BYTES)? as usize),
             "byte" => Damage::Byte {
                 line: words.line,
                 at: words.number("the byte's number", U32)? as usize,
@@ -398,6 +519,7 @@ impl Sheet {
             other => return words.error(format!("unknown damage '{other}'")),
         };
         self.damage.push(damage);
+        self.damage_line = words.line;
         Ok(())
     }
 
@@ -414,6 +536,11 @@ impl Sheet {
             let message = format!("steps is {steps}, but there are {rows} rows");
             return Err(TextError { line, message });
         }
+        if !self.free() {
+            let last = self.cells.last().ok_or_else(|| missing("cell"))?;
+            check_last_share(last, self.cells_line)?;
+            self.check_size(line)?;
+        }
         let draft = Draft::new(gate, self.cells, self.rows);
         let draft = match (self.version, self.seconds) {
             (Some(2), Some((_, seconds))) => draft.timed(seconds),
@@ -424,21 +551,95 @@ impl Sheet {
             }
             (_, None) => draft,
         };
-        encode_damaged(draft, &self.damage)
+        let bytes = encode_damaged(draft, &self.damage)?;
+        check_refusal(record::read(&bytes).number, self.refused, self.damage_line)?;
+        Ok(bytes)
+    }
+
+    /// The record has at most 65,536 bytes; the line is that of `steps`.
+    fn check_size(&self, line: usize) -> Result<(), TextError> {
+        let version = self.version.unwrap_or(1);
+        let (n, steps) = (self.cells.len(), self.rows.len());
+        let size = record::size(version, n, steps);
+        let most = Road::MAX_BYTES;
+        if size <= most {
+            return Ok(());
+        }
+        let room = most - record::size(version, n, 0);
+        let fitting = room / (4 + 8 * n);
+        let message = format!(
+            "steps: {steps} with {n} cells take {size} bytes, more than {most}; \
+             {n} cells leave room for {fitting} steps"
+        );
+        Err(TextError { line, message })
     }
 }
 
+/// The last share is 0.
+fn check_last_share(last: &CellDraft, line: usize) -> Result<(), TextError> {
+    if last.b == 0 {
+        return Ok(());
+    }
+    let message = format!(
+        "b of the last cell is {}, where it must be 0: all that leaves it leaves the road",
+        last.b
+    );
+    Err(TextError { line, message })
+}
+
+/// Held is at most J, and a queue has its ramp.
+fn check_cell(words: &Words, cell: &CellDraft) -> Result<(), TextError> {
+    let CellDraft {
+        held, jam, queue, ..
+    } = *cell;
+    if held > jam {
+        return words.error(format!("held: {held} is more than jam, {jam}"));
+    }
+    if queue != 0 && cell.ramp == 0 {
+        return words.error(format!(
+            "queue: {queue}, but the cell has no ramp (ramp 1 gives it one)"
+        ));
+    }
+    Ok(())
+}
+
+/// Reading refuses the record as it was meant to, or not at all. Where it isn't
+/// meant every line was looked at, so the damage is at fault.
+fn check_refusal(
+    found: u32,
+    meant: Option<(usize, u32)>,
+    damage_line: usize,
+) -> Result<(), TextError> {
+    let (line, message) = match (found, meant) {
+        (0, None) => return Ok(()),
+        (_, Some((_, number))) if found == number => return Ok(()),
+        (0, Some((line, _))) => (line, "reading doesn't refuse this record".to_string()),
+        (_, Some((line, number))) => (
+            line,
+            format!("reading refuses this record with {found}, not {number}"),
+        ),
+        (_, None) => (
+            damage_line,
+            format!(
+                "reading refuses the damaged record with {found}; \
+                 a text that is meant so begins with 'refused {found}'"
+            ),
+        ),
+    };
+    Err(TextError { line, message })
+}
+
 /// A row given as all its numbers, however many.
-fn plain_row(words: &mut Words) -> Result<Vec<u32>, TextError> {
+fn plain_row(words: &mut Words, most: u64) -> Result<Vec<u32>, TextError> {
     let mut row = Vec::new();
     while !words.done() {
-        row.push(words.number("a number of the row", U32)? as u32);
+        row.push(words.measure("a number of the row", PARTS, most)? as u32);
     }
     Ok(row)
 }
 
 /// A row given by names; what isn't named is 0.
-fn named_row(words: &mut Words, cells: usize) -> Result<Vec<u32>, TextError> {
+fn named_row(words: &mut Words, cells: usize, most: u64) -> Result<Vec<u32>, TextError> {
     let mut row = vec![None; 1 + 2 * cells];
     let mut cell = None;
     while !words.done() {
@@ -459,7 +660,7 @@ fn named_row(words: &mut Words, cells: usize) -> Result<Vec<u32>, TextError> {
         if row[slot].is_some() {
             return words.error(format!("'{word}' stands twice for the same place"));
         }
-        row[slot] = Some(words.number(word, U32)? as u32);
+        row[slot] = Some(words.measure(word, PARTS, most)? as u32);
     }
     Ok(row.into_iter().map(|number| number.unwrap_or(0)).collect())
 }

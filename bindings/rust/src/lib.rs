@@ -353,9 +353,31 @@ pub struct Refused {
     pub place: u64,
 }
 
+/// The words of the refusals: number, what the place is, the words and who says them, between tabs.
+const REFUSALS: &str = include_str!("../../../docs/refusals.tsv");
+
+impl Refused {
+    /// What the number means.
+    pub fn words(&self) -> &'static str {
+        REFUSALS
+            .lines()
+            .map(|line| line.split('\t'))
+            .find_map(|mut columns| {
+                let number: u64 = columns.next()?.parse().ok()?;
+                (number == self.number).then(|| columns.nth(1))?
+            })
+            .unwrap_or("no refusal has this number")
+    }
+}
+
 impl std::fmt::Display for Refused {
     fn fmt(&self, f: &mut std::fmt::Formatter<'_>) -> std::fmt::Result {
-        write!(f, "refused {} {} {}", self.number, self.step, self.place)
+        let Refused {
+            number,
+            step,
+            place,
+        } = self;
+        write!(f, "refused {number} {step} {place}: {}", self.words())
     }
 }
 

@@ -1,6 +1,6 @@
 //! The archive beside the reference: every example, each of them with damaged bytes, and its own schedule judged and told.
 //! FUZZ=20000 for more cases a record.
-use nobyaluk::{fill_into, history_into, judge, run, run_into, Law, MOST_OUTFLOWS};
+use nobyaluk::{fill_into, history_into, judge, run, run_into, Law, Refused, MOST_OUTFLOWS};
 use reference::{fill, judge as judging, run as running};
 use std::path::PathBuf;
 
@@ -178,5 +178,20 @@ fn fills_alike() {
             (u64::from(a.number), a.state.total(), want, ys),
             "{name}"
         );
+    }
+}
+
+#[test]
+fn a_refusal_says_its_words() {
+    let refused = run(&[], &[]).unwrap_err();
+    let said = refused.to_string();
+    assert!(
+        said.starts_with("refused 1 0 0: fewer than 16 bytes"),
+        "{said}"
+    );
+    for number in 1..20 {
+        let words = Refused { number, ..refused }.words();
+        assert_eq!(words, reference::refusals::words(number as u32));
+        assert!(!words.starts_with("no refusal"), "{number}");
     }
 }

@@ -1,11 +1,11 @@
 // Refusals 17 and 18 of a table of lanes.
+use releases::Fault;
 use road::Refusal;
-use stepping::Fault;
 ghost use mathlib.Core.Path.{_≡_};
 ghost use Prim.Native.Nat.{_≤_};
 ghost use Rattle.model.specs.Step.{tableFault, fault};
 ghost use Rattle.road.specs.Refusals.{refusalNumber};
-ghost use Rattle.stepping.specs.Answers.{faultOf};
+ghost use Rattle.releases.specs.Faults.{faultOf};
 
 fn made(refusal: Refusal, place: usize) -> Fault
     ensures { λ q. ⌜ faultOf q ≡ fault (refusalNumber refusal) place ⌝ }

@@ -1,25 +1,4 @@
-// Reads a record, changes a release, writes the record, and prints the run of each: through `freeway` alone.
-
-// The release of cell 2 in step 0 is number 4 of all rows.
-const RELEASE: usize = 4;
-
-// Writes a record with this release into the target: how many bytes it takes, 0 after a refusal.
-fn released(bytes: &[u8], release: u32, list: &mut [u32], target: &mut [u8]) -> usize {
-    let reading = freeway::read(bytes);
-    let road = reading.road;
-    let length = freeway::rows(bytes, road.n, reading.steps, list);
-    if list.len() < length {
-        return 0;
-    }
-    if length <= RELEASE {
-        return 0;
-    }
-    list[RELEASE] = release;
-    let state = reading.state;
-    let start = state.start();
-    let written = freeway::write(road, reading.steps, start, &list[..length], target);
-    written.count
-}
+// Reads a record, changes a release, writes the record, and prints the run of each, by the call that README shows.
 
 fn show(label: &[u8], value: u64) {
     io::write_all(1, label);
@@ -42,7 +21,7 @@ fn shown(bytes: &[u8], release: u32) {
 fn edited(bytes: &[u8], release: u32) {
     let mut list = [0u32; 15];
     let mut target = [0u8; 124];
-    let count = released(bytes, release, &mut list, &mut target);
+    let count = calls::released(bytes, release, &mut list, &mut target);
     if count <= 124 {
         shown(&target[..count], release);
     }

@@ -12,6 +12,11 @@ use Rattle.rows.specs.Rows.{concatOf}
 use Rattle.rows.specs.Concat.{at-first, at-second, length-concat, concat-at}
 use Rattle.fields.specs.Fields.{numberOf, bytesOf}
 
+-- the bytes 1, 2, 3, 4 are 16,909,060
+on-paper : numberOf (1 ∷ 2 ∷ 3 ∷ 4 ∷ []) 0 4 ≡ 16909060
+unfolding numberOf
+on-paper = refl
+
 pub length-bytes : (w x : ℕ) → length (bytesOf w x) ≡ w
 unfolding bytesOf
 length-bytes zero x = refl

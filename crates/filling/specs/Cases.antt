@@ -27,13 +27,13 @@ pub record Leaves (laws : List Law) (bytes lanes list : List ℕ) (answer : EndA
 refusal : (laws : List Law) (bytes lanes list : List ℕ) (number place : ℕ) → (number ≡ 0 → ⊥) → fillingOf laws bytes lanes list ≡ noState number place
     → Leaves laws bytes lanes list (noState number place) bytes list
 unfolding recordAfter filledList
-refusal laws bytes lanes list number place d e = record { answers = e; bytes-are = rw (e, ne-eqb number 0 d); list-is = rw (e, ne-eqb number 0 d) }
+refusal laws bytes lanes list number place d e = record { answers = e; bytes-are = rw (e, ne-eqb number 0 d) refl; list-is = rw (e, ne-eqb number 0 d) refl }
 
 module _ (laws : List Law) (bytes lanes list : List ℕ) where
   -- those of reading
   pub fills-refused : (readingOf bytes .number ≡ 0 → ⊥) → Leaves laws bytes lanes list (noState (readingOf bytes .number) (readingOf bytes .place)) bytes list
   unfolding fillingOf
-  fills-refused h = refusal laws bytes lanes list (readingOf bytes .number) (readingOf bytes .place) h (rw (ne-eqb (readingOf bytes .number) 0 h))
+  fills-refused h = refusal laws bytes lanes list (readingOf bytes .number) (readingOf bytes .place) h (rw (ne-eqb (readingOf bytes .number) 0 h) refl)
 
   module _ (reads : readingOf bytes .number ≡ 0) where
     -- 16
@@ -41,7 +41,7 @@ module _ (laws : List Law) (bytes lanes list : List ℕ) where
     unfolding fillingOf
     fills-law h =
         refusal laws bytes lanes list 16 (lawPlace laws (studyOf bytes lanes)) (λ e. omega arith)
-        (rw (eq-eqb (readingOf bytes .number) 0 reads, ne-eqb (lawPlace laws (studyOf bytes lanes)) 0 h))
+        (rw (eq-eqb (readingOf bytes .number) 0 reads, ne-eqb (lawPlace laws (studyOf bytes lanes)) 0 h) refl)
 
     module _ (finite : lawPlace laws (studyOf bytes lanes) ≡ 0) where
       -- 17 and 18
@@ -50,7 +50,7 @@ module _ (laws : List Law) (bytes lanes list : List ℕ) where
       unfolding fillingOf
       fills-closed h =
           refusal laws bytes lanes list (lanesFault (studyOf bytes lanes) .number) (lanesFault (studyOf bytes lanes) .place) h
-          (rw (eq-eqb (readingOf bytes .number) 0 reads, eq-eqb (lawPlace laws (studyOf bytes lanes)) 0 finite, ne-eqb (lanesFault (studyOf bytes lanes) .number) 0 h))
+          (rw (eq-eqb (readingOf bytes .number) 0 reads, eq-eqb (lawPlace laws (studyOf bytes lanes)) 0 finite, ne-eqb (lanesFault (studyOf bytes lanes) .number) 0 h) refl)
 
       module _ (opens : lanesFault (studyOf bytes lanes) .number ≡ 0) where
         -- 11

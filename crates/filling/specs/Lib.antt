@@ -8,3 +8,5 @@ pub mod ByLaw
 pub mod Theorems
 pub mod Promise
 pub mod Unclosed
+pub mod NotEmpty
+pub mod Refilled

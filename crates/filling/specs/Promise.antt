@@ -14,21 +14,22 @@ use Rattle.schedules.specs.Schedules.{EndAnswer, ended, noState, lanesFault, ta
 use Rattle.schedules.specs.Demand.{Taken, Promised}
 use Rattle.filling.specs.Filling.{meteredAfter, grantedIn, filledStudy, filledBytes, lawPlace, fillingOf, recordAfter, filledList}
 use Rattle.filling.specs.Cases.{Leaves, fills-refused, fills-law, fills-closed, fills-short, fills-all}
-use Rattle.filling.specs.Theorems.{filled-promised}
+use Rattle.filling.specs.Theorems.{OnlyReleases, only-releases, filled-promised}
 
 -- the answer, the record and the list at exit, and what they are worth
 abbrev pub Promise : List Law → List ℕ → List ℕ → List ℕ → EndAnswer → List ℕ → List ℕ → Type 0
 Promise laws bytes lanes list e after out =
     (e ≡ fillingOf laws bytes lanes list) × ((after ≡ recordAfter laws bytes lanes list) × ((out ≡ filledList laws bytes lanes list)
-    × (Taken bytes lanes → Promised after lanes out e)))
+    × ((Taken bytes lanes → Promised after lanes out e) × OnlyReleases bytes after)))
 
 promise : {laws : List Law} {bytes lanes list : List ℕ} {e x : EndAnswer} {after out left written : List ℕ} → Leaves laws bytes lanes list x left written
     → e ≡ x → after ≡ left → out ≡ written → Promise laws bytes lanes list e after out
-promise {laws} {bytes} {lanes} {list} h ee ea eo =
+promise {laws} {bytes} {lanes} {list} {after = after} h ee ea eo =
     let answer = ee ∙ sym (h .answers) in
     let record-left = ea ∙ sym (h .bytes-are) in
     let list-left = eo ∙ sym (h .list-is) in
-    (answer, (record-left, (list-left, λ taken. rw (answer, record-left, list-left) (filled-promised laws bytes lanes list taken))))
+    let releases : OnlyReleases bytes after = rw record-left (only-releases laws bytes lanes list) in
+    (answer, (record-left, (list-left, (λ taken. rw (answer, record-left, list-left) (filled-promised laws bytes lanes list taken), releases))))
 
 module _ (laws : List Law) (bytes lanes list : List ℕ) {x : ReadAnswer} (ex : x ≡ readingOf bytes) where
   abbrev a : Study

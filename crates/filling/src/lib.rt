@@ -16,6 +16,7 @@ ghost use Rattle.metering.specs.Metering.{grantedAt, filledRow, meteredOf};
 ghost use Rattle.filling.specs.Filling.{meteredAfter, grantedIn, filledStudy, fillingOf, recordAfter, filledList};
 ghost use Rattle.filling.specs.Turn.{FillsRow};
 ghost use Rattle.filling.specs.Filled.{Fillable};
+ghost use Rattle.filling.specs.Theorems.{OnlyReleases};
 
 // One step: its releases are granted and put into the bytes, then the step is made with them.
 fn fill_row(
@@ -85,6 +86,7 @@ pub fn fill(bytes: &mut [u8], laws: [Law; 64], table: &[u8], out: &mut [u32]) ->
     ensures bytes { λ e. ⌜ now (bytes .exit) ≡ recordAfter laws (now (bytes .entry)) (now (table .entry)) (now (out .entry)) ⌝ }
     ensures list { λ e. ⌜ now (out .exit) ≡ filledList laws (now (bytes .entry)) (now (table .entry)) (now (out .entry)) ⌝ }
     ensures demand { λ e. ⌜ (Taken (now (bytes .entry)) (now (table .entry)) → Promised (now (bytes .exit)) (now (table .entry)) (now (out .exit)) (endAnswer e)) ⌝ }
+    ensures releases { λ e. ⌜ OnlyReleases (now (bytes .entry)) (now (bytes .exit)) ⌝ }
 {
     let a = reading::read(bytes);
     let refusal = a.refusal;

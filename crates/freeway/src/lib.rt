@@ -1,4 +1,8 @@
 // What a buyer may call: types, leaves and operations whose contracts hold for all input.
+pub use counts::at_ramps;
+pub use counts::exits;
+pub use counts::on_road;
+pub use counts::present;
 pub use filling::fill;
 pub use flow::demand;
 pub use flow::entering;
@@ -16,10 +20,6 @@ pub use meter::DemandCapacity;
 pub use meter::Law;
 pub use meter::release;
 pub use meter::wish;
-pub use moves::at_ramps;
-pub use moves::exits;
-pub use moves::on_road;
-pub use moves::present;
 pub use reading::read;
 pub use road::Ended;
 pub use road::Reading;
@@ -33,4 +33,5 @@ pub use rowing::row;
 pub use running::run;
 pub use stepping::step;
 pub use taking::rows;
+pub use timing::vehicle_seconds;
 pub use writing::write;

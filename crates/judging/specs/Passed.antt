@@ -27,6 +27,7 @@ use Rattle.schedules.specs.Demand.{Taken}
 use Rattle.schedules.specs.Opening.{opened-taken, opened-reads}
 use Rattle.schedules.specs.Ends.{judges-unopened, judges-length, judges-ends}
 use Rattle.schedules.specs.Readable.{Readable}
+use Rattle.schedules.specs.Judged.{AcceptsExactly, accepts-exactly}
 
 -- what judging step by step asks: a record that reads, and a schedule of the right length
 pub record Judgeable (bytes : List ℕ) (a : Study) (zs : List ℕ) : Type 0 where
@@ -109,10 +110,17 @@ module _ {a : Study} {zs : List ℕ} where
         before = below-more _ _ (t .passed .before) (sym (number-of says) ∙ z);
       }
 
+-- the answer, and that it accepts exactly the schedules that obey
+abbrev pub Promise : List ℕ → List ℕ → List ℕ → EndAnswer → Type 0
+Promise bytes lanes zs e = (e ≡ judgingOf bytes lanes zs) × AcceptsExactly bytes lanes zs e
+
+promise : {bytes lanes zs : List ℕ} {e : EndAnswer} → e ≡ judgingOf bytes lanes zs → Promise bytes lanes zs e
+promise {bytes} {lanes} {zs} ee = (ee, accepts-exactly bytes lanes zs ee)
+
 -- how judging ends, from what opening gave
 module _ (bytes lanes zs : List ℕ) {x : ReadAnswer} (ex : x ≡ openingOf bytes lanes) where
-  pub answer-unopened : {e : EndAnswer} → (x .number ≡ 0 → ⊥) → e ≡ noState (x .number) (x .place) → e ≡ judgingOf bytes lanes zs
-  answer-unopened h ee = rw ex at ee ∙ sym (judges-unopened bytes lanes (rw ex at h) zs)
+  pub answer-unopened : {e : EndAnswer} → (x .number ≡ 0 → ⊥) → e ≡ noState (x .number) (x .place) → Promise bytes lanes zs e
+  answer-unopened h ee = promise (rw ex at ee ∙ sym (judges-unopened bytes lanes (rw ex at h) zs))
 
   -- without a refusal
   module _ (h : x .number ≡ 0) where
@@ -123,9 +131,9 @@ module _ (bytes lanes zs : List ℕ) {x : ReadAnswer} (ex : x ≡ openingOf byte
     reads = opened-reads bytes lanes ex h
 
     pub answer-length : {e : EndAnswer} → (length zs ≡ tableSize (studyBy bytes lanes (x .road) (x .state) (x .steps)) → ⊥) → e ≡ noState 12 0
-        → e ≡ judgingOf bytes lanes zs
-    answer-length n ee = ee ∙ sym (judges-length bytes lanes taken zs (rw reads at n))
+        → Promise bytes lanes zs e
+    answer-length n ee = promise (ee ∙ sym (judges-length bytes lanes taken zs (rw reads at n)))
 
     pub answer-rows : {e : EndAnswer} → length zs ≡ tableSize (studyBy bytes lanes (x .road) (x .state) (x .steps))
-        → e ≡ judgeEnd (studyBy bytes lanes (x .road) (x .state) (x .steps)) zs → e ≡ judgingOf bytes lanes zs
-    answer-rows l ee = rw reads at ee ∙ sym (judges-ends bytes lanes taken zs (rw reads at l))
+        → e ≡ judgeEnd (studyBy bytes lanes (x .road) (x .state) (x .steps)) zs → Promise bytes lanes zs e
+    answer-rows l ee = promise (rw reads at ee ∙ sym (judges-ends bytes lanes taken zs (rw reads at l)))

@@ -6,6 +6,7 @@ use road::State;
 ghost use mathlib.Core.Path.{_≡_};
 ghost use Rattle.reading.specs.Reading.{studyBy};
 ghost use Rattle.schedules.specs.Schedules.{endAnswer, judgeEnd, judgingOf};
+ghost use Rattle.schedules.specs.Judged.{AcceptsExactly};
 ghost use Rattle.judging.specs.Passed.{Judgeable};
 
 // Goes through a schedule of the right length up to its first fault: 9, 10, 13 or 14.
@@ -50,7 +51,8 @@ fn judge_rows(
 
 // Judges a proposed schedule under a table of lanes: the refusals of reading, 17, 18, 12, then 9 or 10 and 13 or 14 step by step.
 pub fn judge(bytes: &[u8], table: &[u8], schedule: &[u32]) -> Ended
-    ensures { λ e. ⌜ endAnswer e ≡ judgingOf (now (bytes .entry)) (now (table .entry)) (now (schedule .entry)) ⌝ }
+    ensures answer { λ e. ⌜ endAnswer e ≡ judgingOf (now (bytes .entry)) (now (table .entry)) (now (schedule .entry)) ⌝ }
+    ensures accepts { λ e. ⌜ AcceptsExactly (now (bytes .entry)) (now (table .entry)) (now (schedule .entry)) (endAnswer e) ⌝ }
 {
     let a = opening::opened(bytes, table);
     let refusal = a.refusal;

@@ -2,6 +2,7 @@
 use mathlib.Core.Path.{_≡_, refl, sym, ap, subst, _∙_}
 use mathlib.Core.Bool.{Bool, true, false, not, cond, _&&_, _||_, true≢false}
 use mathlib.Core.List.{List, [], _∷_}
+use mathlib.Core.Logic.{⊎-elim}
 use Prim.Native.Nat.{ℕ, zero, suc, _+_, _-_, _*_, _^_, _≤_, _<_, min}
 use native.Mathlib.Nat.{le-refl, le-div-iff-mul-le, mul-pos, sub-self, zero-mul, le-of-suc-le-suc}
 use native.Mathlib.Omega.{arith}
@@ -9,7 +10,7 @@ use borrow.Author.Tests.{leb-true, leb-false, ltb-true, le-leb, le-ltb, eqb-true
 use borrow.Author.Count.{below-more, below-none}
 use lib.Dec.{T, leb, ltb, eqb, le→leb, leb→le, lit<}
 use lib.IntN.{pos, negsuc}
-use lib.ListN.{getD, length}
+use lib.ListN.{getD, length, List·getD-eq-default}
 use lib.Ieee.{Float, nan, inf, fin, binary64, up, down, round, sub, eq, lt, le, ofInt, ofBits}
 use lib.Ieee.Fits.{down-pos}
 use lib.Ieee.Exact.{HasValue}
@@ -18,6 +19,7 @@ use lib.Ieee.Order.{le-of-values}
 use lib.Ieee.Positive.{above, positive as positive-float, positive-of-value, above-of-le, values-of-le}
 use lib.Ieee.Scale.{finite, round-same}
 use Rattle.numbers.specs.Lists.{at}
+use Rattle.numbers.specs.Tests.{order}
 use Rattle.numbers.specs.First.{unless, firstOf, allOf}
 use Rattle.numbers.specs.FirstLaws.{First, first, first-is, first-stop, all-at, all-true, all-fails}
 use Rattle.meter.specs.declared.DemandCapacity.{DemandCapacity}
@@ -248,6 +250,14 @@ passed-stop {laws} {ramp} {n} {i} p l e =
 pub passed-end : {laws : List Law} {ramp : List ℕ} {n i : ℕ} → Passed laws ramp n i → n ≤ i → 0 ≡ lawFaultOf laws ramp n
 unfolding lawFaultOf
 passed-end {laws} {ramp} {n} p l = rw (all-true (lawOk laws ramp) n (λ j h. p .passed j (omega arith)))
+
+-- past the marks there is no ramp
+pub passed-past : {laws : List Law} {ramp : List ℕ} {n i : ℕ} → Passed laws ramp n i → length ramp ≤ i → 0 ≡ lawFaultOf laws ramp n
+unfolding lawFaultOf
+passed-past {laws} {ramp} {n} {i} p l = rw (all-true (lawOk laws ramp) n (λ j h. ⊎-elim (past j) (p .passed j) (order i j)))
+  where
+    past : (j : ℕ) → i ≤ j → lawOk laws ramp j ≡ true
+    past j m = ok-no-ramp laws ramp j (List·getD-eq-default ramp 0 (omega arith))
 
 -- 16's place: 0 where every ramp's law has finite numbers alone
 pub fault-none : (laws : List Law) (ramp : List ℕ) (n : ℕ) → lawFaultOf laws ramp n ≡ 0

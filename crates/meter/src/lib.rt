@@ -1,8 +1,7 @@
 // Meter laws: what a ramp's law wishes for, and the release that a wish gives.
+use road::Road;
 ghost use mathlib.Core.Path.{_≡_};
-ghost use Prim.Native.Nat.{_≤_};
 ghost use lib.Ieee.Scale.{finite};
-ghost use Rattle.road.specs.Road.{mostCells};
 ghost use Rattle.meter.specs.Meter.{alineaOf, demandCapacityOf, wishOf, wholeBelow, lawFinite, lawFaultOf};
 
 // The ALINEA feedback: a gain, and the count that the cell is to hold.
@@ -97,11 +96,14 @@ fn law_finite(law: Law) -> bool
 
 // The lowest cell, from 1 to n, that has a ramp and a law with a number that isn't finite, or 0.
 pub fn law_fault(laws: [Law; 64], ramp: [u16; 64], n: usize) -> usize
-    requires { ⌜ n ≤ mostCells ⌝ }
     ensures { λ p. ⌜ p ≡ lawFaultOf laws ramp n ⌝ }
 {
     let mut i = 0;
     while i < n {
+        // Past the arrays there is no ramp.
+        if Road::CELLS <= i {
+            return 0;
+        }
         let law = laws[i];
         if !((ramp[i] == 0) | law_finite(law)) {
             return i + 1;

@@ -77,4 +77,4 @@ module _ (r : Road) (s : State) (row : List ℕ) {y : List ℕ} (ey : y ≡ outf
 
 pub next-is : (r : Road) (m : Metered) (row given : List ℕ) {y : List ℕ} {t : State} {e : List ℕ} → t ≡ nextOf r (m .state) row (outflowsOf r (m .state) row)
     → y ≡ outflowsOf r (m .state) row → e ≡ fillOf (enteringAt r (m .state) y) (r .n) (m .entries) → metered t given e ≡ nextMetered r m row given
-next-is r m row given et ey ee = rw (et, ee, ey)
+next-is r m row given et ey ee = rw (et, ee, ey) refl

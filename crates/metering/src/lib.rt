@@ -47,7 +47,7 @@ fn lower(most: u64, rate: u32) -> u32
 fn cap(queue: u32, arrivals: u32, supply: u32) -> u32
     ensures { λ c. ⌜ c ≡ min (queue + arrivals) (min supply mostRate) ⌝ }
 {
-    let most = stepping::most_release(queue, arrivals);
+    let most = releases::most_release(queue, arrivals);
     if supply < Road::RATE {
         return lower(most, supply);
     }

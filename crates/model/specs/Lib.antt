@@ -18,3 +18,4 @@ pub mod Behind
 pub mod RunsLaws
 pub mod Stamped
 pub mod Edges
+pub mod Unread

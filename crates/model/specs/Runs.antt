@@ -1,4 +1,4 @@
--- docs/MODEL.md, 'One step': the states of a schedule and of the engine's own run, step by step. Assumes nothing.
+-- docs/MODEL.md, 'Schedules': the states of a schedule and of the engine's own run, step by step. Assumes nothing.
 use mathlib.Core.List.{List}
 use Prim.Native.Nat.{ℕ, zero, suc, _+_, _<_}
 use Rattle.road.specs.declared.State.{State}

@@ -60,7 +60,7 @@ lowest-same f g n base h = rw (fault-same f g n h) (go (eqb (firstFault g n) n) 
 
 -- one step
 module _ (version seconds : ℕ) (r : Road) where
-  share-stamped : (p : ℕ) → shareAt (stamped version seconds r) p ≡ shareAt r p
+  pub share-stamped : (p : ℕ) → shareAt (stamped version seconds r) p ≡ shareAt r p
   unfolding shareAt
   share-stamped zero = refl
   share-stamped (suc i) = refl
@@ -144,7 +144,7 @@ module _ {a b : Study} (h : Restamped a b) where
   abbrev seconds : ℕ
   seconds = b .road .seconds
 
-  road-at : (k : ℕ) → roadAt b k ≡ stamped version seconds (roadAt a k)
+  pub road-at : (k : ℕ) → roadAt b k ≡ stamped version seconds (roadAt a k)
   unfolding roadAt
   road-at k =
       ap (λ (r : Road). roadWith r (b .lanes) k) (h .road)

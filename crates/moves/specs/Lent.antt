@@ -1,4 +1,4 @@
--- A road and a state whose columns are lent, and what a loop over them knows. What is not lent is that of any road and any state. Assumes nothing.
+-- What a step on lent columns asks, and what the loop that moves them knows. Assumes nothing.
 use mathlib.Core.Path.{_≡_, ap, _∙_}
 use mathlib.Core.List.{List}
 use Prim.Native.Nat.{ℕ, _+_, _-_, _≤_, _<_}
@@ -19,66 +19,8 @@ use Rattle.model.specs.Kept.{present-bound}
 use native.Mathlib.Omega.{arith}
 use Rattle.model.specs.Rules.{outflowsOf}
 use Rattle.moves.specs.Asked.{Movable, Steppable, Countable, Moved, moved-cell, moved-end}
-use Rattle.moves.specs.declared.Ledger.{Ledger}
-
--- a road with these columns, and otherwise as r
-abbrev pub roadOf : Road → ℕ → ℕ → List ℕ → List ℕ → List ℕ → List ℕ → List ℕ → Road
-roadOf r n gate speed wave share jam capacity = record {
-  n = n;
-  version = r .version;
-  seconds = r .seconds;
-  «gate_capacity» = gate;
-  speed = speed;
-  wave = wave;
-  share = share;
-  ramp = r .ramp;
-  jam = jam;
-  capacity = capacity;
-}
-
--- a road with these cells' shares, and otherwise as r
-abbrev pub sharing : Road → ℕ → List ℕ → Road
-sharing r n share = roadOf r n (r .«gate_capacity») (r .speed) (r .wave) share (r .jam) (r .capacity)
-
--- a road whose supplies go by these columns, and otherwise as r
-abbrev pub supplying : Road → ℕ → List ℕ → List ℕ → List ℕ → Road
-supplying r n wave jam capacity = roadOf r n (r .«gate_capacity») (r .speed) wave (r .share) jam capacity
-
--- the ledger of a state
-abbrev pub ledgerOf : State → Ledger
-ledgerOf s = record {
-  done = s .done;
-  «gate_time» = s .«gate_time»;
-  «road_time» = s .«road_time»;
-  «ramp_time» = s .«ramp_time»;
-  «gate_queue» = s .«gate_queue»;
-  «gate_cumulative» = s .«gate_cumulative»;
-}
-
--- a ledger with this queue and this F of the gate, and otherwise as l
-abbrev pub gated : Ledger → ℕ → ℕ → Ledger
-gated l queue cumulative = record {
-  done = l .done;
-  «gate_time» = l .«gate_time»;
-  «road_time» = l .«road_time»;
-  «ramp_time» = l .«ramp_time»;
-  «gate_queue» = queue;
-  «gate_cumulative» = cumulative;
-}
-
--- a state of a ledger and of columns
-abbrev pub stateOf : Ledger → List ℕ → List ℕ → List ℕ → State
-stateOf l held queue cumulative = record {
-  done = l .done;
-  «gate_time» = l .«gate_time»;
-  «road_time» = l .«road_time»;
-  «ramp_time» = l .«ramp_time»;
-  «gate_queue» = l .«gate_queue»;
-  «gate_cumulative» = l .«gate_cumulative»;
-  held = held;
-  queue = queue;
-  cumulative = cumulative;
-}
+use Rattle.columns.specs.declared.Ledger.{Ledger}
+use Rattle.columns.specs.Columns.{roadOf, sharing, stateOf}
 
 -- advancing asks that the row may be moved by on some road with these shares, and that steps are left
 pub record Advances (n : ℕ) (share : List ℕ) (l : Ledger) (held queue cumulative row y : List ℕ) : Type 0 where

@@ -1,5 +1,2 @@
 pub mod Asked
-pub mod Cells
-pub mod Carried
-pub mod Outflows
 pub mod Lent

@@ -1,5 +1,5 @@
 -- What printing asks, and what its loop over the steps knows. Assumes nothing.
-use mathlib.Core.Path.{_≡_, refl, sym, _∙_}
+use mathlib.Core.Path.{_≡_, refl, sym, ap, _∙_}
 use mathlib.Core.Bool.{Bool, true, false, cond}
 use mathlib.Core.List.{List, [], _++_, append-nil}
 use Prim.Native.Nat.{ℕ, suc, _+_, _*_, _/_, min, _≤_, _<_}
@@ -56,6 +56,17 @@ module _ {r : Road} {u : State} {buffer : List ℕ} {at : ℕ} (h : Ending r u b
   pub time-small : total * r .seconds ≤ mostTotal mostSteps * mostSeconds
   time-small = let l : total ≤ mostTotal mostSteps = omega (arith, total-is, h .total) in mul-le-mul l (h .seconds)
 
+  -- so the vehicle-seconds are given as they are
+  time-is : {time : ℕ} → time ≡ min (min (totalOf u) mostLong * r .seconds / 1000) mostLong → time ≡ vehicleSeconds (totalOf u) (r .seconds)
+  unfolding vehicleSeconds
+  time-is et =
+      let l : min (totalOf u) mostLong * r .seconds ≤ mostTotal mostSteps * mostSeconds = rw (sym e) time-small in
+      let same : min (totalOf u) mostLong ≡ totalOf u = sym e ∙ total-is in
+      et ∙ ap (λ (x : ℕ). min (x * r .seconds / 1000) mostLong) same ∙ small (rw same at l)
+    where
+      small : totalOf u * r .seconds ≤ mostTotal mostSteps * mostSeconds → min (totalOf u * r .seconds / 1000) mostLong ≡ totalOf u * r .seconds / 1000
+      small l = omega arith
+
   module _ {exits : ℕ} (x : exits ≡ exitsOf r u) {after : List ℕ} {m : ℕ}
       (p : Puts buffer at (totalLine total (u .«gate_time») (u .«road_time») (u .«ramp_time») exits) after m) where
     -- room for the line of the seconds
@@ -71,11 +82,11 @@ module _ {r : Road} {u : State} {buffer : List ℕ} {at : ℕ} (h : Ending r u b
     ends-untimed k =
         rw (ne-eqb (r .version) secondVersion k, append-nil (totalLine (totalOf u) (u .«gate_time») (u .«road_time») (u .«ramp_time») (exitsOf r u))) last-line
 
-    pub ends-timed : r .version ≡ secondVersion → {end : List ℕ} {to : ℕ} → Puts after m (secondsLine (total * r .seconds / 1000)) end to
-        → Puts buffer at (lastOf r u) end to
-    unfolding timeOf vehicleSeconds
-    ends-timed k {end} {to} q =
-        rw (eq-eqb (r .version) secondVersion k) (puts-more buffer at _ after m _ end to last-line (rw total-is at q))
+    pub ends-timed : r .version ≡ secondVersion → {time : ℕ} → time ≡ min (min (totalOf u) mostLong * r .seconds / 1000) mostLong
+        → {end : List ℕ} {to : ℕ} → Puts after m (secondsLine time) end to → Puts buffer at (lastOf r u) end to
+    unfolding timeOf
+    ends-timed k et {end} {to} q =
+        rw (eq-eqb (r .version) secondVersion k) (puts-more buffer at _ after m _ end to last-line (rw (time-is et) at q))
 
 -- how long they are
 last-length : (r : Road) (u : State) → length (lastOf r u) ≤ mostLast + mostTime
@@ -167,7 +178,7 @@ module _ {a : Study} {before start-buffer : List ℕ} {start : ℕ} {buffer : Li
   holds-fault h s {e} {after} {m} ee n p =
       let z = refused-room buffer 0 (e .number) (e .step) (e .place) after m p in
       let w = holds buffer (refusedLine (e .number) (e .step) (e .place)) after m mostLine p z (omega (arith, h .room .same, h .enough)) in
-      let t : printedEnd a (runEnd a) ≡ refusedLine (e .number) (e .step) (e .place) = rw (← ee, ne-eqb (e .number) 0 n) in
+      let t : printedEnd a (runEnd a) ≡ refusedLine (e .number) (e .step) (e .place) = rw (← ee, ne-eqb (e .number) 0 n) refl in
       record { first = w .first ∙ sym t; within = w .within; counted = w .counted; same = w .same ∙ h .room .same ∙ s }
 
   -- the header, the steps and the last lines, put one after the other
@@ -181,7 +192,7 @@ module _ {a : Study} {before start-buffer : List ℕ} {start : ℕ} {buffer : Li
       let lines : Puts start-buffer start (stepsLines a (a .steps)) buffer end = rw i at (h .puts) in
       let y = header-room before 0 start-buffer start p in
       let w = room buffer end (lastOf (a .road) u) after m (mostLast + mostTime) q (last-length (a .road) u) in
-      let t : printedEnd a (runEnd a) ≡ headerLine ++ (stepsLines a (a .steps) ++ lastOf (a .road) u) = rw (← e) in
+      let t : printedEnd a (runEnd a) ≡ headerLine ++ (stepsLines a (a .steps) ++ lastOf (a .road) u) = rw (← e) refl in
       let all = puts-more before 0 headerLine start-buffer start _ after m p (puts-more start-buffer start (stepsLines a (a .steps)) buffer end _ after m lines q) in
       let v = holds before _ after m mostText all
       (record { end = omega (arith, w .end, h .room .end, h .top, most, j); same = w .same ∙ h .room .same ∙ y .same })

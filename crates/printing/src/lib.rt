@@ -17,9 +17,6 @@ ghost use Rattle.printing.specs.Lined.{mostText, Printable, Ending};
 // The bytes of a text: no record that reads needs more.
 pub const TEXT: usize = 924161;
 
-// A vehicle's parts.
-const PARTS: u64 = 1000;
-
 // A step that was made and put: the state after it, and the index after its lines.
 struct Put {
     state: State,
@@ -55,7 +52,7 @@ fn last_lines(buffer: &mut [u8], at: usize, r: Road, u: State) -> usize
     ensures { λ e. ⌜ Puts (now (buffer .entry)) at (lastOf r u) (now (buffer .exit)) e ⌝ }
 {
     let total = u.total();
-    let exits = moves::exits(r, u);
+    let exits = counts::exits(r, u);
     let end = listing::total(
         buffer,
         at,
@@ -66,7 +63,7 @@ fn last_lines(buffer: &mut [u8], at: usize, r: Road, u: State) -> usize
         exits,
     );
     if r.version == fields::SECOND_VERSION {
-        return listing::seconds(buffer, end, total * r.seconds as u64 / PARTS);
+        return listing::seconds(buffer, end, timing::vehicle_seconds(r.seconds, u));
     }
     end
 }
@@ -84,7 +81,7 @@ fn run_lines(bytes: &[u8], r: Road, s: State, steps: usize, buffer: &mut [u8]) -
     let mut k = 0;
     while k < steps {
         let row = fields::row(bytes, n, k);
-        let q = stepping::releases(r, u, &row[..numbers]);
+        let q = releases::releases(r, u, &row[..numbers]);
         let refusal = q.refusal;
         let number = refusal.number();
         if number != 0 {

@@ -18,8 +18,8 @@ use Rattle.road.specs.Study.{Study}
 use Rattle.fields.specs.Fields.{countSize, secondsSize, headerSize, cellSize, shortSize, numberSize, rowNumbers, rowSize, bytesOf}
 use Rattle.fields.specs.BytesLaws.{length-bytes}
 use Rattle.fields.specs.Stored.{Stored, stored-puts}
-use Rattle.reading.specs.Reading.{sizeOf}
-use Rattle.reading.specs.ReadingLaws.{Counts}
+use Rattle.header.specs.Header.{sizeOf}
+use Rattle.header.specs.HeaderLaws.{Counts}
 use Rattle.putting.specs.Record.{headerOf, cellOf, numbersOf, recordSize, headerBytes, cellBytes, rowBytes, recordOf}
 
 -- how long the parts are

@@ -10,7 +10,7 @@ use Rattle.road.specs.declared.Start.{Start}
 use Rattle.road.specs.Road.{startState}
 use Rattle.road.specs.Study.{Study, study}
 use Rattle.fields.specs.Fields.{countSize, shortSize, numberSize, secondsSize, rowNumbers, bytesOf}
-use Rattle.reading.specs.Reading.{sizeOf}
+use Rattle.header.specs.Header.{sizeOf}
 
 -- the number of bytes that follow the first field; version; n; T; the step's seconds, where the version has them; gate capacity and queue
 unfoldable pub headerOf : ℕ → ℕ → ℕ → ℕ → ℕ → ℕ → List ℕ

@@ -8,7 +8,7 @@ ghost use Rattle.rows.specs.Tables.{rowAt};
 ghost use Rattle.rows.specs.Placed.{Puts};
 ghost use Rattle.road.specs.Road.{mostCells, startState};
 ghost use Rattle.fields.specs.Fields.{headerSize, cellSize, numberSize, rowNumbers, rowSize};
-ghost use Rattle.reading.specs.ReadingLaws.{Counts};
+ghost use Rattle.header.specs.HeaderLaws.{Counts};
 ghost use Rattle.putting.specs.Record.{headerOf, cellOf, numbersOf, cellBytes, rowBytes, recordOf, given};
 ghost use Rattle.putting.specs.Putting.{Rows, Fits};
 

@@ -18,9 +18,10 @@ use Rattle.numbers.specs.Tests.{le-head}
 use Rattle.numbers.specs.FirstLaws.{First, first, all-at}
 use Rattle.limits.specs.Limits.{placeOk}
 use Rattle.limits.specs.LimitsLaws.{RoadOk, StateOk, RowOk, places-road, places-state, row-facts}
-use Rattle.reading.specs.Reading.{ReadAnswer, cellsOf, stepsOf, sizeOf, roadOf, startOf, bothVersions, lengthOk, cellsAndStepsOk, secondsOk, stepOk}
+use Rattle.header.specs.Header.{cellsOf, stepsOf, sizeOf, bothVersions, lengthOk, cellsAndStepsOk, secondsOk}
+use Rattle.reading.specs.Reading.{ReadAnswer, roadOf, startOf, stepOk}
 use Rattle.reading.specs.Reading.{refusedOf, acceptedOf, readingBy, readingOf}
-use Rattle.reading.specs.ReadingLaws.{length-facts, counts-facts}
+use Rattle.header.specs.HeaderLaws.{length-facts, counts-facts}
 
 -- a number below n at which a test fails, as it does nowhere below
 pub record Lowest (test : ℕ → Bool) (n i : ℕ) : Type 0 where

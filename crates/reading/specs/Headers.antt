@@ -7,7 +7,7 @@ use lib.ListN.{length}
 use Rattle.road.specs.Road.{mostCells}
 use Rattle.numbers.specs.First.{oneOf}
 use Rattle.fields.specs.Fields.{versionOf, secondsOf, rowStart}
-use Rattle.reading.specs.Reading.{cellsOf, stepsOf, sizeOf, bothVersions, lengthOk, cellsAndStepsOk, secondsOk}
+use Rattle.header.specs.Header.{cellsOf, stepsOf, sizeOf, bothVersions, lengthOk, cellsAndStepsOk, secondsOk}
 
 -- a record that holds the fields of its n cells
 pub record Cells (s : List ℕ) (n : ℕ) : Type 0 where

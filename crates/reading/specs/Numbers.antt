@@ -11,7 +11,8 @@ use Rattle.fields.specs.Fields.{shortSize, numberSize, numberOf, versionOf, sec
 use Rattle.fields.specs.Fields.{gateCapacityOffset, gateQueueOffset, speedOffset, waveOffset, shareOffset, rampOffset, jamOffset, capacityOffset, heldOffset, queueOffset}
 use Rattle.fields.specs.FieldsLaws.{Column, column}
 use Rattle.road.specs.RoadLaws.{length-zeros}
-use Rattle.reading.specs.Reading.{ReadAnswer, cellsOf, stepsOf, readingOf}
+use Rattle.header.specs.Header.{cellsOf, stepsOf}
+use Rattle.reading.specs.Reading.{ReadAnswer, readingOf}
 use Rattle.reading.specs.Found.{Found, read-found, early-refused}
 
 pub record Numbers (s : List ℕ) (T : ℕ) (r : Road) (q : State) : Type 0 where

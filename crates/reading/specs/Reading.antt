@@ -1,19 +1,19 @@
 -- docs/MODEL.md, 'The operations and their refusals', reading: its refusals in order, and what it gives. Assumes nothing.
-use mathlib.Core.Bool.{Bool, true, cond, _&&_}
-use mathlib.Core.List.{List, [], _∷_}
-use Prim.Native.Nat.{ℕ, _+_, _-_}
-use lib.Dec.{leb, eqb}
+use mathlib.Core.Bool.{Bool}
+use mathlib.Core.List.{List}
+use Prim.Native.Nat.{ℕ, _+_}
+use lib.Dec.{eqb}
 use lib.ListN.{length}
 use Rattle.road.specs.declared.Road.{Road}
 use Rattle.road.specs.declared.State.{State}
-use Rattle.road.specs.Road.{zeros, emptyRoad, emptyState, mostCells, mostSteps, mostBytes, mostSeconds}
+use Rattle.road.specs.Road.{zeros, emptyRoad, emptyState}
 use Rattle.numbers.specs.First.{unless, oneOf, unlessFirst}
 use Rattle.road.specs.Refusals.{refusalNumber}
 use Rattle.road.specs.Study.{Study, study}
-use Rattle.fields.specs.Fields.{firstVersion, secondVersion, countSize, shortSize, numberSize, headerSize, rowStart, numberOf, columnOf, recordRow}
-use Rattle.fields.specs.Fields.{versionOf, secondsOf, cellsOffset, stepsOffset, gateCapacityOffset, gateQueueOffset}
+use Rattle.fields.specs.Fields.{shortSize, numberSize, numberOf, columnOf, recordRow, versionOf, secondsOf, gateCapacityOffset, gateQueueOffset}
 use Rattle.fields.specs.Fields.{speedOffset, waveOffset, shareOffset, rampOffset, jamOffset, capacityOffset, heldOffset, queueOffset}
 use Rattle.limits.specs.Limits.{placeOk, rowOk}
+use Rattle.header.specs.Header.{cellsOf, stepsOf, sizeOf, bothVersions, firstAlone, lengthOk, cellsAndStepsOk, secondsOk}
 use Rattle.road.specs.declared.Reading.{Reading}
 
 -- what reading answers: the refusal's number, its place or step, T, the road and the state before step 0
@@ -33,17 +33,6 @@ readAnswer a = record {
   road = a .road;
   state = a .state;
 }
-
--- the header's n and T
-abbrev pub cellsOf : List ℕ → ℕ
-cellsOf s = numberOf s cellsOffset 1
-
-abbrev pub stepsOf : List ℕ → ℕ
-stepsOf s = numberOf s stepsOffset shortSize
-
--- the whole is 16 + 24n + T × (4 + 8n) bytes, in version 2 two more
-abbrev pub sizeOf : ℕ → ℕ → ℕ → ℕ
-sizeOf version n T = rowStart version n T
 
 -- the road that the header and the cells' fields give
 abbrev pub roadOf : List ℕ → Road
@@ -73,30 +62,6 @@ startOf s = record {
   queue = columnOf s queueOffset numberSize (cellsOf s);
   cumulative = zeros;
 }
-
--- the versions that a reader knows: both, and version 1 alone
-abbrev pub bothVersions : List ℕ
-bothVersions = firstVersion ∷ secondVersion ∷ []
-
-abbrev pub firstAlone : List ℕ
-firstAlone = firstVersion ∷ []
-
--- 1's least size: that of the version's header, or of version 1's for a version that the reader doesn't know
-abbrev pub leastSize : List ℕ → ℕ → ℕ
-leastSize known version = headerSize (cond (oneOf known version) version firstVersion)
-
--- 1: from the least size to 65,536 bytes, and the first field is the count of bytes after it (of 16 or more, so the difference cuts nothing off)
-abbrev pub lengthOk : List ℕ → List ℕ → Bool
-lengthOk known s =
-    leb (leastSize known (versionOf s)) (length s) && (leb (length s) mostBytes && eqb (numberOf s 0 countSize) (length s - countSize))
-
--- 3: n and T are within their limits
-abbrev pub cellsAndStepsOk : ℕ → ℕ → Bool
-cellsAndStepsOk n T = leb 1 n && (leb n mostCells && (leb 1 T && leb T mostSteps))
-
--- 19: in version 2 the step's seconds are 1 to 900; in another they are not looked at
-abbrev pub secondsOk : ℕ → ℕ → Bool
-secondsOk version seconds = cond (eqb version secondVersion) (leb 1 seconds && leb seconds mostSeconds) true
 
 -- 6: the row of step t is within the limits
 abbrev pub stepOk : List ℕ → Road → ℕ → Bool

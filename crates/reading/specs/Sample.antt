@@ -11,7 +11,8 @@ use Rattle.rows.specs.Rows.{fillOf, listOf}
 use Rattle.fields.specs.Fields.{gateCapacityOffset, gateQueueOffset, headerSize, numberOf, secondsSize, recordRow}
 use Rattle.numbers.specs.First.{oneOf, firstFrom, firstOf}
 use Rattle.limits.specs.Limits.{placeOk, rowOk}
-use Rattle.reading.specs.Reading.{bothVersions, cellsAndStepsOk, acceptedOf, readingBy, readingOf}
+use Rattle.header.specs.Header.{bothVersions, cellsAndStepsOk}
+use Rattle.reading.specs.Reading.{acceptedOf, readingBy, readingOf}
 
 -- 120 bytes follow the first field; version 1, n 2, T 3; gate capacity 2000, queue 3000
 unfoldable pub header : List ℕ

@@ -9,7 +9,8 @@ use lib.Dec.{leb}
 use borrow.Author.Tests.{leb-true, leb-false}
 use Rattle.road.specs.Road.{mostSteps, mostBytes}
 use Rattle.fields.specs.Fields.{versionOf, rowSize}
-use Rattle.reading.specs.Reading.{ReadAnswer, sizeOf, readingOf}
+use Rattle.header.specs.Header.{sizeOf}
+use Rattle.reading.specs.Reading.{ReadAnswer, readingOf}
 use Rattle.reading.specs.Within.{read-within}
 
 abbrev pub mostOutflows : ℕ

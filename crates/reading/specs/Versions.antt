@@ -13,9 +13,10 @@ use Rattle.numbers.specs.Tests.{le-head, le-then}
 use Rattle.road.specs.Road.{mostSeconds}
 use Rattle.fields.specs.Fields.{firstVersion, secondVersion, versionOf, secondsOffset, secondsSize, headerSize, gateCapacityOffset, gateQueueOffset, numberOf}
 use Rattle.fields.specs.FieldsLaws.{seconds-none}
-use Rattle.reading.specs.Reading.{ReadAnswer, sizeOf, bothVersions, firstAlone, leastSize, lengthOk, secondsOk, refusedOf}
+use Rattle.header.specs.Header.{sizeOf, bothVersions, firstAlone, leastSize, lengthOk, secondsOk}
+use Rattle.reading.specs.Reading.{ReadAnswer, refusedOf}
 use Rattle.reading.specs.Reading.{readingBy, readingOf, firstReadingOf}
-use Rattle.reading.specs.ReadingLaws.{least-both}
+use Rattle.header.specs.HeaderLaws.{least-both}
 use Rattle.reading.specs.Within.{read-within}
 use Rattle.reading.specs.Numbers.{read-numbers}
 

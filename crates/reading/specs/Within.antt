@@ -9,7 +9,8 @@ use Rattle.fields.specs.Fields.{recordRow, HoldsRow}
 use Rattle.fields.specs.FieldsLaws.{holds-row}
 use Rattle.limits.specs.Limits.{placeOk, inputOk}
 use Rattle.limits.specs.LimitsLaws.{input-ok}
-use Rattle.reading.specs.Reading.{ReadAnswer, cellsOf, stepsOf, roadOf, startOf, stepOk, readingOf}
+use Rattle.header.specs.Header.{cellsOf, stepsOf}
+use Rattle.reading.specs.Reading.{ReadAnswer, roadOf, startOf, stepOk, readingOf}
 use Rattle.reading.specs.Found.{Lowest, Accepted, Found, read-found, early-refused, early-no-place, early-no-step}
 
 -- a refusal that names no state gives an all-zero road and state

@@ -5,50 +5,11 @@ use road::Road;
 use road::State;
 ghost use mathlib.Core.Path.{_≡_};
 ghost use Rattle.road.specs.Refusals.{refusalNumber};
-ghost use Rattle.numbers.specs.First.{oneOf, firstOf};
+ghost use Rattle.numbers.specs.First.{firstOf};
 ghost use Rattle.limits.specs.Limits.{rowOk};
 ghost use Rattle.fields.specs.Fields.{recordRow, HoldsRow};
-ghost use Rattle.reading.specs.Reading.{bothVersions, lengthOk, cellsAndStepsOk, secondsOk, roadOf, startOf, stepOk, refusedOf, readAnswer, readingOf};
+ghost use Rattle.reading.specs.Reading.{roadOf, startOf, stepOk, refusedOf, readAnswer, readingOf};
 ghost use Rattle.reading.specs.Headers.{Cells, Steps, Header};
-
-// Whether the length is within its limits and the first field counts the bytes after it.
-fn length_within(bytes: &[u8]) -> bool
-    ensures { λ r. ⌜ r ≡ lengthOk bothVersions (now (bytes .entry)) ⌝ }
-{
-    if bytes.len() < fields::HEADER_SIZE {
-        return false;
-    }
-    if bytes.len() < fields::header_size(fields::version(bytes)) {
-        return false;
-    }
-    if Road::BYTES < bytes.len() {
-        return false;
-    }
-    fields::number(bytes, 0, fields::COUNT_SIZE) as usize == bytes.len() - fields::COUNT_SIZE
-}
-
-// Whether a record may have this version.
-pub fn version_known(version: u8) -> bool
-    ensures { λ r. ⌜ r ≡ oneOf bothVersions version ⌝ }
-{
-    (version == fields::FIRST_VERSION) | (version == fields::SECOND_VERSION)
-}
-
-pub fn cells_and_steps_within(n: usize, steps: usize) -> bool
-    ensures { λ r. ⌜ r ≡ cellsAndStepsOk n steps ⌝ }
-{
-    (1 <= n) & ((n <= Road::CELLS) & ((1 <= steps) & (steps <= Road::STEPS)))
-}
-
-// Whether the step's seconds are within their limits, where the version has them.
-pub fn seconds_within(version: u8, seconds: u16) -> bool
-    ensures { λ r. ⌜ r ≡ secondsOk version seconds ⌝ }
-{
-    if version == fields::SECOND_VERSION {
-        return (1 <= seconds) & (seconds <= Road::SECONDS);
-    }
-    true
-}
 
 // The road of a record of n cells.
 fn road_of(bytes: &[u8], n: usize) -> Road
@@ -170,19 +131,19 @@ fn body(bytes: &[u8], n: usize, steps: usize) -> Reading
 pub fn read(bytes: &[u8]) -> Reading
     ensures { λ a. ⌜ readAnswer a ≡ readingOf (now (bytes .entry)) ⌝ }
 {
-    if !length_within(bytes) {
+    if !header::length_within(bytes) {
         return refused(Refusal::Length, 0);
     }
     let version = fields::version(bytes);
-    if !version_known(version) {
+    if !header::version_known(version) {
         return refused(Refusal::Version, 0);
     }
     let n = fields::number(bytes, fields::CELLS_OFFSET, 1) as usize;
     let steps = fields::number(bytes, fields::STEPS_OFFSET, fields::SHORT_SIZE) as usize;
-    if !cells_and_steps_within(n, steps) {
+    if !header::cells_and_steps_within(n, steps) {
         return refused(Refusal::Counts, 0);
     }
-    if !seconds_within(version, fields::seconds(bytes)) {
+    if !header::seconds_within(version, fields::seconds(bytes)) {
         return refused(Refusal::Seconds, 0);
     }
     if bytes.len() != fields::row_start(version, n, steps) {

@@ -18,7 +18,8 @@ use Rattle.fields.specs.Fields.{speedOffset, waveOffset, shareOffset, rampOffse
 use Rattle.fields.specs.Fields.{rowStart, numberOf, fieldOf, columnOf, recordRow}
 use Rattle.fields.specs.BytesLaws.{number-same}
 use Rattle.limits.specs.Limits.{placeOk, rowOk}
-use Rattle.reading.specs.Reading.{ReadAnswer, cellsOf, stepsOf, sizeOf, roadOf, startOf, bothVersions, lengthOk, cellsAndStepsOk, secondsOk, stepOk}
+use Rattle.header.specs.Header.{cellsOf, stepsOf, sizeOf, bothVersions, lengthOk, cellsAndStepsOk, secondsOk}
+use Rattle.reading.specs.Reading.{ReadAnswer, roadOf, startOf, stepOk}
 use Rattle.reading.specs.Reading.{refusedOf, acceptedOf, readingBy, readingOf}
 use Rattle.reading.specs.Found.{Found, read-found, early-refused}
 

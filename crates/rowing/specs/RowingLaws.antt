@@ -13,7 +13,8 @@ use Rattle.rows.specs.Rows.{fillOf}
 use Rattle.rows.specs.RowsLaws.{fill-more, fill-same, length-fill}
 use Rattle.fields.specs.Fields.{versionOffset, numberSize, numberOf, versionOf, rowStart, rowNumbers, entryOf, recordRow, HoldsRow}
 use Rattle.fields.specs.FieldsLaws.{row-taken, holds-row}
-use Rattle.reading.specs.Reading.{ReadAnswer, stepsOf, readingOf}
+use Rattle.header.specs.Header.{stepsOf}
+use Rattle.reading.specs.Reading.{ReadAnswer, readingOf}
 use Rattle.reading.specs.Found.{Found, Accepted, read-found, early-refused}
 use Rattle.rowing.specs.Rowing.{noNumbers, entryOr, numberAt, numbersAt, rowArray}
 

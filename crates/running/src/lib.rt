@@ -1,5 +1,5 @@
 // Running: the engine's outflows of every step of a record, written into a lent list.
-use moves::Ledger;
+use columns::Ledger;
 use road::Ended;
 use road::Refusal;
 use road::Road;
@@ -41,7 +41,7 @@ fn run_rows(bytes: &[u8], table: &[u8], r: Road, s: State, steps: usize, out: &m
         }
         let mut row = [0u32; 129];
         fields::read_row(bytes, n, k, &mut row);
-        let q = stepping::lent::releases(
+        let q = releases::lent::releases(
             road.n,
             &road.wave,
             &road.jam,

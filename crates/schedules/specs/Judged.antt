@@ -1,17 +1,21 @@
 -- Judging accepts exactly the schedules of the right length that obey the rules, and otherwise names the first broken one. Assumes nothing.
 use mathlib.Core.Path.{_≡_, refl, sym, ap, _∙_}
+use mathlib.Core.Bool.{Bool, true, false}
 use mathlib.Core.List.{List}
 use Prim.Native.Nat.{ℕ, _<_}
 use native.Mathlib.Nat.{le-refl}
 use native.Mathlib.Omega.{arith}
+use lib.Dec.{eqb}
 use lib.ListN.{length}
+use borrow.Author.Tests.{eqb-true, eqb-false}
 use Rattle.road.specs.Study.{Study, roadAt, tableSize}
 use Rattle.model.specs.Rules.{Obeys}
 use Rattle.model.specs.RunsLaws.{StudyOk}
 use Rattle.reading.specs.Reading.{readingOf, studyOf}
-use Rattle.schedules.specs.Schedules.{proposedAt, scheduledAt, judgeSays, firstStep, EndAnswer, ended, judgeEnd, judgingOf}
+use Rattle.schedules.specs.Schedules.{proposedAt, scheduledAt, judgeSays, firstStep, EndAnswer, ended, openingOf, judgeEnd, judgingOf}
 use Rattle.schedules.specs.SchedulesLaws.{step-within, end-all, end-fault, end-number, obeys-faults, faults-obeys}
-use Rattle.schedules.specs.Ends.{judges-length, judges-ends}
+use Rattle.schedules.specs.Opening.{opening-opens}
+use Rattle.schedules.specs.Ends.{judges-unopened, judges-length, judges-ends}
 use Rattle.schedules.specs.Readable.{readable}
 use Rattle.schedules.specs.Demand.{Taken, Reaches}
 
@@ -59,3 +63,44 @@ pub refused-length : (bytes lanes zs : List ℕ) → Taken bytes lanes → (leng
 refused-length bytes lanes zs taken n =
     let e = judges-length bytes lanes taken zs n in
     (ap (λ (a : EndAnswer). a .number) e, ap (λ (a : EndAnswer). a .place) e)
+
+-- a schedule obeys the rules of a record under a table of lanes: both are taken, it has T × (n + 1) numbers, and it obeys in all T steps
+pub record ObeysAll (bytes lanes zs : List ℕ) : Type 0 where
+  pub taken : Taken bytes lanes
+  pub right : length zs ≡ tableSize (studyOf bytes lanes)
+  pub reaches : Reaches (studyOf bytes lanes) zs (studyOf bytes lanes .steps)
+
+-- an answer to a schedule accepts it exactly where it obeys
+pub record AcceptsExactly (bytes lanes zs : List ℕ) (e : EndAnswer) : Type 0 where
+  pub accepted : e .number ≡ 0 → ObeysAll bytes lanes zs
+  pub obeys : ObeysAll bytes lanes zs → e .number ≡ 0
+
+-- judging's answer does
+pub accepts-exactly : (bytes lanes zs : List ℕ) {e : EndAnswer} → e ≡ judgingOf bytes lanes zs → AcceptsExactly bytes lanes zs e
+accepts-exactly bytes lanes zs {e} ee = record { accepted = λ z. opened (sym number ∙ z); obeys = λ o. number ∙ all o }
+  where
+    number : e .number ≡ judgingOf bytes lanes zs .number
+    number = ap (λ (x : EndAnswer). x .number) ee
+
+    all : ObeysAll bytes lanes zs → judgingOf bytes lanes zs .number ≡ 0
+    all o = ap (λ (x : EndAnswer). x .number) (obeys-accepted bytes lanes zs (o .taken) (o .right) (o .reaches))
+
+    measured : Taken bytes lanes → judgingOf bytes lanes zs .number ≡ 0 → ObeysAll bytes lanes zs
+    measured taken z = go (eqb (length zs) (tableSize (studyOf bytes lanes))) refl
+      where
+        go : (b : Bool) → eqb (length zs) (tableSize (studyOf bytes lanes)) ≡ b → ObeysAll bytes lanes zs
+        go true h =
+            let right = eqb-true (length zs) (tableSize (studyOf bytes lanes)) h in
+            record { taken = taken; right = right; reaches = accepted-obeys bytes lanes zs taken right z }
+        go false h =
+            let twelve = refused-length bytes lanes zs taken (eqb-false (length zs) (tableSize (studyOf bytes lanes)) h) .0 in
+            absurd (omega (arith, z, twelve))
+
+    opened : judgingOf bytes lanes zs .number ≡ 0 → ObeysAll bytes lanes zs
+    opened z = go (eqb (openingOf bytes lanes .number) 0) refl
+      where
+        go : (b : Bool) → eqb (openingOf bytes lanes .number) 0 ≡ b → ObeysAll bytes lanes zs
+        go true h = measured (opening-opens bytes lanes (eqb-true (openingOf bytes lanes .number) 0 h)) z
+        go false h =
+            let n = eqb-false (openingOf bytes lanes .number) 0 h in
+            absurd (n (sym (ap (λ (x : EndAnswer). x .number) (judges-unopened bytes lanes n zs)) ∙ z))

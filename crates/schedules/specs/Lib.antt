@@ -8,6 +8,7 @@ pub mod Ends
 pub mod DemandLaws
 pub mod Whole
 pub mod Judged
+pub mod Stepped
 pub mod Accounts
 pub mod Returned
 pub mod Unclosed

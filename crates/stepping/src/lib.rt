@@ -1,55 +1,20 @@
 // Stepping: the next state of a road, or a refusal with its place and the state that was given.
 pub mod lent;
 
-use moves::Ledger;
+use columns::Ledger;
 use road::Refusal;
 use road::Road;
 use road::State;
 use road::Stepped;
 ghost use mathlib.Core.Path.{_≡_};
-ghost use Prim.Native.Nat.{_+_, _*_, _≤_, _<_};
+ghost use Prim.Native.Nat.{_+_, _<_};
 ghost use lib.ListN.{length};
-ghost use Rattle.road.specs.Refusals.{refusalNumber};
 ghost use Rattle.model.specs.Move.{nextOf};
 ghost use Rattle.model.specs.Rules.{outflowsOf};
-ghost use Rattle.model.specs.Step.{releaseFault, releasesOf, stepOn, steppingOf};
+ghost use Rattle.model.specs.Step.{stepOn, steppingOf};
 ghost use Rattle.moves.specs.Asked.{Movable, Steppable};
-ghost use Rattle.stepping.specs.Answers.{faultOf, stepAnswer};
+ghost use Rattle.stepping.specs.Answers.{stepAnswer};
 ghost use Rattle.stepping.specs.Looked.{Stepping};
-
-// A refusal, or none, with its place.
-pub struct Fault {
-    pub refusal: Refusal,
-    pub place: usize,
-}
-
-// What a ramp may release at most in a step: its queue and the step's arrivals there. In u64 the sum never wraps.
-pub fn most_release(queue: u32, arrivals: u32) -> u64
-    ensures { λ m. ⌜ m ≡ queue + arrivals ⌝ }
-{
-    queue as u64 + arrivals as u64
-}
-
-// One cell's release: not above what its ramp may release at most, nor above its supply.
-pub fn release_refusal(release: u32, most: u64, supply: u32) -> Refusal
-    ensures { λ q. ⌜ refusalNumber q ≡ releaseFault release most supply ⌝ }
-{
-    if most < release as u64 {
-        return Refusal::ReleaseAboveQueue;
-    }
-    if supply < release {
-        return Refusal::ReleaseAboveSupply;
-    }
-    Refusal::None
-}
-
-// The lowest cell whose release does not fit, with its refusal.
-pub fn releases(r: Road, s: State, row: &[u32]) -> Fault
-    requires { ⌜ (r .n ≤ 64) × (length (now row) ≡ 1 + 2 * r .n) ⌝ }
-    ensures { λ q. ⌜ faultOf q ≡ releasesOf r s (now (row .entry)) ⌝ }
-{
-    lent::releases(r.n, &r.wave, &r.jam, &r.capacity, &s.held, &s.queue, row)
-}
 
 // The state after a step by a row of outflows that obeys the rules.
 pub fn next_by(r: Road, s: State, row: &[u32], y: &[u32]) -> State
@@ -86,7 +51,7 @@ pub fn next(r: Road, s: State, row: &[u32], y: &mut [u32]) -> State
     ensures state { λ t. ⌜ t ≡ nextOf r s (now (row .entry)) (outflowsOf r s (now (row .entry))) ⌝ }
     ensures row { λ t. ⌜ now (y .exit) ≡ outflowsOf r s (now (row .entry)) ⌝ }
 {
-    moves::outflows(r, s, row, y);
+    outflows::outflows(r, s, row, y);
     next_by(r, s, row, y)
 }
 
@@ -110,7 +75,7 @@ fn step_on(r: Road, s: State, row: &[u32]) -> Stepped
     if s.done == Road::STEPS {
         return refused(Refusal::StepsDone, 0, s);
     }
-    let q = releases(r, s, row);
+    let q = releases::releases(r, s, row);
     let refusal = q.refusal;
     if refusal.number() != 0 {
         return refused(refusal, q.place, s);

@@ -17,7 +17,7 @@ use Rattle.model.specs.Step.{Fault, fault, releasesOf}
 use Rattle.model.specs.Verdict.{outflowFault, outflowFaultAt, outflowsFaultOf, verdictOf}
 use Rattle.model.specs.StepLaws.{number-of, lowest-none, lowest-at}
 use Rattle.model.specs.VerdictLaws.{fault-before-last, last-passes, last-above-demand, verdict-releases, verdict-outflows}
-use Rattle.moves.specs.Carried.{Carried, carried-gate, carried-cell, supply-is}
+use Rattle.outflows.specs.Carried.{Carried, carried-gate, carried-cell, supply-is}
 
 -- a road within its limits, the row of a step and a row of outflows, gate first
 pub record Proposed (r : Road) (row y : List ℕ) : Type 0 where

@@ -1,13 +1,13 @@
 // Whether a row of proposed outflows obeys the rules: refusals 9 and 10 as in stepping, then 13 and 14.
+use releases::Fault;
 use road::Refusal;
 use road::Road;
 use road::State;
-use stepping::Fault;
 ghost use mathlib.Core.Path.{_≡_};
 ghost use Prim.Native.Nat.{_+_, _*_};
 ghost use Rattle.road.specs.Refusals.{refusalNumber};
 ghost use Rattle.model.specs.Verdict.{outflowFault, outflowsFaultOf, verdictOf};
-ghost use Rattle.stepping.specs.Answers.{faultOf};
+ghost use Rattle.releases.specs.Faults.{faultOf};
 ghost use Rattle.verdict.specs.Proposed.{Proposed};
 
 // One place's outflow: not above its demand, nor letting more into the next cell than the room.
@@ -69,7 +69,7 @@ pub fn verdict(r: Road, s: State, row: &[u32], y: &[u32]) -> Fault
     requires { ⌜ Proposed r (now row) (now y) ⌝ }
     ensures { λ q. ⌜ faultOf q ≡ verdictOf r s (now (row .entry)) (now (y .entry)) ⌝ }
 {
-    let q = stepping::releases(r, s, row);
+    let q = releases::releases(r, s, row);
     let refusal = q.refusal;
     if refusal.number() != 0 {
         return q;

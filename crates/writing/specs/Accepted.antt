@@ -18,8 +18,8 @@ use Rattle.road.specs.Road.{mostBytes}
 use Rattle.road.specs.Study.{Study}
 use Rattle.fields.specs.Fields.{rowNumbers}
 use Rattle.limits.specs.Limits.{placeOk}
-use Rattle.reading.specs.Reading.{sizeOf, bothVersions, secondsOk}
-use Rattle.reading.specs.ReadingLaws.{Counts, counts-facts}
+use Rattle.header.specs.Header.{sizeOf, bothVersions, secondsOk}
+use Rattle.header.specs.HeaderLaws.{Counts, counts-facts}
 use Rattle.putting.specs.Record.{recordSize, recordOf, given}
 use Rattle.putting.specs.Putting.{Fits, length-record, record-stands}
 use Rattle.writing.specs.Checks.{known, counted, timed, short, whole}

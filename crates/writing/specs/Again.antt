@@ -17,7 +17,8 @@ use Rattle.fields.specs.Fields.{countSize, versionOf, secondsSize, headerSize, 
 use Rattle.fields.specs.Fields.{rowNumbers, rowSize, rowStart, numberOf, recordRow, bytesOf}
 use Rattle.fields.specs.FieldsLaws.{Column, row-at}
 use Rattle.fields.specs.BytesLaws.{partOf, part-join, part-next, part-concat, bytes-part}
-use Rattle.reading.specs.Reading.{ReadAnswer, sizeOf, readingOf}
+use Rattle.header.specs.Header.{sizeOf}
+use Rattle.reading.specs.Reading.{ReadAnswer, readingOf}
 use Rattle.reading.specs.Found.{Accepted}
 use Rattle.reading.specs.Numbers.{Numbers, read-numbers}
 use Rattle.reading.specs.Within.{read-within}

@@ -1,7 +1,7 @@
 -- What the inner functions of writing ask, and how its tests end. Assumes nothing.
 use mathlib.Core.Path.{_≡_, refl, sym, ap, _∙_}
 use mathlib.Core.Bool.{Bool, true, false}
-use mathlib.Core.List.{List}
+use mathlib.Core.List.{List, []}
 use Prim.Native.Nat.{ℕ, _+_, _*_, _≤_, _<_}
 use native.Mathlib.Omega.{arith}
 use lib.Dec.{leb, eqb}
@@ -14,15 +14,37 @@ use Rattle.rows.specs.Tables.{rowAt}
 use Rattle.rows.specs.TablesLaws.{row-ends, mul-more}
 use Rattle.road.specs.declared.Road.{Road}
 use Rattle.road.specs.declared.Start.{Start}
-use Rattle.road.specs.Road.{mostCells, mostSteps, mostBytes}
-use Rattle.road.specs.Study.{Study}
-use Rattle.fields.specs.Fields.{rowNumbers}
+use Rattle.road.specs.Road.{mostCells, mostSteps, mostBytes, zeros, emptyState}
+use Rattle.road.specs.Study.{Study, study}
+use Rattle.fields.specs.Fields.{secondsSize, rowNumbers}
 use Rattle.limits.specs.Limits.{placeOk, rowOk}
-use Rattle.reading.specs.Reading.{sizeOf, bothVersions, cellsAndStepsOk, secondsOk}
-use Rattle.reading.specs.ReadingLaws.{Counts, counts-facts}
+use Rattle.header.specs.Header.{sizeOf, bothVersions, cellsAndStepsOk, secondsOk}
+use Rattle.header.specs.HeaderLaws.{Counts, counts-facts}
 use Rattle.writing.specs.Writing.{WriteAnswer, unwritten, written, rowsOk, givenOk, numberCount, writingBy, writingOf}
 use Rattle.putting.specs.Record.{recordSize, given}
 use Rattle.putting.specs.Putting.{Rows}
+
+-- a study of n cells and T steps without rows, whose other numbers are 0
+abbrev blank : ℕ → ℕ → ℕ → Study
+blank version n T = study (record {
+  n = n;
+  version = version;
+  seconds = 0;
+  «gate_capacity» = 0;
+  speed = zeros;
+  wave = zeros;
+  share = zeros;
+  ramp = zeros;
+  jam = zeros;
+  capacity = zeros;
+}) emptyState T (λ _. []) []
+
+-- 65 cells and 1,440 steps are too many bytes as well: an unknown version meets 2, version 2 without seconds 3, with 64 cells 19, and version 1 then 1
+on-paper : (writingBy (blank 3 65 1440) 0 0 ≡ unwritten 2 0)
+    × ((writingBy (blank 2 65 1440) 0 0 ≡ unwritten 3 0)
+    × ((writingBy (blank 2 64 1440) 0 0 ≡ unwritten 19 0) × (writingBy (blank 1 64 1440) 0 0 ≡ unwritten 1 0)))
+unfolding oneOf secondsSize
+on-paper = (refl, (refl, (refl, refl)))
 
 -- 2, 3, 19, 1 and 4, of numbers that belong to no place
 unfoldable pub frameFault : ℕ → ℕ → ℕ → ℕ → ℕ → ℕ

@@ -14,7 +14,7 @@ use Rattle.road.specs.declared.State.{State}
 use Rattle.road.specs.Road.{mostCells, zeros}
 use Rattle.road.specs.RoadLaws.{length-zeros, zeros-at}
 use Rattle.fields.specs.Fields.{secondVersion}
-use Rattle.reading.specs.Reading.{secondsOk}
+use Rattle.header.specs.Header.{secondsOk}
 use Rattle.limits.specs.LimitsLaws.{RoadOk, StateOk, RowOk}
 
 -- the first n entries of an array, and 0 past them

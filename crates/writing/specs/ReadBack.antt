@@ -26,9 +26,10 @@ use Rattle.fields.specs.FieldsLaws.{seconds-second, seconds-none, length-row, r
 use Rattle.fields.specs.BytesLaws.{Field, field-number}
 use Rattle.limits.specs.Limits.{placeOk, rowOk}
 use Rattle.limits.specs.LimitsLaws.{RoadOk, StateOk, RowOk, places-road, places-state, place-ok, row-facts, row-ok}
-use Rattle.reading.specs.Reading.{cellsOf, stepsOf, sizeOf, roadOf, startOf, bothVersions, leastSize, lengthOk, cellsAndStepsOk, secondsOk, stepOk}
+use Rattle.header.specs.Header.{cellsOf, stepsOf, sizeOf, bothVersions, leastSize, lengthOk, cellsAndStepsOk, secondsOk}
+use Rattle.reading.specs.Reading.{roadOf, startOf, stepOk}
 use Rattle.reading.specs.Reading.{acceptedOf, readingBy, readingOf}
-use Rattle.reading.specs.ReadingLaws.{known-most, least-both}
+use Rattle.header.specs.HeaderLaws.{known-most, least-both}
 use Rattle.putting.specs.Record.{headerBytes, cellBytes, recordOf, given}
 use Rattle.putting.specs.Putting.{length-record}
 use Rattle.writing.specs.Accepted.{Accepted}

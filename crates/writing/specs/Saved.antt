@@ -18,7 +18,8 @@ use Rattle.road.specs.Study.{Study}
 use Rattle.fields.specs.Fields.{secondVersion, rowNumbers, recordRow}
 use Rattle.limits.specs.Limits.{placeOk, rowOk}
 use Rattle.limits.specs.LimitsLaws.{place-ok, row-ok}
-use Rattle.reading.specs.Reading.{sizeOf, acceptedOf, readingOf, studyOf}
+use Rattle.header.specs.Header.{sizeOf}
+use Rattle.reading.specs.Reading.{acceptedOf, readingOf, studyOf}
 use Rattle.reading.specs.Numbers.{read-numbers}
 use Rattle.reading.specs.Within.{read-within}
 use Rattle.putting.specs.Record.{recordOf, given}
@@ -33,6 +34,12 @@ use Rattle.writing.specs.Again.{same-bytes}
 -- the record's bytes in the target
 abbrev pub savedOf : Road → ℕ → Start → List ℕ → List ℕ → List ℕ
 savedOf road T start rows target = take (writingOf road T start rows target .count) (targetAfter road T start rows target)
+
+-- the first `count` bytes of a target, as writing leaves it, read back as what was given: version, n, T and the values up to cell n, 0 past it;
+-- and each row's numbers are those given
+pub record ReadsBack (road : Road) (T : ℕ) (start : Start) (rows : List ℕ) (count : ℕ) (after : List ℕ) : Type 0 where
+  pub reads : readingOf (take count after) ≡ acceptedOf T (cutRoad road) (cutState (road .n) (startState start))
+  pub row : (t : ℕ) → t < T → recordRow (take count after) (road .n) t ≡ rowAt rows (rowNumbers (road .n)) t
 
 module _ (road : Road) (T : ℕ) (start : Start) (rows target : List ℕ) where
   -- where writing isn't refused
@@ -61,6 +68,22 @@ module _ (road : Road) (T : ℕ) (start : Start) (rows target : List ℕ) where
         beyond = rw (target-written road T start rows target h)
             (drop-at (recordOf a) (drop (sizeOf (road .version) (road .n) T) target) (sizeOf (road .version) (road .n) T) (length-record a));
       }
+
+  -- as an answer and the target at exit tell it
+  pub reads-as-given : {a : WriteAnswer} {after : List ℕ} → a ≡ writingOf road T start rows target → after ≡ targetAfter road T start rows target
+      → a .number ≡ 0 → ReadsBack road T start rows (a .count) after
+  reads-as-given ea et z =
+      let k = saved (ap (λ (x : WriteAnswer). x .number) (sym ea) ∙ z) in
+      rw (ea, et) (record { reads = k .reads; row = k .row })
+
+  -- what writing promises: the answer, the target at exit, and that it reads back
+  abbrev pub Promise : WriteAnswer → List ℕ → Type 0
+  Promise a after =
+      (a ≡ writingOf road T start rows target) × ((after ≡ targetAfter road T start rows target)
+      × (a .number ≡ 0 → ReadsBack road T start rows (a .count) after))
+
+  pub promise : {a : WriteAnswer} {after : List ℕ} → a ≡ writingOf road T start rows target → after ≡ targetAfter road T start rows target → Promise a after
+  promise ea et = (ea, (et, reads-as-given ea et))
 
   -- every refusal leaves the target unchanged, and the count is 0
   pub unsaved : (writingOf road T start rows target .number ≡ 0 → ⊥)

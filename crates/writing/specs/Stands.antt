@@ -11,7 +11,7 @@ use Rattle.rows.specs.TablesLaws.{row-ends}
 use Rattle.road.specs.Study.{Study}
 use Rattle.fields.specs.Fields.{countSize, headerSize, secondsSize, gateCapacityOffset, gateQueueOffset, cellSize, shortSize, numberSize, rowNumbers, rowSize, bytesOf}
 use Rattle.fields.specs.BytesLaws.{Field, length-bytes, field-first, field-only, field-after, field-before, field-in, field-there}
-use Rattle.reading.specs.Reading.{sizeOf}
+use Rattle.header.specs.Header.{sizeOf}
 use Rattle.putting.specs.Record.{headerOf, cellOf, headerBytes, cellBytes, rowBytes, recordOf}
 use Rattle.putting.specs.Putting.{header-length, length-cell, length-row}
 

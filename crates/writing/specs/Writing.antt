@@ -13,7 +13,7 @@ use Rattle.road.specs.Refusals.{refusalNumber}
 use Rattle.road.specs.Study.{Study}
 use Rattle.fields.specs.Fields.{rowNumbers}
 use Rattle.limits.specs.Limits.{placeOk, rowOk}
-use Rattle.reading.specs.Reading.{sizeOf, bothVersions, cellsAndStepsOk, secondsOk}
+use Rattle.header.specs.Header.{sizeOf, bothVersions, cellsAndStepsOk, secondsOk}
 use Rattle.putting.specs.Record.{recordSize, recordOf, given}
 
 -- what writing answers: the refusal's number, its place or step, and the count of bytes written

@@ -11,18 +11,19 @@ ghost use Rattle.fields.specs.Fields.{rowNumbers};
 ghost use Rattle.putting.specs.Putting.{Rows};
 ghost use Rattle.writing.specs.Writing.{unwritten, rowsOk, writeAnswer, writingOf, targetAfter};
 ghost use Rattle.writing.specs.Checks.{frameFault};
+ghost use Rattle.writing.specs.Saved.{ReadsBack};
 
 // 2, 3, 19, 1 and 4: the version, n and T, the seconds, the record's size, and the count of the rows' numbers.
 fn frame_refusal(version: u8, seconds: u16, n: usize, steps: usize, numbers: usize) -> Refusal
     ensures { λ q. ⌜ refusalNumber q ≡ frameFault version seconds n steps numbers ⌝ }
 {
-    if !reading::version_known(version) {
+    if !header::version_known(version) {
         return Refusal::Version;
     }
-    if !reading::cells_and_steps_within(n, steps) {
+    if !header::cells_and_steps_within(n, steps) {
         return Refusal::Counts;
     }
-    if !reading::seconds_within(version, seconds) {
+    if !header::seconds_within(version, seconds) {
         return Refusal::Seconds;
     }
     if Road::BYTES < fields::row_start(version, n, steps) {
@@ -98,6 +99,7 @@ fn checked(road: Road, steps: usize, start: Start, rows: &[u32], target: &[u8]) 
 pub fn write(road: Road, steps: usize, start: Start, rows: &[u32], target: &mut [u8]) -> Written
     ensures answer { λ a. ⌜ writeAnswer a ≡ writingOf road steps start (now (rows .entry)) (now (target .entry)) ⌝ }
     ensures target { λ a. ⌜ now (target .exit) ≡ targetAfter road steps start (now (rows .entry)) (now (target .entry)) ⌝ }
+    ensures back { λ a. ⌜ (writeAnswer a .number ≡ 0 → ReadsBack road steps start (now (rows .entry)) (writeAnswer a .count) (now (target .exit))) ⌝ }
 {
     let a = checked(road, steps, start, rows, target);
     let refusal = a.refusal;

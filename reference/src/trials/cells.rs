@@ -36,9 +36,10 @@ impl Style {
         let mut cells: Vec<CellDraft> = (0..n)
             .map(|_| {
                 let cell = self.cell(dice);
-                match dice.upto(3) < ramps {
-                    true => with_ramp(cell, self.ramp_queue(dice)),
-                    false => cell,
+                if dice.upto(3) < ramps {
+                    with_ramp(cell, self.ramp_queue(dice))
+                } else {
+                    cell
                 }
             })
             .collect();

@@ -178,9 +178,12 @@ fn reopened(cases: &mut Cases) {
 /// Lanes of every cell, few or many.
 fn random_lanes(n: usize, dice: &mut Dice) -> Vec<u8> {
     let few = dice.one_in(2);
-    let one = |dice: &mut Dice| match few {
-        true => dice.pick(&[1, 3, 7, 15]),
-        false => dice.between(1, 255) as u8,
+    let one = |dice: &mut Dice| {
+        if few {
+            dice.pick(&[1, 3, 7, 15])
+        } else {
+            dice.between(1, 255) as u8
+        }
     };
     (0..n).map(|_| one(dice)).collect()
 }

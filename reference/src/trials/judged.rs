@@ -83,9 +83,10 @@ fn too_much(trial: &Trial, mut schedule: Vec<u32>, dice: &mut Dice) -> Vec<u32> 
 fn changed(mut schedule: Vec<u32>, dice: &mut Dice) -> Vec<u32> {
     let at = dice.upto(schedule.len() as u64 - 1) as usize;
     let amount = dice.any_size(u64::from(u32::MAX)) as u32;
-    schedule[at] = match dice.one_in(2) {
-        true => schedule[at].saturating_add(amount),
-        false => schedule[at].saturating_sub(amount),
+    schedule[at] = if dice.one_in(2) {
+        schedule[at].saturating_add(amount)
+    } else {
+        schedule[at].saturating_sub(amount)
     };
     schedule
 }
@@ -93,9 +94,10 @@ fn changed(mut schedule: Vec<u32>, dice: &mut Dice) -> Vec<u32> {
 /// One too many or one above the demand, and anything in the later rows.
 fn spoilt_later(trial: &Trial, dice: &mut Dice) -> Vec<u32> {
     let sound = trial.schedule.clone();
-    let mut schedule = match dice.one_in(2) {
-        true => above_demand(trial, sound.clone(), dice),
-        false => too_much(trial, sound.clone(), dice),
+    let mut schedule = if dice.one_in(2) {
+        above_demand(trial, sound.clone(), dice)
+    } else {
+        too_much(trial, sound.clone(), dice)
     };
     let width = trial.n + 1;
     let first = sound.iter().zip(&schedule).position(|(a, b)| a != b);

@@ -195,9 +195,10 @@ fn any_bits(dice: &mut Dice) -> LeafInput {
 /// Numbers as on a road, with fractions that no float holds exactly.
 fn common(dice: &mut Dice) -> LeafInput {
     let mut number = |most: u64| dice.upto(most * 1_000) as f64 / 1_000.0;
-    let numbers = match number(1) < 0.5 {
-        true => [number(2) - 0.5, number(1_000_000) - 100_000.0, 0.0],
-        false => [number(1_000_000), number(1_000_000), number(1_000_000)],
+    let numbers = if number(1) < 0.5 {
+        [number(2) - 0.5, number(1_000_000) - 100_000.0, 0.0]
+    } else {
+        [number(1_000_000), number(1_000_000), number(1_000_000)]
     };
     let kind = dice.upto(2) as u32;
     let [last, entered, held] = [(); 3].map(|()| dice.any_size(1_000_000) as u32);

@@ -198,10 +198,10 @@ fn leaf_line(input: &LeafInput) -> String {
 
 /// The bits of a float; those of all that aren't numbers are the same.
 fn bits_of(float: f64) -> u64 {
-    match float.is_nan() {
-        true => 0x7ff8_0000_0000_0000,
-        false => float.to_bits(),
+    if float.is_nan() {
+        return 0x7ff8_0000_0000_0000;
     }
+    float.to_bits()
 }
 
 /// The record read and written again, into a target three bytes longer.

@@ -203,10 +203,8 @@ fn spoil(road: &Road, state: &State, row: &mut [u32], dice: &mut Dice) {
         (true, true) => return,
         (false, true) => nines,
         (true, false) => tens,
-        (false, false) => match dice.one_in(2) {
-            true => nines,
-            false => tens,
-        },
+        (false, false) if dice.one_in(2) => nines,
+        (false, false) => tens,
     };
     let (cell, release) = dice.pick(&choices);
     row[2 * cell] = release as u32;

@@ -28,17 +28,21 @@ repeat 3 row gate 1000 ramp 2 arrivals 500 release 300  # steps 0 to 2
 #[test]
 fn canonical_texts_come_back() {
     let texts = [
-        "steps 0\ngate capacity 0\n",
-        "steps 1\ngate capacity 5 queue 6\nrow gate 7\n",
+        "refused 3\nsteps 0\ngate capacity 0\n",
+        "refused 3\nsteps 1\ngate capacity 5 queue 6\nrow gate 7\n",
         "version 2\nseconds 20\nsteps 1\ngate capacity 5 queue 6\n\
+         cell v 1 w 2 b 0 jam 4 capacity 5\nrow gate 7\n",
+        "refused 5\nversion 2\nseconds 20\nsteps 1\ngate capacity 5 queue 6\n\
          cell v 1 w 2 b 3 jam 4 capacity 5\nrow gate 7\n",
-        "version 2\nseconds 0\nsteps 0\ngate capacity 5\ndamage cells 3\n",
-        "version 2\nseconds 65535\nsteps 1\ngate capacity 5\nrow gate 7\ndamage length 9\n",
-        "steps 3\ngate capacity 1\ncell v 1 w 2 b 3 ramp 1 jam 4 capacity 5\n\
+        "refused 3\nversion 2\nseconds 0\nsteps 0\ngate capacity 5\ndamage cells 3\n",
+        "refused 1\nversion 2\nseconds 65535\nsteps 1\ngate capacity 5\nrow gate 7\n\
+         damage length 9\n",
+        "steps 3\ngate capacity 1\ncell v 1 w 2 b 0 ramp 1 jam 4 capacity 5\n\
          row ramp 1 arrivals 2\nrow gate 1 ramp 1 release 3\nrow\n",
-        "steps 4\ngate capacity 1\ncell v 1 w 2 b 3 jam 4 capacity 5\n\
-         repeat 2 unchecked row ramp 1 release 3\nrow\nunchecked row 6\n",
-        "steps 0\ngate capacity 1\ncell v 1 w 2 b 3 ramp 9 jam 4 capacity 5 held 6 queue 7\n\
+        "refused 4\nsteps 4\ngate capacity 1\ncell v 1 w 2 b 3 jam 4 capacity 5\n\
+         repeat 2 row ramp 1 release 3\nrow\nrow 6\n",
+        "refused 1\nsteps 0\ngate capacity 1\n\
+         cell v 1 w 2 b 3 ramp 9 jam 4 capacity 5 held 6 queue 7\n\
          damage length 9\ndamage version 2\ndamage cells 3\ndamage steps 4\n",
     ];
     for text in texts {
@@ -75,9 +79,8 @@ fn what_cannot_be_told_has_its_reason() {
     let head = "a record of 15 bytes has no whole head, which takes 18";
     let short = |d: &mut Draft| (d.version, d.seconds, d.cut) = (2, Some(20), 111);
     assert_eq!(reason(short), head);
-    let rows = |d: &mut Draft| (d.n, d.cells, d.rows) = (0, vec![], vec![vec![1]; 65_536]);
-    let many = "the record has 65536 rows, a text at most 65535";
-    assert_eq!(reason(rows), many);
+    let long = "a record has at most 65536 bytes";
+    assert_eq!(reason(|d| d.extra = 65_536 - 123), long);
 }
 
 #[test]

@@ -29,6 +29,7 @@ fn capacities_by_hand() {
     assert_eq!(open_capacity(999, 0x80, 0), 0);
     assert_eq!(open_capacity(1_000_000, 0, 0xFF), 0);
     assert_eq!(open_capacity(10, 1, 3), 20);
+    assert_eq!(open_capacity(u32::MAX, 1, 3), u32::MAX);
 }
 
 #[test]

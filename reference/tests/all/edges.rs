@@ -31,6 +31,7 @@ fn demand_rounds_down() {
 fn supply_rounds_down_and_ends_at_jam() {
     assert_eq!(cell_supply(250, 2000, 8000, 2566), 1358);
     assert_eq!(cell_supply(250, 2000, 8000, 8000), 0);
+    assert_eq!(cell_supply(250, 2000, 8000, 8001), 0);
 }
 
 #[test]

@@ -94,8 +94,97 @@ fn a_record_filled_by_the_laws_of_a_file() {
     }
     assert_eq!(filled.stdout, draft.encode());
     let refused = folder.reference(&["fill", "road.rec", "spoilt.txt"]);
-    assert_eq!(said(&refused), "reference: refused 16 0 2\n");
+    let wanted = "reference: refused 16 0 2: a ramp's meter law has a number that isn't finite\n";
+    assert_eq!(said(&refused), wanted);
     assert!(refused.stdout.is_empty());
+}
+
+#[test]
+fn a_law_that_nothing_follows_is_warned_of() {
+    let folder = Folder::new("unused-law");
+    folder.file("road.rec", &record_of(EXAMPLE));
+    let laws = "ramp 2 fixed 0\nramp 1 fixed 5\n\nramp 3 fixed 5\n";
+    folder.file("laws.txt", laws.as_bytes());
+    let filled = folder.reference(&["fill", "road.rec", "laws.txt"]);
+    assert!(filled.status.success() && filled.stdout.len() == 124);
+    let wanted = "\
+reference: warning: laws.txt: line 2: cell 1 has no ramp: its law is not used
+reference: warning: laws.txt: line 4: cell 3 has no ramp: its law is not used
+";
+    assert_eq!(said(&filled), wanted);
+}
+
+#[test]
+fn refused_runs_and_schedules_end_with_1_and_say_why() {
+    let folder = Folder::new("refused");
+    let text = EXAMPLE.replace("release 300", "release 3000");
+    folder.file("road.rec", &record_of(EXAMPLE));
+    folder.file("refused.rec", &record_of(&text));
+    folder.file("lanes.txt", b"cells 2\nsteps 3\nbuilt 2\n");
+    folder.file("zeros.txt", b"0 0 0\n0 0 0\n0 0 0\n");
+    folder.file("much.txt", b"9000 0 0\n0 0 0\n0 0 0\n");
+    folder.file("short.txt", b"0 0 0\n0 0\n0 0 0\n");
+    let calls: [(&[&str], i32, &str, &str); 5] = [
+        (&["run", "road.rec", "lanes.txt"], 0, "", ""),
+        (
+            &["run", "refused.rec", "lanes.txt"],
+            1,
+            "refused 9 0 2\n",
+            "reference: refused 9 0 2: a release above its ramp's queue and this step's arrivals there together\n",
+        ),
+        (&["judge", "road.rec", "zeros.txt"], 0, "", ""),
+        (
+            &["judge", "road.rec", "much.txt"],
+            1,
+            "refused 13 0 0\n",
+            "reference: refused 13 0 0: an outflow above the demand of its place\n",
+        ),
+        (
+            &["judge", "road.rec", "short.txt"],
+            1,
+            "refused 12 0 0\n",
+            "reference: short.txt: line 2: the row of step 1 should have 3 numbers, gate first, not 2\n",
+        ),
+    ];
+    for (words, status, printed, why) in calls {
+        let output = folder.reference(words);
+        assert_eq!(output.status.code(), Some(status), "{words:?}");
+        assert_eq!(said(&output), why);
+        if status == 1 {
+            assert_eq!(output.stdout, printed.as_bytes());
+        }
+    }
+}
+
+#[test]
+fn an_input_is_never_written_over() {
+    let folder = Folder::new("same-file");
+    let path = folder.file("road.txt", EXAMPLE.as_bytes());
+    fs::hard_link(&path, folder.0.join("linked.txt")).unwrap();
+    for other in ["road.txt", "./road.txt", "linked.txt"] {
+        let made = folder.reference(&["record", "road.txt", other]);
+        assert_eq!(made.status.code(), Some(1));
+        let wanted = format!("reference: {other} is the input, which would be lost\n");
+        assert_eq!(said(&made), wanted);
+    }
+    assert_eq!(fs::read(path).unwrap(), EXAMPLE.as_bytes());
+}
+
+#[test]
+fn input_is_read_up_to_a_bound() {
+    let folder = Folder::new("bounds");
+    folder.file("long.txt", &[b'#'; (1 << 20) + 1]);
+    let made = folder.reference(&["record", "long.txt"]);
+    assert_eq!(
+        said(&made),
+        "reference: long.txt: more than 1048576 bytes\n"
+    );
+    let told = folder.reference(&["text", "/dev/zero"]);
+    let wanted = "reference: /dev/zero: a record has at most 65536 bytes\n";
+    assert_eq!(said(&told), wanted);
+    folder.file("lanes.txt", b"cells 2\nsteps 3\nbuilt 2\n");
+    let run = folder.reference(&["run", "/dev/zero", "lanes.txt"]);
+    assert_eq!(run.stdout, b"refused 1 0 0\n");
 }
 
 #[test]

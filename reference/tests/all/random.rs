@@ -73,9 +73,10 @@ fn fitting_row(dice: &mut Dice, road: &Road, state: &State) -> Vec<u32> {
     let mut row = vec![dice.any_size(1_000_000)];
     for cell in 1..=road.n {
         let with_ramp = road.ramp[cell - 1] == 1;
-        let arriving = match with_ramp {
-            true => dice.any_size(1_000_000),
-            false => 0,
+        let arriving = if with_ramp {
+            dice.any_size(1_000_000)
+        } else {
+            0
         };
         row.push(arriving);
         let waiting = u64::from(state.queue[cell - 1]) + u64::from(arriving);
@@ -170,7 +171,7 @@ fn one_part_more_never_obeys_the_rules() {
 }
 
 #[test]
-fn the_closed_form_is_the_greatest_outflow_found_by_trying_all() {
+fn the_search_finds_the_greatest_outflow_that_trying_all_finds() {
     let mut dice = Dice(3);
     for _ in 0..3_000 {
         let share = match dice.upto(3) {

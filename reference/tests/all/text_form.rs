@@ -2,7 +2,7 @@
 
 use crate::support::*;
 use reference::print::printed_run;
-use reference::text::{decoded, record_of as parse, schedule_of};
+use reference::text::{decoded, record_of as parse, schedule_fault, schedule_of};
 
 #[test]
 fn the_example_byte_by_byte() {
@@ -55,18 +55,30 @@ fn cells_and_rows_can_be_repeated() {
 
 #[test]
 fn damaged_records_can_be_written() {
-    let refusal = |damage: &str| printed_run(&record_of(&format!("{EXAMPLE}\n{damage}\n")));
-    assert_eq!(refusal("damage length 119"), "refused 1 0 0\n");
-    assert_eq!(refusal("damage cut 109"), "refused 1 0 0\n");
-    assert_eq!(refusal("damage cut 124"), "refused 1 0 0\n");
-    assert_eq!(refusal("damage extra 65412"), "refused 4 0 0\n");
-    assert_eq!(refusal("damage extra 65413"), "refused 1 0 0\n");
-    assert_eq!(refusal("damage version 0"), "refused 2 0 0\n");
-    assert_eq!(refusal("damage cells 65"), "refused 3 0 0\n");
-    assert_eq!(refusal("damage steps 1441"), "refused 3 0 0\n");
-    assert_eq!(refusal("damage cut 108"), "refused 4 0 0\n");
-    assert_eq!(refusal("damage byte 12 255"), "refused 5 0 0\n");
-    assert_eq!(refusal("damage byte 123 45"), printed_with_release_301());
+    let refused = [
+        ("damage length 119", 1),
+        ("damage cut 109", 1),
+        ("damage cut 124", 1),
+        ("damage extra 65412", 4),
+        ("damage extra 65413", 1),
+        ("damage version 0", 2),
+        ("damage cells 65", 3),
+        ("damage steps 1441", 3),
+        ("damage cut 108", 4),
+        ("damage byte 12 255", 5),
+    ];
+    for (damage, number) in refused {
+        let text = format!("{EXAMPLE}\n{damage}\n");
+        let record = record_of(&format!("refused {number}\n{text}"));
+        assert_eq!(printed_run(&record), format!("refused {number} 0 0\n"));
+        let said = format!(
+            "line 8: reading refuses the damaged record with {number}; \
+             a text that is meant so begins with 'refused {number}'"
+        );
+        assert_eq!(parse(&text).unwrap_err().to_string(), said);
+    }
+    let sound = record_of(&format!("{EXAMPLE}\ndamage byte 123 45\n"));
+    assert_eq!(printed_run(&sound), printed_with_release_301());
 }
 
 /// Byte 123 is the last of the last release: 300 is 1 * 256 + 44.
@@ -77,8 +89,9 @@ fn printed_with_release_301() -> String {
 }
 
 #[test]
-fn numbers_past_the_limits_are_kept() {
+fn numbers_past_the_limits_are_kept_where_that_is_meant() {
     let text = "
+        refused 5
         steps 1
         gate capacity 4294967295 queue 4294967295
         cell v 65535 w 65535 b 65535 ramp 65535 jam 4294967295 capacity 4294967295
@@ -95,16 +108,26 @@ fn numbers_past_the_limits_are_kept() {
 const HEAD: &str = "steps 1\ngate capacity 1\ncell v 1 w 1 b 0 jam 1 capacity 1\n";
 
 /// What follows the head, and what is said of it.
-const FAULTY: [(&str, &str); 38] = [
+const FAULTY: [(&str, &str); 48] = [
     ("lane 3", "line 4: unknown statement 'lane'"),
     ("row\nsteps 1", "line 5: 'steps' stands twice"),
     ("gate capacity 1", "line 4: 'gate' stands twice"),
     ("row gate", "line 4: gate is missing at the end of the line"),
-    ("row gate x", "line 4: gate should be a number, not 'x'"),
-    ("row gate -1", "line 4: gate should be a number, not '-1'"),
     (
-        "row gate 4294967296",
-        "line 4: gate: 4294967296 is more than 4294967295",
+        "row gate x",
+        "line 4: gate should be a whole number, in thousandths of a vehicle, not 'x'",
+    ),
+    (
+        "row gate -1",
+        "line 4: gate should be a whole number, in thousandths of a vehicle, not '-1'",
+    ),
+    (
+        "row gate 1000001",
+        "line 4: gate: 1000001 is more than 1000000",
+    ),
+    (
+        "row 1000001 0 0",
+        "line 4: a number of the row: 1000001 is more than 1000000",
     ),
     ("row ramp 2", "line 4: there is no cell 2, only 1 to 1"),
     (
@@ -117,12 +140,48 @@ const FAULTY: [(&str, &str); 38] = [
     ),
     (
         "row 1 gate",
-        "line 4: a number of the row should be a number, not 'gate'",
+        "line 4: a number of the row should be a whole number, \
+         in thousandths of a vehicle, not 'gate'",
     ),
     ("cell v 1", "line 4: 'w' is missing"),
     ("cell v 1 v 1", "line 4: 'v' stands twice"),
     ("cell speed 1", "line 4: unknown keyword 'speed'"),
-    ("cell v 65536", "line 4: v: 65536 is more than 65535"),
+    ("cell v 1001", "line 4: v: 1001 is more than 1000"),
+    (
+        "cell v 0.5",
+        "line 4: v should be a whole number, in thousandths, not '0.5'",
+    ),
+    ("cell v 1 w 1 b 1001", "line 4: b: 1001 is more than 1000"),
+    ("cell ramp 2", "line 4: ramp: 2 is more than 1"),
+    (
+        "cell jam 1000001",
+        "line 4: jam: 1000001 is more than 1000000",
+    ),
+    (
+        "cell queue 1000000001",
+        "line 4: queue: 1000000001 is more than 1000000000",
+    ),
+    (
+        "cell v 1 w 1 b 0 jam 5 capacity 1 held 6",
+        "line 4: held: 6 is more than jam, 5",
+    ),
+    (
+        "cell v 1 w 1 b 0 jam 5 capacity 1 queue 6",
+        "line 4: queue: 6, but the cell has no ramp (ramp 1 gives it one)",
+    ),
+    (
+        "cell v 1 w 1 b 7 jam 5 capacity 1\nrow",
+        "line 4: b of the last cell is 7, where it must be 0: all that leaves it leaves the road",
+    ),
+    (
+        "repeat 64 cell v 1 w 1 b 0 jam 5 capacity 1",
+        "line 4: a record has at most 64 cells",
+    ),
+    ("repeat 1441 row", "line 4: a record has at most 1440 steps"),
+    (
+        "refused 5",
+        "line 4: 'refused' stands before all other statements",
+    ),
     ("row\ncell v 1", "line 5: cells stand before the rows"),
     ("repeat 2 steps 3", "line 4: 'steps' can't be repeated"),
     ("damage road 3", "line 4: unknown damage 'road'"),
@@ -130,7 +189,8 @@ const FAULTY: [(&str, &str); 38] = [
     ("version 0", "line 4: there is no version 0, only 1 and 2"),
     ("version 1\nversion 1", "line 5: 'version' stands twice"),
     ("seconds 1\nseconds 1", "line 5: 'seconds' stands twice"),
-    ("seconds 65536", "line 4: seconds: 65536 is more than 65535"),
+    ("seconds 901", "line 4: seconds: 901 is more than 900"),
+    ("seconds 0", "line 4: seconds: 0 is less than 1"),
     ("seconds 20\nrow", "line 4: only version 2 has seconds"),
     (
         "version 1\nseconds 20\nrow",
@@ -161,18 +221,6 @@ const FAULTY: [(&str, &str); 38] = [
         "\nrow ramp 1 arrivals 7 release 0",
         "line 5: cell 1 has no ramp, but arrivals of 7 there",
     ),
-    (
-        "unchecked",
-        "line 4: 'row' is missing at the end of the line",
-    ),
-    (
-        "unchecked cell v 1",
-        "line 4: only a row can be unchecked, not 'cell'",
-    ),
-    (
-        "unchecked row gate x",
-        "line 4: gate should be a number, not 'x'",
-    ),
 ];
 
 const WRONG_COUNT_1: &str = "line 4: a row has 3 numbers (the gate's arrivals, \
@@ -186,22 +234,78 @@ fn faulty_lines_are_named() {
         let error = parse(&format!("{HEAD}{rest}")).unwrap_err();
         assert_eq!(error.to_string(), said);
     }
-    let error = parse("steps 0\n\n").unwrap_err();
-    assert_eq!(error.to_string(), "line 2: the text ends without 'gate'");
+    let said = |text: &str| parse(text).unwrap_err().to_string();
+    assert_eq!(said("steps 1\n\n"), "line 2: the text ends without 'gate'");
+    assert_eq!(said("steps 0"), "line 1: steps: 0 is less than 1");
+    assert_eq!(said("steps 1441"), "line 1: steps: 1441 is more than 1440");
+    assert_eq!(
+        said("gate capacity 1\nsteps 1\nrow"),
+        "line 3: the text ends without 'cell'"
+    );
 }
 
 #[test]
-fn unchecked_rows_are_taken_as_they_are() {
-    let refusal = |rows: &str| printed_run(&record_of(&format!("{HEAD}{rows}")));
-    assert_eq!(refusal("unchecked row 5"), "refused 4 0 0\n");
-    assert_eq!(refusal("unchecked row 5 0 0 0"), "refused 4 0 0\n");
-    assert_eq!(refusal("unchecked row 5 0 7"), "refused 6 0 0\n");
+fn more_steps_than_the_bytes_allow_are_named() {
+    let text = |version: &str, steps: usize| {
+        format!(
+            "{version}\nsteps {steps}\ngate capacity 1\n\
+             repeat 64 cell v 1 w 1 b 0 jam 1 capacity 1\nrepeat {steps} row"
+        )
+    };
+    assert_eq!(record_of(&text("", 124)).len(), 16 + 24 * 64 + 124 * 516);
+    let said = |text: &str| parse(text).unwrap_err().to_string();
     assert_eq!(
-        refusal("repeat 1 unchecked row ramp 1 release 7"),
-        "refused 6 0 0\n"
+        said(&text("", 125)),
+        "line 2: steps: 125 with 64 cells take 66052 bytes, more than 65536; \
+         64 cells leave room for 124 steps"
     );
-    let sound = "row gate 5 ramp 1 arrivals 0 release 0";
-    assert_eq!(refusal(&format!("unchecked {sound}")), refusal(sound));
+    record_of(&text("version 2 # and\nseconds 1", 123));
+    assert_eq!(
+        said(&text("version 2 # and\nseconds 1", 124)),
+        "line 3: steps: 124 with 64 cells take 65538 bytes, more than 65536; \
+         64 cells leave room for 123 steps"
+    );
+}
+
+#[test]
+fn a_text_that_is_meant_to_be_refused_must_be() {
+    let said = |first: &str| {
+        parse(&format!("{first}\n{HEAD}row"))
+            .unwrap_err()
+            .to_string()
+    };
+    assert_eq!(
+        said("refused 5"),
+        "line 1: reading doesn't refuse this record"
+    );
+    assert_eq!(
+        said("refused 2\nversion 2\nseconds 901"),
+        "line 1: reading refuses this record with 19, not 2"
+    );
+    assert_eq!(
+        said("refused 9"),
+        "line 1: reading refuses with 1 to 6 or 19, not 9"
+    );
+    let long = format!("refused 1\n{HEAD}repeat 65535 row 1 2 3 4");
+    assert_eq!(
+        parse(&long).unwrap_err().to_string(),
+        "line 5: the rows take more than 1000000 bytes"
+    );
+}
+
+#[test]
+fn rows_are_taken_as_they_are_where_that_is_meant() {
+    let rows = [
+        ("row 5", 4),
+        ("row 5 0 0 0", 4),
+        ("row 5 0 7", 6),
+        ("repeat 1 row ramp 1 release 7", 6),
+        ("row gate 1000001", 6),
+    ];
+    for (row, number) in rows {
+        let record = record_of(&format!("refused {number}\n{HEAD}{row}"));
+        assert_eq!(printed_run(&record), format!("refused {number} 0 0\n"));
+    }
 }
 
 #[test]
@@ -241,6 +345,24 @@ fn schedules_are_numbers_between_blanks() {
     assert_eq!(schedule_of("").unwrap(), []);
     assert_eq!(
         schedule_of("1\n2 x").unwrap_err().to_string(),
-        "line 2: an outflow should be a number, not 'x'"
+        "line 2: an outflow should be a whole number, in thousandths of a vehicle, not 'x'"
+    );
+}
+
+#[test]
+fn a_schedule_s_row_of_another_length_is_named() {
+    let said = |text: &str| schedule_fault(text, 1, 2).map(|fault| fault.to_string());
+    assert_eq!(said("1 2 # gate, cell\n\n 3\t4"), None);
+    assert_eq!(
+        said("# rows\n1 2\n3").unwrap(),
+        "line 3: the row of step 1 should have 2 numbers, gate first, not 1"
+    );
+    assert_eq!(
+        said("1 2\n3 4\n5 6\n").unwrap(),
+        "line 3: the schedule has 3 rows, but the record 2 steps"
+    );
+    assert_eq!(
+        said("").unwrap(),
+        "line 1: the schedule has 0 rows, but the record 2 steps"
     );
 }

@@ -536,6 +536,6 @@ fn the_run_s_own_rows_as_text() {
     assert_eq!(schedule_of(&text), Ok(list));
     let mut draft = example_draft();
     draft.rows[1][4] = 1_001;
-    let refused = printed_schedule(&draft.encode());
-    assert_eq!(refused, Err("refused 10 1 2\n".to_string()));
+    let refused = printed_schedule(&draft.encode()).unwrap_err();
+    assert_eq!(verdict(&refused), (10, 1, 2));
 }

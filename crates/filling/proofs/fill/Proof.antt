@@ -3,7 +3,7 @@ use mathlib.Core.Path.{_≡_, refl, sym, ap, _∙_}
 use Prim.Native.Nat.{_≤_}
 use Rattle.road.specs.Road.{mostCells, mostSteps}
 use Rattle.road.specs.Refusals.{refusalNumber}
-use Rattle.stepping.specs.Answers.{faultOf}
+use Rattle.releases.specs.Faults.{faultOf}
 use Rattle.reading.specs.Reading.{studyBy, readAnswer}
 use Rattle.reading.specs.Within.{read-within}
 use Rattle.schedules.specs.Schedules.{endAnswer}
@@ -86,7 +86,7 @@ returns c =
     (ap endAnswer (c .without-state .ensures))
 
 law-fault-requires : tie.Need-law-fault-requires
-law-fault-requires c κs = cells (c .before .before) .0
+law-fault-requires c κs = search needs
 
 without-state-requires-2 : tie.Need-without-state-requires-2
 without-state-requires-2 c κs = search needs

@@ -1,6 +1,7 @@
 -- `listing::line` meets its contract: its five words, one after the other. Assumes nothing.
 use Rattle.rows.specs.Placed.{room-more}
-use Rattle.listing.specs.ListingLaws.{Word, word-room, words-room, line-put}
+use Rattle.words.specs.WordsLaws.{Word, word-room, words-room}
+use Rattle.listing.specs.ListingLaws.{line-put}
 use native.Mathlib.Omega.{arith}
 use borrow.Author.Needs.{needs}
 use Rattle.listing.proofs.line.Statement.{statement}

@@ -1,6 +1,7 @@
 -- `listing::refused` meets its contract. Assumes nothing.
 use native.Mathlib.Omega.{arith}
-use Rattle.listing.specs.ListingLaws.{Word, word-room, named-room, refused-put}
+use Rattle.words.specs.WordsLaws.{Word, word-room, named-room}
+use Rattle.listing.specs.ListingLaws.{refused-put}
 use Rattle.rows.specs.Placed.{Text, room-more}
 use borrow.Author.Needs.{needs}
 use Rattle.listing.proofs.refused.Statement.{statement}

@@ -2,7 +2,8 @@
 use native.Mathlib.Omega.{arith}
 use Rattle.rows.specs.Placed.{room-more}
 use Rattle.listing.specs.Listing.{totalWord, gateWord, roadWord, rampWord}
-use Rattle.listing.specs.ListingLaws.{Named, number-room, total-put}
+use Rattle.words.specs.WordsLaws.{Named, number-room}
+use Rattle.listing.specs.ListingLaws.{total-put}
 use borrow.Author.Needs.{needs}
 use Rattle.listing.proofs.total.Statement.{statement}
 use Rattle.listing.proofs.total.Tie as tie

@@ -4,10 +4,14 @@ use mathlib.Core.Path.{_≡_, _∙_}
 use mathlib.Core.Bool.{Bool, _||_}
 use Prim.Native.Nat.{_-_}
 use lib.Dec.{eqb}
+use lib.ListN.{length}
 use Rattle.numbers.specs.Lists.{at}
+use Rattle.road.specs.Road.{mostCells}
 use Rattle.meter.specs.Meter.{lawOk}
-use Rattle.meter.specs.MeterLaws.{Passed, ok-is, passed-none, passed-more, passed-stop, passed-end}
+use Rattle.road.specs.Road.{mostCells}
+use Rattle.meter.specs.MeterLaws.{Passed, ok-is, passed-none, passed-more, passed-stop, passed-past, passed-end}
 use borrow.Author.Needs.{needs}
+use native.Mathlib.Omega.{arith}
 use Rattle.meter.proofs.law_fault.Statement.{statement}
 use Rattle.meter.proofs.law_fault.Tie as tie
 
@@ -22,7 +26,7 @@ abbrev A : tie.At-loop Inv-loop μ-loop → tie.Start Inv-loop μ-loop
 A c = c .before
 
 abbrev Turn : tie.After-law-finite Inv-loop μ-loop → tie.In-loop Inv-loop μ-loop
-Turn c = c .before .before
+Turn c = c .before .before .before
 
 -- what the code finds of the cell at i is the test of this cell
 abbrev Passes : tie.After-law-finite Inv-loop μ-loop → Bool
@@ -34,17 +38,23 @@ found c = let l = Turn c .before in let a = A l .args in ok-is (a .t1) (a .t2) (
 loop-holds : tie.Need-loop-holds Inv-loop μ-loop
 loop-holds c = passed-none
 
+returns : tie.Need-returns Inv-loop μ-loop
+returns c =
+    let l = c .before .before in
+    let marks : length (A l .args .t2) ≡ mostCells = search needs in
+    passed-past (l .loop .inv) (omega (arith, marks, c .if1 .taken))
+
 mul-law : tie.Need-mul-law Inv-loop μ-loop
 mul-law c = search needs
 
 array-copy-out-law : tie.Need-array-copy-out-law Inv-loop μ-loop
 array-copy-out-law c = search needs
 
-mul-if1 : tie.Need-mul-if1 Inv-loop μ-loop
-mul-if1 c = search needs
+mul-if2 : tie.Need-mul-if2 Inv-loop μ-loop
+mul-if2 c = search needs
 
-array-read-if1 : tie.Need-array-read-if1 Inv-loop μ-loop
-array-read-if1 c = search needs
+array-read-if2 : tie.Need-array-read-if2 Inv-loop μ-loop
+array-read-if2 c = search needs
 
 law-finite-requires : tie.Need-law-finite-requires Inv-loop μ-loop
 law-finite-requires c κs = search needs
@@ -52,11 +62,11 @@ law-finite-requires c κs = search needs
 add-result : tie.Need-add-result Inv-loop μ-loop
 add-result c = search needs
 
-returns : tie.Need-returns Inv-loop μ-loop
-returns c =
+returns-2 : tie.Need-returns-2 Inv-loop μ-loop
+returns-2 c =
     let cell = c .before in
     let t = Turn cell in
-    passed-stop (t .before .loop .inv) (t .loop-test .taken) (found cell ∙ not-true (Passes cell) (c .if1 .taken))
+    passed-stop (t .before .loop .inv) (t .loop-test .taken) (found cell ∙ not-true (Passes cell) (c .if2 .taken))
 
 add-i : tie.Need-add-i Inv-loop μ-loop
 add-i c = search needs
@@ -68,10 +78,10 @@ loop-again : tie.Need-loop-again Inv-loop μ-loop
 loop-again c =
     let cell = c .before in
     let t = Turn cell in
-    passed-more (t .before .loop .inv) (t .loop-test .taken) (found cell ∙ not-false (Passes cell) (c .if1 .left))
+    passed-more (t .before .loop .inv) (t .loop-test .taken) (found cell ∙ not-false (Passes cell) (c .if2 .left))
 
-returns-2 : tie.Need-returns-2 Inv-loop μ-loop
-returns-2 c = passed-end (c .before .loop .inv) (c .loop-test .left)
+returns-3 : tie.Need-returns-3 Inv-loop μ-loop
+returns-3 c = passed-end (c .before .loop .inv) (c .loop-test .left)
 
 pub law-fault-spec : {M : Type 1} → statement M
 law-fault-spec =
@@ -80,14 +90,15 @@ law-fault-spec =
     Inv-loop
     μ-loop
     loop-holds
+    returns
     mul-law
     array-copy-out-law
-    mul-if1
-    array-read-if1
+    mul-if2
+    array-read-if2
     law-finite-requires
     add-result
-    returns
+    returns-2
     add-i
     loop-less
     loop-again
-    returns-2)
+    returns-3)

@@ -1,12 +1,11 @@
 -- `printing::last_lines` meets its contract. Each return, by the version's test. Assumes nothing.
-use native.Mathlib.Omega.{arith}
-use Rattle.printing.specs.Lined.{time-small, time-fits, ends-timed, ends-untimed}
+use Rattle.printing.specs.Lined.{time-fits, ends-timed, ends-untimed}
 use borrow.Author.Needs.{needs}
 use Rattle.printing.proofs.last_lines.Statement.{statement}
 use Rattle.printing.proofs.last_lines.Tie as tie
 
--- places of the code: the version's test from the line of the seconds, the last line from the test, the exits and the total before it, the arguments
-abbrev Second : tie.After-struct-known2 → tie.Then1
+-- places of the code: the version's test from the vehicle-seconds, the last line from the test, the exits and the total before it, the arguments
+abbrev Second : tie.After-vehicle-seconds → tie.Then1
 Second c = c .before .before
 
 abbrev Last : tie.After-struct-known → tie.After-total2
@@ -27,13 +26,8 @@ exits-requires c κs = search needs
 total-requires-2 : tie.Need-total-requires-2
 total-requires-2 c κs = search needs
 
-cast-seconds : tie.Need-cast-seconds
-cast-seconds c = search needs
-
-mul-seconds : tie.Need-mul-seconds
-mul-seconds c =
-    let t = Exits (Last (Second c .before)) .before in
-    omega (arith, time-small (A t .pre) (t .total .ensures))
+vehicle-seconds-requires : tie.Need-vehicle-seconds-requires
+vehicle-seconds-requires c κs = search needs
 
 seconds-requires : tie.Need-seconds-requires
 seconds-requires c κs =
@@ -48,11 +42,13 @@ same-length c = search needs
 returns : tie.Need-returns
 returns c =
     let q = c .before .before in
-    let s = Second (q .before) in
+    let v = q .before in
+    let s = Second v in
     let l = Last (s .before) in
     let x = Exits l in
     let t = x .before in
-    ends-timed (A t .pre) (t .total .ensures) (x .exits .ensures) (l .total2 .ensures) (s .if1 .taken) (q .seconds .ensures)
+    ends-timed (A t .pre) (t .total .ensures) (x .exits .ensures) (l .total2 .ensures) (s .if1 .taken) (v .vehicle-seconds .ensures)
+    (q .seconds .ensures)
 
 same-length-2 : tie.Need-same-length-2
 same-length-2 c = search needs
@@ -71,8 +67,7 @@ last-lines-spec =
     total-requires
     exits-requires
     total-requires-2
-    cast-seconds
-    mul-seconds
+    vehicle-seconds-requires
     seconds-requires
     same-length
     returns

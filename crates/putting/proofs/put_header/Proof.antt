@@ -1,5 +1,5 @@
 -- `putting::put_header` meets its contract: its numbers, one after the other. Assumes nothing.
-use Rattle.reading.specs.ReadingLaws.{size-small}
+use Rattle.header.specs.HeaderLaws.{size-small}
 use Rattle.putting.specs.Putting.{header-puts}
 use native.Mathlib.Omega.{arith}
 use borrow.Author.Needs.{needs}

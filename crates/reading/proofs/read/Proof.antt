@@ -7,8 +7,9 @@ use Prim.Native.Nat.{ℕ, _≤_}
 use lib.ListN.{length}
 use Rattle.numbers.specs.First.{oneOf}
 use Rattle.fields.specs.Fields.{versionOf, secondsOf, headerSize}
-use Rattle.reading.specs.Reading.{bothVersions, lengthOk, cellsAndStepsOk, secondsOk, sizeOf}
-use Rattle.reading.specs.ReadingLaws.{Opened, length-facts, counts-facts, size-small, header-passed}
+use Rattle.header.specs.Header.{bothVersions, lengthOk, cellsAndStepsOk, secondsOk, sizeOf}
+use Rattle.header.specs.HeaderLaws.{length-facts, counts-facts, size-small}
+use Rattle.reading.specs.ReadingLaws.{Opened, header-passed}
 use Rattle.reading.specs.ReadingLaws.{answer-length, answer-version, answer-counts, answer-seconds, answer-size}
 use native.Mathlib.Omega.{arith}
 use borrow.Author.Needs.{needs}

@@ -5,7 +5,7 @@ use native.Mathlib.Omega.{arith}
 use Rattle.fields.specs.Fields.{versionOf, secondsSize, gateCapacityOffset, shortSize, numberSize, numberOf, columnOf}
 use Rattle.fields.specs.Fields.{speedOffset, waveOffset, shareOffset, rampOffset, jamOffset, capacityOffset}
 use Rattle.fields.specs.FieldsLaws.{seconds-most}
-use Rattle.reading.specs.Reading.{cellsOf}
+use Rattle.header.specs.Header.{cellsOf}
 use borrow.Author.Needs.{needs}
 use Rattle.reading.proofs.road_of.Statement.{statement}
 use Rattle.reading.proofs.road_of.Tie as tie

@@ -14,8 +14,8 @@ use Rattle.fields.specs.FieldsLaws.{length-row}
 use Rattle.lanes.specs.LanesLaws.{rows-within}
 use Rattle.model.specs.Opened.{OnRoad, Turned, on-road, turned-road, turned-on}
 use Rattle.model.specs.Step.{releasesOf}
-use Rattle.stepping.specs.Answers.{faultOf}
-use Rattle.moves.specs.Lent.{stateOf}
+use Rattle.releases.specs.Faults.{faultOf}
+use Rattle.columns.specs.Columns.{stateOf}
 use Rattle.reading.specs.Reading.{studyBy}
 use Rattle.reading.specs.Table.{mostOutflows}
 use Rattle.schedules.specs.Schedules.{ended, endAnswer}

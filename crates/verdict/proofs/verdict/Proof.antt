@@ -1,5 +1,5 @@
 -- `verdict::verdict` meets its contract. Assumes nothing.
-use Rattle.stepping.specs.Answers.{faultOf}
+use Rattle.releases.specs.Faults.{faultOf}
 use Rattle.verdict.specs.Proposed.{Looked, verdict-fault, verdict-end}
 use borrow.Author.Needs.{needs}
 use Rattle.verdict.proofs.verdict.Statement.{statement}

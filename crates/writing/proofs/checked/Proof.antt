@@ -8,7 +8,7 @@ use Rattle.road.specs.Road.{startState}
 use Rattle.road.specs.Refusals.{refusalNumber}
 use Rattle.road.specs.Study.{Study}
 use Rattle.limits.specs.Limits.{placeOk}
-use Rattle.reading.specs.ReadingLaws.{size-small}
+use Rattle.header.specs.HeaderLaws.{size-small}
 use Rattle.writing.specs.Writing.{unwritten, written, writingBy, writingOf}
 use Rattle.putting.specs.Record.{given}
 use Rattle.writing.specs.Checks.{frameOf, Framed, framed, answer-frame, answer-place, answer-step, answer-short, answer-written, by-given}

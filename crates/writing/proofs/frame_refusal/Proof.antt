@@ -5,8 +5,8 @@ use Prim.Native.Nat.{_≤_}
 use borrow.Author.Tests.{not-true, not-false}
 use Rattle.numbers.specs.First.{oneOf}
 use Rattle.road.specs.Road.{mostBytes}
-use Rattle.reading.specs.Reading.{bothVersions, sizeOf, cellsAndStepsOk, secondsOk}
-use Rattle.reading.specs.ReadingLaws.{counts-facts, size-small}
+use Rattle.header.specs.Header.{bothVersions, sizeOf, cellsAndStepsOk, secondsOk}
+use Rattle.header.specs.HeaderLaws.{counts-facts, size-small}
 use Rattle.writing.specs.Checks.{frame-version, frame-counts, frame-seconds, frame-size, frame-numbers, frame-none}
 use native.Mathlib.Omega.{arith}
 use borrow.Author.Needs.{needs}

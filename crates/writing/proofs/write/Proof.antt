@@ -3,6 +3,7 @@ use mathlib.Core.Path.{_≡_, sym, ap, _∙_}
 use Rattle.road.specs.Refusals.{refusalNumber}
 use Rattle.writing.specs.Writing.{WriteAnswer, writingOf}
 use Rattle.writing.specs.Accepted.{fits, target-refused, target-put}
+use Rattle.writing.specs.Saved.{promise}
 use borrow.Author.Needs.{needs}
 use Rattle.writing.proofs.write.Statement.{statement}
 use Rattle.writing.proofs.write.Tie as tie
@@ -41,7 +42,8 @@ returns c =
     let k = c .before .before in
     let a = A k .args in
     let n : refusalNumber (k .checked .result .refusal) ≡ 0 → ⊥ = search needs in
-    (k .checked .ensures, sym (target-refused (a .road) (a .steps) (a .start) (a .rows .now) (a .target .now) (λ z. n (number k ∙ z))))
+    let left = sym (target-refused (a .road) (a .steps) (a .start) (a .rows .now) (a .target .now) (λ z. n (number k ∙ z))) in
+    promise (a .road) (a .steps) (a .start) (a .rows .now) (a .target .now) (k .checked .ensures) left
 
 put-record-requires : tie.Need-put-record-requires
 put-record-requires c κs =
@@ -55,10 +57,9 @@ returns-2 : tie.Need-returns-2
 returns-2 c =
     let p = c .before .before in
     let e = p .before .before in
-    let a = A (Checked e) .args in (
-      Checked e .checked .ensures,
-      target-put (a .road) (a .steps) (a .start) (a .rows .now) (a .target .now) (passed e) _ _ (p .put-record .ensures),
-    )
+    let a = A (Checked e) .args in
+    let put = target-put (a .road) (a .steps) (a .start) (a .rows .now) (a .target .now) (passed e) _ _ (p .put-record .ensures) in
+    promise (a .road) (a .steps) (a .start) (a .rows .now) (a .target .now) (Checked e .checked .ensures) put
 
 pub write-spec : {M : Type 1} → statement M
 write-spec =

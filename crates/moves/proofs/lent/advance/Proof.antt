@@ -4,7 +4,8 @@ use Prim.Native.Nat.{_+_, _-_}
 use Rattle.road.specs.declared.Road.{Road}
 use Rattle.numbers.specs.Lists.{at}
 use Rattle.moves.specs.Asked.{Moved, moved-none, moved-end, Gate, gate, Turn, turn, Countable}
-use Rattle.moves.specs.Lent.{sharing, gated, stateOf, held-there, queue-there, cumulative-there, moved-there, counted-there, countable}
+use Rattle.columns.specs.Columns.{sharing, gated, stateOf}
+use Rattle.moves.specs.Lent.{held-there, queue-there, cumulative-there, moved-there, counted-there, countable}
 use borrow.Author.Needs.{needs}
 use native.Mathlib.Omega.{arith}
 use Rattle.moves.proofs.lent.advance.Statement.{statement}

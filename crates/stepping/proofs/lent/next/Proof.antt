@@ -4,7 +4,7 @@ use Rattle.road.specs.declared.Road.{Road}
 use Rattle.road.specs.declared.State.{State}
 use Rattle.model.specs.Move.{nextOf}
 use Rattle.stepping.specs.Looked.{movable}
-use Rattle.moves.specs.Lent.{roadOf, stateOf}
+use Rattle.columns.specs.Columns.{roadOf, stateOf}
 use borrow.Author.Needs.{needs}
 use Rattle.stepping.proofs.lent.next.Statement.{statement}
 use Rattle.stepping.proofs.lent.next.Tie as tie

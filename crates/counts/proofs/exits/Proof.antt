@@ -1,0 +1,79 @@
+-- `counts::exits` meets its contract. The invariant: the sum is the exits of the first i cells. Assumes nothing.
+use mathlib.Core.Path.{_≡_}
+use Prim.Native.Nat.{_-_}
+use lib.ListN.{length}
+use Rattle.road.specs.Road.{mostCells}
+use Rattle.counts.specs.Cells.{Exited, exited-none, exited-more, exited-end}
+use borrow.Author.Needs.{needs}
+use Rattle.counts.proofs.exits.Statement.{statement}
+use Rattle.counts.proofs.exits.Tie as tie
+
+abbrev Inv-loop : tie.InvT-loop
+Inv-loop r s n sum₀ i₀ sum i = Exited r s n sum i
+
+abbrev μ-loop : tie.MeasureT-loop
+μ-loop r s n sum₀ i₀ sum i = n - i
+
+-- the arguments from the loop's place, and a turn's start from its end
+abbrev A : tie.At-loop Inv-loop μ-loop → tie.Start Inv-loop μ-loop
+A c = c .before .before
+
+abbrev Turn : tie.After-exit Inv-loop μ-loop → tie.In-loop Inv-loop μ-loop
+Turn c = c .before .before .before
+
+cells-requires : tie.Need-cells-requires Inv-loop μ-loop
+cells-requires c κs = search needs
+
+loop-holds : tie.Need-loop-holds Inv-loop μ-loop
+loop-holds c = exited-none (c .cells .ensures)
+
+mul-exit : tie.Need-mul-exit Inv-loop μ-loop
+mul-exit c = search needs
+
+element-copy-out-exit : tie.Need-element-copy-out-exit Inv-loop μ-loop
+element-copy-out-exit c = search needs
+
+mul-exit-2 : tie.Need-mul-exit-2 Inv-loop μ-loop
+mul-exit-2 c = search needs
+
+element-copy-out-exit-2 : tie.Need-element-copy-out-exit-2 Inv-loop μ-loop
+element-copy-out-exit-2 c = search needs
+
+exit-requires : tie.Need-exit-requires Inv-loop μ-loop
+exit-requires c κs = search needs
+
+add-sum : tie.Need-add-sum Inv-loop μ-loop
+add-sum c = search needs
+
+add-i : tie.Need-add-i Inv-loop μ-loop
+add-i c = search needs
+
+loop-less : tie.Need-loop-less Inv-loop μ-loop
+loop-less c = search needs
+
+loop-again : tie.Need-loop-again Inv-loop μ-loop
+loop-again c = let t = Turn c in exited-more (t .before .loop .inv) (t .loop-test .taken) (c .exit .ensures)
+
+returns : tie.Need-returns Inv-loop μ-loop
+returns c =
+    let long : length (A (c .before) .args .t2 .cumulative) ≡ mostCells = search needs in
+    exited-end (c .before .loop .inv) (c .loop-test .left) long
+
+pub exits-spec : {M : Type 1} → statement M
+exits-spec =
+    tie.close
+    (tie.spec
+    Inv-loop
+    μ-loop
+    cells-requires
+    loop-holds
+    mul-exit
+    element-copy-out-exit
+    mul-exit-2
+    element-copy-out-exit-2
+    exit-requires
+    add-sum
+    add-i
+    loop-less
+    loop-again
+    returns)

@@ -1,0 +1,76 @@
+-- Theorem across filling and writing: a record's bytes are settled by what is read of it, so filling a filled record again changes no byte. Assumes nothing.
+use mathlib.Core.Path.{_≡_, refl, sym, ap, _∙_, subst⁻¹}
+use mathlib.Core.Bool.{Bool, true, false}
+use mathlib.Core.List.{List}
+use Prim.Native.Nat.{ℕ, _<_}
+use lib.Dec.{eqb}
+use borrow.Author.Tests.{eqb-true}
+use Rattle.numbers.specs.Lists.{at}
+use Rattle.rows.specs.Rows.{concatOf}
+use Rattle.rows.specs.Tables.{rowAt}
+use Rattle.rows.specs.TablesLaws.{concat-row}
+use Rattle.road.specs.Road.{startIn}
+use Rattle.fields.specs.Fields.{rowNumbers, recordRow}
+use Rattle.fields.specs.FieldsLaws.{length-row}
+use Rattle.reading.specs.Reading.{ReadAnswer, readingOf, studyOf}
+use Rattle.putting.specs.Record.{recordOf, given}
+use Rattle.writing.specs.Again.{same-bytes}
+use Rattle.meter.specs.declared.Law.{Law}
+use Rattle.filling.specs.Filling.{fillingOf, recordAfter}
+use Rattle.filling.specs.Theorems.{only-releases}
+use Rattle.filling.specs.Refilled.{filled-taken-by, filled-twice}
+
+-- each of a list's numbers is a byte
+abbrev pub Bytes : List ℕ → Type 0
+Bytes s = (i : ℕ) → at s i < 256
+
+-- two records that read the same, row by row too, have the same bytes
+module _ (s t : List ℕ) (small : Bytes s) (little : Bytes t) (reads : readingOf s .number ≡ 0) (same : readingOf t ≡ readingOf s)
+    (rows : (k : ℕ) → k < readingOf s .steps → recordRow t (readingOf s .road .n) k ≡ recordRow s (readingOf s .road .n) k) where
+  abbrev all : List ℕ
+  all = concatOf (recordRow s (readingOf s .road .n)) (readingOf s .steps)
+
+  row-of : (k : ℕ) → k < readingOf s .steps → rowAt all (rowNumbers (readingOf s .road .n)) k ≡ recordRow s (readingOf s .road .n) k
+  row-of k l = concat-row (recordRow s (readingOf s .road .n)) (rowNumbers (readingOf s .road .n)) (length-row s (readingOf s .road .n)) (readingOf s .steps) k l
+
+  other-row : (k : ℕ) → k < readingOf t .steps → rowAt all (rowNumbers (readingOf t .road .n)) k ≡ recordRow t (readingOf t .road .n) k
+  other-row =
+      subst⁻¹ (λ (x : ReadAnswer). (k : ℕ) → k < x .steps → rowAt all (rowNumbers (x .road .n)) k ≡ recordRow t (x .road .n) k) same
+      (λ k l. row-of k l ∙ sym (rows k l))
+
+  pub same-record : t ≡ s
+  same-record =
+      sym (same-bytes t little (ap (λ (x : ReadAnswer). x .number) same ∙ reads) all other-row)
+      ∙ ap (λ (x : ReadAnswer). recordOf (given (x .road) (x .steps) (startIn (x .state)) all)) same
+      ∙ same-bytes s small reads all row-of
+
+-- filling twice changes nothing
+module _ (laws : List Law) (bytes lanes list : List ℕ) where
+  abbrev once : List ℕ
+  once = recordAfter laws bytes lanes list
+
+  -- a refusal left the record as it was, and leaves it so again
+  refused-again : eqb (fillingOf laws bytes lanes list .number) 0 ≡ false → recordAfter laws once lanes list ≡ once
+  unfolding recordAfter
+  refused-again e =
+      let u : once ≡ bytes = rw e refl in
+      ap (λ (s : List ℕ). recordAfter laws s lanes list) u
+
+  pub twice-nothing : Bytes (recordAfter laws bytes lanes list) → Bytes (recordAfter laws (recordAfter laws bytes lanes list) lanes list)
+      → recordAfter laws (recordAfter laws bytes lanes list) lanes list ≡ recordAfter laws bytes lanes list
+  twice-nothing small little = go (eqb (fillingOf laws bytes lanes list .number) 0) refl
+    where
+      go : (b : Bool) → eqb (fillingOf laws bytes lanes list .number) 0 ≡ b → recordAfter laws once lanes list ≡ once
+      go false e = refused-again e
+      go true e =
+          let z = eqb-true (fillingOf laws bytes lanes list .number) 0 e in
+          let taken = filled-taken-by laws bytes lanes list z in
+          let reads : readingOf once ≡ readingOf bytes = only-releases laws bytes lanes list .reads in
+          let again : readingOf (recordAfter laws once lanes list) ≡ readingOf once = only-releases laws once lanes list .reads in
+          let rows : (k : ℕ) → k < readingOf bytes .steps
+          → recordRow (recordAfter laws once lanes list) (readingOf once .road .n) k ≡ recordRow once (readingOf bytes .road .n) k =
+          filled-twice laws bytes lanes list taken .rows z in
+          same-record once (recordAfter laws once lanes list) small little (ap (λ (x : ReadAnswer). x .number) reads ∙ taken .reads) again
+          (subst⁻¹ (λ (x : ReadAnswer). (k : ℕ) → k < x .steps
+          → recordRow (recordAfter laws once lanes list) (x .road .n) k ≡ recordRow once (x .road .n) k) reads
+          (λ k l. ap (λ (x : ReadAnswer). recordRow (recordAfter laws once lanes list) (x .road .n) k) (sym reads) ∙ rows k l))

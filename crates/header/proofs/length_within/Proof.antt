@@ -1,0 +1,65 @@
+-- `header::length_within` meets its contract. Assumes nothing.
+use mathlib.Core.Path.{_≡_, ap, _∙_}
+use Prim.Native.Nat.{ℕ}
+use native.Mathlib.Omega.{arith}
+use Rattle.fields.specs.Fields.{versionOf, headerSize}
+use Rattle.header.specs.HeaderLaws.{length-short, length-long, length-counted}
+use borrow.Author.Needs.{needs}
+use Rattle.header.proofs.length_within.Statement.{statement}
+use Rattle.header.proofs.length_within.Tie as tie
+
+-- the arguments, from the test of 16 bytes; those and the header's size, from the test of that size
+abbrev A : tie.Then1 → tie.Start
+A c = c .before .before
+
+abbrev B : tie.After-header-size → tie.Start
+B c = c .before .before .before .before
+
+abbrev Size : tie.Else2 → tie.After-header-size
+Size c = c .before
+
+header : (c : tie.After-header-size) → c .header-size .result ≡ headerSize (versionOf (B c .args .bytes .now))
+header c = c .header-size .ensures ∙ ap (λ (v : ℕ). headerSize v) (c .before .version .ensures)
+
+returns : tie.Need-returns
+returns c = length-short (A c .args .bytes .now) (omega arith)
+
+version-requires : tie.Need-version-requires
+version-requires c κs = search needs
+
+header-size-requires : tie.Need-header-size-requires
+header-size-requires c κs = search needs
+
+returns-2 : tie.Need-returns-2
+returns-2 c = let h = c .before in length-short (B h .args .bytes .now) (omega (arith, header h))
+
+returns-3 : tie.Need-returns-3
+returns-3 c = let h = Size (c .before) in length-long (B h .args .bytes .now) (omega (arith, header h)) (omega arith)
+
+number-requires : tie.Need-number-requires
+number-requires c κs = search needs
+
+cast-result : tie.Need-cast-result
+cast-result c = search needs
+
+sub-result : tie.Need-sub-result
+sub-result c = search needs
+
+returns-4 : tie.Need-returns-4
+returns-4 c =
+    let h = Size (c .before .before) in
+    length-counted (B h .args .bytes .now) (omega (arith, header h)) (c .number .result) (omega arith) (c .number .ensures .0)
+
+pub length-within-spec : {M : Type 1} → statement M
+length-within-spec =
+    tie.close
+    (tie.spec
+    returns
+    version-requires
+    header-size-requires
+    returns-2
+    returns-3
+    number-requires
+    cast-result
+    sub-result
+    returns-4)

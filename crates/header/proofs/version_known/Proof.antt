@@ -1,0 +1,10 @@
+-- `header::version_known` meets its contract. Assumes nothing.
+use Rattle.header.specs.HeaderLaws.{known-both}
+use Rattle.header.proofs.version_known.Statement.{statement}
+use Rattle.header.proofs.version_known.Tie as tie
+
+returns : tie.Need-returns
+returns c = known-both (c .args .version)
+
+pub version-known-spec : {M : Type 1} → statement M
+version-known-spec = tie.close (tie.spec returns)

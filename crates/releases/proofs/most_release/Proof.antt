@@ -1,0 +1,14 @@
+-- `releases::most_release` meets its contract. Assumes nothing.
+use mathlib.Core.Path.{refl}
+use borrow.Author.Needs.{needs}
+use Rattle.releases.proofs.most_release.Statement.{statement}
+use Rattle.releases.proofs.most_release.Tie as tie
+
+add-result : tie.Need-add-result
+add-result c = search needs
+
+returns : tie.Need-returns
+returns c = refl
+
+pub most-release-spec : {M : Type 1} → statement M
+most-release-spec = tie.close (tie.spec add-result returns)

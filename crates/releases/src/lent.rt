@@ -1,0 +1,46 @@
+// Releases looked through on a road and a state that are lent column by column, so that a run copies neither.
+use crate::Fault;
+use road::Refusal;
+ghost use mathlib.Core.Path.{_≡_};
+ghost use mathlib.Core.List.{List};
+ghost use Prim.Native.Nat.{ℕ, _+_, _*_, _≤_};
+ghost use lib.ListN.{length};
+ghost use Rattle.road.specs.declared.Road.{Road};
+ghost use Rattle.model.specs.Step.{releasesOf};
+ghost use Rattle.columns.specs.declared.Ledger.{Ledger};
+ghost use Rattle.columns.specs.Columns.{supplying, stateOf};
+ghost use Rattle.releases.specs.Faults.{faultOf};
+
+// The lowest cell whose release does not fit, with its refusal.
+pub fn releases<'a, 'b>(
+    n: usize,
+    wave: &'a [u16; 64],
+    jam: &'a [u32; 64],
+    capacity: &'a [u32; 64],
+    held: &'b [u32; 64],
+    queue: &'b [u32; 64],
+    row: &[u32],
+) -> Fault
+    requires { ⌜ (n ≤ 64) × (length (now row) ≡ 1 + 2 * n) ⌝ }
+    ensures { λ q. ⌜ ((r : Road) (l : Ledger) (cumulative : List ℕ) → faultOf q
+        ≡ releasesOf (supplying r n (now (wave .entry)) (now (jam .entry)) (now (capacity .entry)))
+        (stateOf l (now (held .entry)) (now (queue .entry)) cumulative) (now (row .entry))) ⌝ }
+{
+    let mut i = 0;
+    while i < n {
+        let supply = flow::supply(wave[i], capacity[i], jam[i], held[i]);
+        let most = crate::most_release(queue[i], row[2 * i + 1]);
+        let refusal = crate::release_refusal(row[2 * i + 2], most, supply);
+        if refusal.number() != 0 {
+            return Fault {
+                refusal: refusal,
+                place: i + 1,
+            };
+        }
+        i += 1;
+    }
+    Fault {
+        refusal: Refusal::None,
+        place: 0,
+    }
+}
