@@ -24,6 +24,10 @@ roadOf r n gate speed wave share jam capacity = record {
 abbrev pub sharing : Road → ℕ → List ℕ → Road
 sharing r n share = roadOf r n (r .«gate_capacity») (r .speed) (r .wave) share (r .jam) (r .capacity)
 
+-- a road whose places send by these columns, and otherwise as r
+abbrev pub sending : Road → ℕ → ℕ → List ℕ → List ℕ → List ℕ → Road
+sending r n gate speed share capacity = roadOf r n gate speed (r .wave) share (r .jam) capacity
+
 -- a road whose supplies go by these columns, and otherwise as r
 abbrev pub supplying : Road → ℕ → List ℕ → List ℕ → List ℕ → Road
 supplying r n wave jam capacity = roadOf r n (r .«gate_capacity») (r .speed) wave (r .share) jam capacity

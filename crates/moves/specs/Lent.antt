@@ -28,12 +28,6 @@ pub record Advances (n : ℕ) (share : List ℕ) (l : Ledger) (held queue cumula
   pub movable : Movable (sharing road n share) (stateOf l held queue cumulative) row y
   pub left : l .done < mostSteps
 
--- a step of the engine asks that it may be made on some road with these columns
-pub record Nexts (n gate : ℕ) (speed wave share jam capacity : List ℕ) (s : State) (row y : List ℕ) : Type 0 where
-  pub road : Road
-  pub steppable : Steppable (roadOf road n gate speed wave share jam capacity) s row
-  pub places : length y ≡ n + 1
-
 -- the state after a step of the engine
 abbrev pub engineNext : Road → State → List ℕ → State
 engineNext r s row = nextOf r s row (outflowsOf r s row)

@@ -5,22 +5,22 @@ use Prim.Native.Nat.{ℕ, suc, _+_, _≤_, _<_}
 use native.Mathlib.Omega.{arith}
 use lib.ListN.{length, set, drop, length-set}
 use lib.Seq.{drop-cons, drop-length, set-at}
-use Rattle.flow.specs.Flow.{whole, gateDemandOf, demandOf, supplyOf, roomOf, outflowOf}
+use Rattle.flow.specs.Flow.{whole, gateDemandOf, demandOf, outflowOf}
 use Rattle.rows.specs.Rows.{fillOf, listOf}
 use Rattle.rows.specs.RowsLaws.{fill-more, fill-list, length-list}
 use Rattle.road.specs.declared.Road.{Road}
 use Rattle.road.specs.declared.State.{State}
 use Rattle.numbers.specs.Lists.{at}
-use Rattle.model.specs.Places.{releaseAt, supplyAt, demandAt, shareAt, cumulativeAt, outflowAt}
+use Rattle.model.specs.Places.{roomAt, demandAt, shareAt, cumulativeAt, outflowAt}
 use Rattle.model.specs.Rules.{outflowsOf}
-use Rattle.outflows.specs.Carried.{Carried, carried-gate, carried-cell, supply-is}
+use Rattle.outflows.specs.Carried.{Carried, carried-gate, carried-cell}
 
 -- one more place's outflow
-outflows-more : (r : Road) (s : State) (row l : List ℕ) (i : ℕ) (y : List ℕ) (share cumulative demand supply room z : ℕ)
-    → y ≡ fillOf (outflowAt r s row) i l → share ≡ shareAt r i → cumulative ≡ cumulativeAt s i → demand ≡ demandAt r s i → supply ≡ supplyAt r s i
-    → room ≡ roomOf supply (releaseAt row i) → z ≡ outflowOf share cumulative room demand
+outflows-more : (r : Road) (s : State) (row l : List ℕ) (i : ℕ) (y : List ℕ) (share cumulative demand room z : ℕ)
+    → y ≡ fillOf (outflowAt r s row) i l → share ≡ shareAt r i → cumulative ≡ cumulativeAt s i → demand ≡ demandAt r s i
+    → room ≡ roomAt r s row i → z ≡ outflowOf share cumulative room demand
     → set y i z ≡ fillOf (outflowAt r s row) (i + 1) l
-outflows-more r s row l i y share cumulative demand supply room z ey eb ef ed es er ez =
+outflows-more r s row l i y share cumulative demand room z ey eb ef ed er ez =
     let e : z ≡ outflowAt r s row i = cc in
     cc (fill-more (outflowAt r s row) i l)
 
@@ -51,19 +51,16 @@ pub filled-none : {r : Road} {s : State} {row l : List ℕ} {demand : ℕ} → d
 unfolding fillOf
 filled-none {r} {s} {demand = demand} e h = record { carried = carried-gate r s demand e; filled = refl; places = h }
 
-pub filled-more : {r : Road} {s : State} {row l y : List ℕ} {share cumulative demand i supply room z next : ℕ}
-    → Filled r s row l y share cumulative demand i → i < r .n
-    → supply ≡ supplyOf (at (r .wave) i) (at (r .capacity) i) (at (r .jam) i) (at (s .held) i)
-    → room ≡ roomOf supply (releaseAt row i) → z ≡ outflowOf share cumulative room demand
+pub filled-more : {r : Road} {s : State} {row l y : List ℕ} {share cumulative demand i room z next : ℕ}
+    → Filled r s row l y share cumulative demand i → i < r .n → room ≡ roomAt r s row i → z ≡ outflowOf share cumulative room demand
     → next ≡ demandOf (at (r .speed) i) (at (r .capacity) i) (at (s .held) i)
     → Filled r s row l (set y i z) (at (r .share) i) (at (s .cumulative) i) next (i + 1)
-filled-more {r} {s} {row} {l} {y} {share} {cumulative} {demand} {i} {supply} {room} {z} {next} h less es er ez en =
+filled-more {r} {s} {row} {l} {y} {share} {cumulative} {demand} {i} {room} {z} {next} h less er ez en =
     let k = h .carried in
     record {
       carried = carried-cell r s i next less en;
       filled =
-          outflows-more r s row l i y share cumulative demand supply room z (h .filled) (k .shares) (k .cumulatives) (k .demands)
-          (supply-is r s i supply es) er ez;
+          outflows-more r s row l i y share cumulative demand room z (h .filled) (k .shares) (k .cumulatives) (k .demands) er ez;
       places = simp length-set (h .places);
     }
 

@@ -9,9 +9,10 @@ ghost use Rattle.road.specs.declared.Road.{Road};
 ghost use Rattle.model.specs.Step.{releasesOf};
 ghost use Rattle.columns.specs.declared.Ledger.{Ledger};
 ghost use Rattle.columns.specs.Columns.{supplying, stateOf};
+ghost use Rattle.outflows.specs.Rooms.{Rooms};
 ghost use Rattle.releases.specs.Faults.{faultOf};
 
-// The lowest cell whose release does not fit, with its refusal.
+// The lowest cell whose release does not fit, with its refusal. Where all fit, `room` then has the room of each cell.
 pub fn releases<'a, 'b>(
     n: usize,
     wave: &'a [u16; 64],
@@ -20,23 +21,30 @@ pub fn releases<'a, 'b>(
     held: &'b [u32; 64],
     queue: &'b [u32; 64],
     row: &[u32],
+    room: &mut [u32; 64],
 ) -> Fault
-    requires { ⌜ (n ≤ 64) × (length (now row) ≡ 1 + 2 * n) ⌝ }
-    ensures { λ q. ⌜ ((r : Road) (l : Ledger) (cumulative : List ℕ) → faultOf q
+    requires { ⌜ (n ≤ 64) × ((length (now row) ≡ 1 + 2 * n) × (length (now room) ≡ 64)) ⌝ }
+    ensures fault { λ q. ⌜ ((r : Road) (l : Ledger) (cumulative : List ℕ) → faultOf q
         ≡ releasesOf (supplying r n (now (wave .entry)) (now (jam .entry)) (now (capacity .entry)))
         (stateOf l (now (held .entry)) (now (queue .entry)) cumulative) (now (row .entry))) ⌝ }
+    ensures rooms { λ q. ⌜ ((r : Road) (l : Ledger) (cumulative : List ℕ) → faultOf q .number ≡ 0
+        → Rooms (supplying r n (now (wave .entry)) (now (jam .entry)) (now (capacity .entry)))
+        (stateOf l (now (held .entry)) (now (queue .entry)) cumulative) (now (row .entry)) (now (room .exit))) ⌝ }
+    ensures length { λ q. ⌜ length (now (room .exit)) ≡ 64 ⌝ }
 {
     let mut i = 0;
     while i < n {
+        let release = row[2 * i + 2];
         let supply = flow::supply(wave[i], capacity[i], jam[i], held[i]);
         let most = crate::most_release(queue[i], row[2 * i + 1]);
-        let refusal = crate::release_refusal(row[2 * i + 2], most, supply);
+        let refusal = crate::release_refusal(release, most, supply);
         if refusal.number() != 0 {
             return Fault {
                 refusal: refusal,
                 place: i + 1,
             };
         }
+        room[i] = flow::room(supply, release);
         i += 1;
     }
     Fault {

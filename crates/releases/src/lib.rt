@@ -42,5 +42,15 @@ pub fn releases(r: Road, s: State, row: &[u32]) -> Fault
     requires { ⌜ (r .n ≤ 64) × (length (now row) ≡ 1 + 2 * r .n) ⌝ }
     ensures { λ q. ⌜ faultOf q ≡ releasesOf r s (now (row .entry)) ⌝ }
 {
-    lent::releases(r.n, &r.wave, &r.jam, &r.capacity, &s.held, &s.queue, row)
+    let mut room = [0u32; 64];
+    lent::releases(
+        r.n,
+        &r.wave,
+        &r.jam,
+        &r.capacity,
+        &s.held,
+        &s.queue,
+        row,
+        &mut room,
+    )
 }

@@ -32,6 +32,8 @@ fn run_rows(bytes: &[u8], table: &[u8], r: Road, s: State, steps: usize, out: &m
         gate_queue: s.gate_queue,
         gate_cumulative: s.gate_cumulative,
     };
+    let mut row = [0u32; 129];
+    let mut room = [0u32; 64];
     let mut k = 0;
     let mut to = 0;
     while k < steps {
@@ -39,7 +41,6 @@ fn run_rows(bytes: &[u8], table: &[u8], r: Road, s: State, steps: usize, out: &m
             let left = lanes::step_capacities(capacity, table, n, k);
             road.capacity = left;
         }
-        let mut row = [0u32; 129];
         fields::read_row(bytes, n, k, &mut row);
         let q = releases::lent::releases(
             road.n,
@@ -49,6 +50,7 @@ fn run_rows(bytes: &[u8], table: &[u8], r: Road, s: State, steps: usize, out: &m
             &held,
             &queue,
             &row[..numbers],
+            &mut room,
         );
         let refusal = q.refusal;
         if refusal.number() != 0 {
@@ -59,15 +61,14 @@ fn run_rows(bytes: &[u8], table: &[u8], r: Road, s: State, steps: usize, out: &m
             road.n,
             road.gate_capacity,
             &road.speed,
-            &road.wave,
             &road.share,
-            &road.jam,
             &road.capacity,
             l,
             &mut held,
             &mut queue,
             &mut cumulative,
             &row[..numbers],
+            &room,
             &mut out[to..end],
         );
         to = end;

@@ -45,13 +45,44 @@ pub fn next_by(r: Road, s: State, row: &[u32], y: &[u32]) -> State
     t.state(held, queue, cumulative)
 }
 
+// Fills a row with the engine's outflows, where the releases fit.
+fn fill_outflows(r: Road, s: State, row: &[u32], y: &mut [u32])
+    requires { ⌜ (Steppable r s (now row)) × (length (now y) ≡ r .n + 1) ⌝ }
+    ensures { λ _. ⌜ now (y .exit) ≡ outflowsOf r s (now (row .entry)) ⌝ }
+{
+    let mut room = [0u32; 64];
+    releases::lent::releases(
+        r.n,
+        &r.wave,
+        &r.jam,
+        &r.capacity,
+        &s.held,
+        &s.queue,
+        row,
+        &mut room,
+    );
+    outflows::lent::outflows(
+        r.n,
+        r.gate_capacity,
+        &r.speed,
+        &r.share,
+        &r.capacity,
+        s.gate_queue,
+        s.gate_cumulative,
+        &s.held,
+        &s.cumulative,
+        &room,
+        y,
+    );
+}
+
 // Fills a row with the engine's outflows, and gives the state after the step by them.
 pub fn next(r: Road, s: State, row: &[u32], y: &mut [u32]) -> State
     requires { ⌜ (Steppable r s (now row)) × (length (now y) ≡ r .n + 1) ⌝ }
     ensures state { λ t. ⌜ t ≡ nextOf r s (now (row .entry)) (outflowsOf r s (now (row .entry))) ⌝ }
     ensures row { λ t. ⌜ now (y .exit) ≡ outflowsOf r s (now (row .entry)) ⌝ }
 {
-    outflows::outflows(r, s, row, y);
+    fill_outflows(r, s, row, y);
     next_by(r, s, row, y)
 }
 

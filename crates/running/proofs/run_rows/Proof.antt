@@ -1,5 +1,5 @@
--- `running::run_rows` meets its contract. The invariant: the rows of the k steps made stand in the list, no step had a fault, and
--- the road is the record's but for its capacities. Assumes nothing.
+-- `running::run_rows` meets its contract. The invariant: the rows of the k steps made stand in the list, no step had a fault, the
+-- road is the record's but for its capacities, and the arrays for a row and for rooms are long enough. Assumes nothing.
 use mathlib.Core.Path.{_≡_, sym, ap, _∙_}
 use mathlib.Core.Logic.{inl, inr}
 use mathlib.Core.List.{List}
@@ -27,16 +27,20 @@ use Rattle.running.proofs.run_rows.Statement.{statement}
 use Rattle.running.proofs.run_rows.Tie as tie
 
 abbrev Inv-loop : tie.InvT-loop
-Inv-loop bytes table r steps out₀ n numbers places capacity road₀ held₀ queue₀ cumulative₀ l₀ k₀ to₀ out road held queue cumulative l k to =
+Inv-loop bytes table r steps out₀ n numbers places capacity road₀ held₀ queue₀ cumulative₀ l₀ row₀ room₀ k₀ to₀ out road held queue cumulative l row room k to =
     let a = studyBy bytes table r (stateOf l₀ held₀ queue₀ cumulative₀) steps in
-    Made a out₀ out (stateOf l held queue cumulative) k to × OnRoad a road
+    Made a out₀ out (stateOf l held queue cumulative) k to × (OnRoad a road × ((rowNumbers (r .n) ≤ length row) × (length room ≡ 64)))
 
 abbrev μ-loop : tie.MeasureT-loop
-μ-loop bytes table r steps out₀ n numbers places capacity road₀ held₀ queue₀ cumulative₀ l₀ k₀ to₀ out road held queue cumulative l k to = steps - k
+μ-loop bytes table r steps out₀ n numbers places capacity road₀ held₀ queue₀ cumulative₀ l₀ row₀ room₀ k₀ to₀ out road held queue cumulative l row room k to =
+    steps - k
 
 -- places of the code: the arguments from the loop's place, that place and the turn's start from its row, and the row from the places after it
+abbrev Begun : tie.After-cumulative Inv-loop μ-loop → tie.Start Inv-loop μ-loop
+Begun c = let h = c .before .before .before in h .before .before .before .before
+
 abbrev A : tie.At-loop Inv-loop μ-loop → tie.Start Inv-loop μ-loop
-A c = c .before .before .before .before .before .before .before .before
+A c = Begun (c .before)
 
 abbrev Joined : tie.After-read-row Inv-loop μ-loop → tie.Joined1 Inv-loop μ-loop
 Joined c = c .before .before
@@ -45,13 +49,16 @@ abbrev In : tie.After-read-row Inv-loop μ-loop → tie.In-loop Inv-loop μ-loop
 In c = Joined c .before
 
 abbrev to-row : tie.After-queue2 Inv-loop μ-loop → tie.After-read-row Inv-loop μ-loop
-to-row c = c .before .before .before .before .before .before
+to-row c = let a = c .before .before .before in a .before .before .before
 
 abbrev to-passed : tie.After-cumulative2 Inv-loop μ-loop → tie.Else2 Inv-loop μ-loop
-to-passed c = c .before .before .before .before .before .before .before .before .before
+to-passed c = let a = c .before .before .before in a .before .before .before .before
+
+abbrev Next : tie.After-next Inv-loop μ-loop → tie.After-cumulative2 Inv-loop μ-loop
+Next c = c .before .before .before .before
 
 abbrev Read : tie.After-number Inv-loop μ-loop → tie.After-read-row Inv-loop μ-loop
-Read c = to-row (c .before .before .before)
+Read c = to-row (c .before .before .before .before)
 
 -- the study, the state that the columns are of, and the numbers of the row as they are lent
 abbrev Of : tie.Start Inv-loop μ-loop → Study
@@ -70,7 +77,7 @@ turned : (c : tie.Joined1 Inv-loop μ-loop) →
 turned c =
     let l = c .before .before in
     record {
-      before = l .loop .inv .1;
+      before = l .loop .inv .1 .0;
       came = elim (c .if1 .came) [
         | inl p ↦ inl (p .0 .taken, p .2 ∙ ap (withCapacity (l .loop .road)) (p .1 .ensures))
         | inr p ↦ inr (p .0 .left, p .1)
@@ -106,7 +113,7 @@ found : (c : tie.After-number Inv-loop μ-loop) →
 found c =
     let r = Read c in
     let p = In r .before .loop in
-    c .before .releases .ensures (Joined r .if1 .road) (p .l) (p .cumulative)
+    c .before .releases .ensures .0 (Joined r .if1 .road) (p .l) (p .cumulative)
 
 passes : (c : tie.Else2 Inv-loop μ-loop) → refusalNumber (c .before .before .releases .result .refusal) ≡ 0
 passes c = sym (c .before .number .ensures) ∙ c .if2 .left
@@ -131,7 +138,9 @@ add-places : tie.Need-add-places Inv-loop μ-loop
 add-places c = search needs
 
 loop-holds : tie.Need-loop-holds Inv-loop μ-loop
-loop-holds c = (made-none, on-road)
+loop-holds c =
+    let cells = Begun c .pre .readable .ok .road .cells in
+    (made-none, (on-road, (omega (arith, length-replicate {A = ℕ} 129 0, cells), length-replicate {A = ℕ} 64 0)))
 
 step-capacities-requires : tie.Need-step-capacities-requires Inv-loop μ-loop
 step-capacities-requires c κs =
@@ -149,7 +158,7 @@ read-row-requires : tie.Need-read-row-requires Inv-loop μ-loop
 read-row-requires c κs =
     let i = c .before .before in
     let t = A (i .before) .pre .readable in
-    (t .row (i .before .loop .k) (i .loop-test .taken), omega (arith, length-replicate {A = ℕ} 129 0, t .ok .road .cells))
+    (t .row (i .before .loop .k) (i .loop-test .taken), i .before .loop .inv .1 .1 .0)
 
 array-share-prefix-row : tie.Need-array-share-prefix-row Inv-loop μ-loop
 array-share-prefix-row c = omega (arith, holds (to-row c))
@@ -158,7 +167,10 @@ slice-aggregate-releases : tie.Need-slice-aggregate-releases Inv-loop μ-loop
 slice-aggregate-releases c = sym (numbers (to-row (c .before)))
 
 releases-requires : tie.Need-releases-requires Inv-loop μ-loop
-releases-requires c κs = releasable (turn (to-row (c .before)))
+releases-requires c κs =
+    let r = to-row (c .before .before) in
+    let asked = releasable (turn r) in
+    (asked .0, (asked .1, In r .before .loop .inv .1 .1 .1))
 
 number-requires : tie.Need-number-requires Inv-loop μ-loop
 number-requires c κs = search needs
@@ -192,7 +204,7 @@ slice-aggregate-next : tie.Need-slice-aggregate-next Inv-loop μ-loop
 slice-aggregate-next c = sym (numbers (Read (to-passed (c .before) .before)))
 
 mul-next : tie.Need-mul-next Inv-loop μ-loop
-mul-next c = omega (arith, small (In (Read (to-passed (c .before) .before))))
+mul-next c = omega (arith, small (In (Read (to-passed (c .before .before) .before))))
 
 sub-next : tie.Need-sub-next Inv-loop μ-loop
 sub-next c = search needs
@@ -201,37 +213,40 @@ part-next-start : tie.Need-part-next-start Inv-loop μ-loop
 part-next-start c = search needs
 
 part-next-end : tie.Need-part-next-end Inv-loop μ-loop
-part-next-end c = omega (arith, fits (In (Read (to-passed (c .before) .before))))
+part-next-end c = omega (arith, fits (In (Read (to-passed (c .before .before) .before))))
 
 next-requires : tie.Need-next-requires Inv-loop μ-loop
 next-requires c κs =
-    let p = to-passed (c .before .before) in
+    let p = to-passed (c .before .before .before) in
     let f = p .before in
     let i = In (Read f) in
     let l = i .before in
     record {
       road = Joined (Read f) .if1 .road;
       steppable = steps-on (turn (Read f)) (found f) (passes p);
+      rooms = f .before .releases .ensures .1 .0 (Joined (Read f) .if1 .road) (l .loop .l) (l .loop .cumulative) (passes p);
       places = same-places (turn (Read f)) (part-length (l .loop .out) (l .loop .to) (places (Of (A l))) (fits i));
     }
 
 add-k : tie.Need-add-k Inv-loop μ-loop
 add-k c =
-    let i = In (Read (to-passed (c .before .before .before .before .before) .before)) in
+    let i = In (Read (to-passed (Next (c .before .before)) .before)) in
     omega (arith, i .loop-test .taken, A (i .before) .pre .readable .ok .steps)
 
 loop-less : tie.Need-loop-less Inv-loop μ-loop
-loop-less c = omega (arith, In (Read (to-passed (c .before .before .before .before .before) .before)) .loop-test .taken)
+loop-less c = omega (arith, In (Read (to-passed (Next (c .before .before)) .before)) .loop-test .taken)
 
 loop-again : tie.Need-loop-again Inv-loop μ-loop
 loop-again c =
     let n = c .before .before in
-    let p = to-passed (n .before .before .before) in
+    let p = to-passed (Next n) in
     let f = p .before in
     let r = Read f in
-    let q = Joined r .if1 .road in (
-      made-more (In r .before .loop .inv .0) (turn r) (found f) (passes p) (n .next .ensures .0 q) (n .next .ensures .1 q),
-      turned-on (turned (Joined r)),
+    let l = In r .before .loop in
+    let q = Joined r .if1 .road in
+    let rooms = f .before .releases .ensures .1 .0 q (l .l) (l .cumulative) (passes p) in (
+      made-more (l .inv .0) (turn r) (found f) (passes p) (n .next .ensures .0 q rooms) (n .next .ensures .1 q rooms),
+      (turned-on (turned (Joined r)), (omega (arith, holds r), f .before .releases .ensures .1 .1)),
     )
 
 state-requires-2 : tie.Need-state-requires-2 Inv-loop μ-loop

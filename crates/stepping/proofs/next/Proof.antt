@@ -5,17 +5,17 @@ use Rattle.stepping.proofs.next.Statement.{statement}
 use Rattle.stepping.proofs.next.Tie as tie
 
 -- the arguments, from where the outflows are asked for, and the row filled, from where the next state is
-abbrev A : tie.After-outflows-arg → tie.Start
+abbrev A : tie.After-fill-outflows-arg → tie.Start
 A c = c .before .before .before
 
-abbrev Filled : tie.After-next-by-arg → tie.After-outflows
+abbrev Filled : tie.After-next-by-arg → tie.After-fill-outflows
 Filled c = c .before .before .before
 
-outflows-requires : tie.Need-outflows-requires
-outflows-requires c κs = let p = A c .pre in (p .0 .input .road .cells, (p .0 .input .row .numbers, p .1))
+fill-outflows-requires : tie.Need-fill-outflows-requires
+fill-outflows-requires c κs = A c .pre
 
 next-by-requires : tie.Need-next-by-requires
-next-by-requires c κs = let p = A (Filled c .before) .pre .0 in (movable p (Filled c .outflows .ensures), p .left)
+next-by-requires c κs = let p = A (Filled c .before) .pre .0 in (movable p (Filled c .fill-outflows .ensures), p .left)
 
 same-length : tie.Need-same-length
 same-length c = search needs
@@ -23,7 +23,7 @@ same-length c = search needs
 returns : tie.Need-returns
 returns c =
     let f = Filled (c .before) in
-    (next-by-outflows (A (f .before) .pre .0) (f .outflows .ensures) (c .next-by .ensures), f .outflows .ensures)
+    (next-by-outflows (A (f .before) .pre .0) (f .fill-outflows .ensures) (c .next-by .ensures), f .fill-outflows .ensures)
 
 pub next-spec : {M : Type 1} → statement M
-next-spec = tie.close (tie.spec outflows-requires next-by-requires same-length returns)
+next-spec = tie.close (tie.spec fill-outflows-requires next-by-requires same-length returns)

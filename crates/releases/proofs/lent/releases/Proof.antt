@@ -1,35 +1,41 @@
--- `releases::lent::releases` meets its contract. The invariant: the releases of the i cells passed fit. Assumes nothing.
-use mathlib.Core.Path.{sym, _∙_}
+-- `releases::lent::releases` meets its contract. The invariant: the releases of the i cells passed fit, and their rooms are kept. Assumes nothing.
+use mathlib.Core.Path.{_≡_, sym, _∙_}
 use mathlib.Core.List.{List}
 use Prim.Native.Nat.{ℕ, _-_}
+use native.Mathlib.Omega.{arith}
+use lib.ListN.{length, length-set}
 use Rattle.road.specs.declared.Road.{Road}
 use Rattle.road.specs.Refusals.{refusalNumber}
 use Rattle.columns.specs.declared.Ledger.{Ledger}
 use Rattle.columns.specs.Columns.{supplying, stateOf}
+use Rattle.outflows.specs.Rooms.{Roomed, roomed-none, roomed-more, roomed-end}
 use Rattle.releases.specs.Fitted.{Fitted, Turn, fitted-none, fitted-more, fitted-fault, fitted-end}
 use borrow.Author.Needs.{needs}
 use Rattle.releases.proofs.lent.releases.Statement.{statement}
 use Rattle.releases.proofs.lent.releases.Tie as tie
 
 abbrev Inv-loop : tie.InvT-loop
-Inv-loop n wave jam capacity held queue row i₀ i =
-    (r : Road) (l : Ledger) (cumulative : List ℕ) → Fitted (supplying r n wave jam capacity) (stateOf l held queue cumulative) row i
+Inv-loop n wave jam capacity held queue row room₀ i₀ room i =
+    (length room ≡ 64) × ((r : Road) (l : Ledger) (cumulative : List ℕ) →
+    let q = supplying r n wave jam capacity in
+    let s = stateOf l held queue cumulative in
+    Fitted q s row i × Roomed q s row room₀ room i)
 
 abbrev μ-loop : tie.MeasureT-loop
-μ-loop n wave jam capacity held queue row i₀ i = n - i
+μ-loop n wave jam capacity held queue row room₀ i₀ room i = n - i
 
 -- the arguments, from the loop's place; a turn's start, from its supply; the supply, from the most; and the most, from the refusal
 abbrev A : tie.At-loop Inv-loop μ-loop → tie.Start Inv-loop μ-loop
 A c = c .before .before
 
 abbrev In : tie.After-supply Inv-loop μ-loop → tie.In-loop Inv-loop μ-loop
-In c = c .before .before .before .before .before
+In c = c .before .before .before .before .before .before
 
 abbrev Supply : tie.After-most-release Inv-loop μ-loop → tie.After-supply Inv-loop μ-loop
 Supply c = c .before .before .before
 
 abbrev Most : tie.After-release-refusal Inv-loop μ-loop → tie.After-most-release Inv-loop μ-loop
-Most c = c .before .before
+Most c = c .before
 
 -- what a turn finds, on any road and in any state of these columns
 turn : (c : tie.After-release-refusal Inv-loop μ-loop) (r : Road) (l : Ledger) (cumulative : List ℕ) →
@@ -39,7 +45,7 @@ turn : (c : tie.After-release-refusal Inv-loop μ-loop) (r : Road) (l : Ledger) 
     Turn (supplying r (a .n) (a .wave .now) (a .jam .now) (a .capacity .now)) (stateOf l (a .held .now) (a .queue .now) cumulative) (a .row .now)
     (p .loop .i) (Supply m .supply .result) (m .most-release .result) (refusalNumber (c .release-refusal .result))
 turn c r l cumulative = record {
-  fitted = In (Supply (Most c)) .before .loop .inv r l cumulative;
+  fitted = In (Supply (Most c)) .before .loop .inv .1 r l cumulative .0;
   left = In (Supply (Most c)) .loop-test .taken;
   supplied = Supply (Most c) .supply .ensures;
   there = Most c .most-release .ensures;
@@ -47,7 +53,19 @@ turn c r l cumulative = record {
 }
 
 loop-holds : tie.Need-loop-holds Inv-loop μ-loop
-loop-holds c r l cumulative = fitted-none
+loop-holds c = (c .before .pre .1 .1, λ r l cumulative. (fitted-none, roomed-none))
+
+mul-release : tie.Need-mul-release Inv-loop μ-loop
+mul-release c = search needs
+
+add-release : tie.Need-add-release Inv-loop μ-loop
+add-release c = search needs
+
+mul-release-2 : tie.Need-mul-release-2 Inv-loop μ-loop
+mul-release-2 c = search needs
+
+shared-slice-read-release : tie.Need-shared-slice-read-release Inv-loop μ-loop
+shared-slice-read-release c = search needs
 
 mul-supply : tie.Need-mul-supply Inv-loop μ-loop
 mul-supply c = search needs
@@ -97,29 +115,30 @@ shared-slice-read-most-release c = search needs
 most-release-requires : tie.Need-most-release-requires Inv-loop μ-loop
 most-release-requires c κs = search needs
 
-mul-release-refusal : tie.Need-mul-release-refusal Inv-loop μ-loop
-mul-release-refusal c = search needs
-
-add-release-refusal : tie.Need-add-release-refusal Inv-loop μ-loop
-add-release-refusal c = search needs
-
-mul-release-refusal-2 : tie.Need-mul-release-refusal-2 Inv-loop μ-loop
-mul-release-refusal-2 c = search needs
-
-shared-slice-read-release-refusal : tie.Need-shared-slice-read-release-refusal Inv-loop μ-loop
-shared-slice-read-release-refusal c = search needs
-
 release-refusal-requires : tie.Need-release-refusal-requires Inv-loop μ-loop
 release-refusal-requires c κs = search needs
 
 number-requires : tie.Need-number-requires Inv-loop μ-loop
 number-requires c κs = search needs
 
-add-t34 : tie.Need-add-t34 Inv-loop μ-loop
-add-t34 c = search needs
+add-t36 : tie.Need-add-t36 Inv-loop μ-loop
+add-t36 c = search needs
 
 returns : tie.Need-returns Inv-loop μ-loop
-returns c r l cumulative = let m = c .before in fitted-fault (turn (m .before) r l cumulative) (λ z. c .if1 .taken (m .number .ensures ∙ z))
+returns c =
+    let m = c .before in (
+      λ r l cumulative. fitted-fault (turn (m .before) r l cumulative) (λ z. c .if1 .taken (m .number .ensures ∙ z)),
+      (λ r l cumulative z. absurd (c .if1 .taken (m .number .ensures ∙ z)), In (Supply (Most (m .before))) .before .loop .inv .0),
+    )
+
+room-requires : tie.Need-room-requires Inv-loop μ-loop
+room-requires c κs = search needs
+
+mul-room : tie.Need-mul-room Inv-loop μ-loop
+mul-room c = search needs
+
+element-write-room : tie.Need-element-write-room Inv-loop μ-loop
+element-write-room c = search needs
 
 add-i : tie.Need-add-i Inv-loop μ-loop
 add-i c = search needs
@@ -128,10 +147,28 @@ loop-less : tie.Need-loop-less Inv-loop μ-loop
 loop-less c = search needs
 
 loop-again : tie.Need-loop-again Inv-loop μ-loop
-loop-again c r l cumulative = let m = c .before in fitted-more (turn (m .before) r l cumulative) (sym (m .number .ensures) ∙ c .if1 .left)
+loop-again c =
+    let m = c .before .before in
+    let passed = sym (m .number .ensures) ∙ c .before .if1 .left in
+    let p = In (Supply (Most (m .before))) .before in (
+      simp length-set (p .loop .inv .0),
+      λ r l cumulative. (
+        fitted-more (turn (m .before) r l cumulative) passed,
+        roomed-more (p .loop .inv .1 r l cumulative .1) (Supply (Most (m .before)) .supply .ensures) (c .room .ensures),
+      ),
+    )
 
 returns-2 : tie.Need-returns-2 Inv-loop μ-loop
-returns-2 c r l cumulative = fitted-end (c .before .loop .inv r l cumulative) (c .loop-test .left)
+returns-2 c =
+    let p = c .before in
+    let long = A p .pre .1 .1 in (
+      λ r l cumulative. fitted-end (p .loop .inv .1 r l cumulative .0) (c .loop-test .left),
+      (
+        λ r l cumulative z. roomed-end (p .loop .inv .1 r l cumulative .1) (c .loop-test .left)
+            (omega (arith, long, p .loop .inv .1 r l cumulative .0 .within, A p .pre .0)),
+        p .loop .inv .0,
+      ),
+    )
 
 pub releases-spec : {M : Type 1} → statement M
 releases-spec =
@@ -140,6 +177,10 @@ releases-spec =
     Inv-loop
     μ-loop
     loop-holds
+    mul-release
+    add-release
+    mul-release-2
+    shared-slice-read-release
     mul-supply
     element-copy-out-supply
     mul-supply-2
@@ -156,14 +197,13 @@ releases-spec =
     mul-most-release-3
     shared-slice-read-most-release
     most-release-requires
-    mul-release-refusal
-    add-release-refusal
-    mul-release-refusal-2
-    shared-slice-read-release-refusal
     release-refusal-requires
     number-requires
-    add-t34
+    add-t36
     returns
+    room-requires
+    mul-room
+    element-write-room
     add-i
     loop-less
     loop-again

@@ -4,7 +4,7 @@ use Rattle.road.specs.declared.Road.{Road}
 use Rattle.road.specs.declared.State.{State}
 use Rattle.model.specs.Move.{nextOf}
 use Rattle.stepping.specs.Looked.{movable}
-use Rattle.columns.specs.Columns.{roadOf, stateOf}
+use Rattle.columns.specs.Columns.{sending, stateOf}
 use borrow.Author.Needs.{needs}
 use Rattle.stepping.proofs.lent.next.Statement.{statement}
 use Rattle.stepping.proofs.lent.next.Tie as tie
@@ -20,7 +20,7 @@ A c = c .before .before .before .before .before .before
 abbrev On : tie.Start → Road → Road
 On c r =
     let a = c .args in
-    roadOf r (a .n) (a .gate-capacity) (a .speed .now) (a .wave .now) (a .share .now) (a .jam .now) (a .capacity .now)
+    sending r (a .n) (a .gate-capacity) (a .speed .now) (a .share .now) (a .capacity .now)
 
 abbrev From : tie.Start → State
 From c = let a = c .args in stateOf (a .l) (a .held .now) (a .queue .now) (a .cumulative .now)
@@ -34,7 +34,7 @@ advance-requires c κs =
     let s = A o in
     record {
       road = On s (s .pre .road);
-      movable = movable (s .pre .steppable) (o .outflows .ensures (s .pre .road) (s .args .l) (s .args .queue .now));
+      movable = movable (s .pre .steppable) (o .outflows .ensures (s .pre .road) (s .args .l) (s .args .queue .now) (s .args .row .now) (s .pre .rooms));
       left = s .pre .steppable .left;
     }
 
@@ -45,8 +45,9 @@ returns : tie.Need-returns
 returns c =
     let o = Filled (c .before) in
     let s = A o in (
-      λ r. c .advance .ensures (On s r) ∙ ap (nextOf (On s r) (From s) (s .args .row .now)) (o .outflows .ensures r (s .args .l) (s .args .queue .now)),
-      λ r. o .outflows .ensures r (s .args .l) (s .args .queue .now),
+      λ r rooms. c .advance .ensures (On s r)
+          ∙ ap (nextOf (On s r) (From s) (s .args .row .now)) (o .outflows .ensures r (s .args .l) (s .args .queue .now) (s .args .row .now) rooms),
+      λ r rooms. o .outflows .ensures r (s .args .l) (s .args .queue .now) (s .args .row .now) rooms,
     )
 
 pub next-spec : {M : Type 1} → statement M

@@ -1,0 +1,178 @@
+//! Both programs on the same records: every field of the answers and the whole of the lent list.
+use crate::load::{record, Load, PEAK, SEED};
+use crate::{straight, SIZES};
+use std::collections::BTreeMap;
+
+/// What both programs say, in one form.
+#[derive(Debug, PartialEq)]
+struct Answer {
+    refusal: [u64; 3],
+    times: [u64; 3],
+    total_present_exits: [u64; 3],
+    road: straight::Road,
+    state: straight::State,
+    list: Vec<u32>,
+}
+
+const UNTOUCHED: u32 = 4_000_000_007;
+
+fn by_rust(record: &[u8], length: usize) -> Answer {
+    let mut list = vec![UNTOUCHED; length];
+    let straight::Ended {
+        refusal,
+        road,
+        state,
+    } = straight::run(record, &mut list);
+    let refusal = refusal.map_or([0; 3], |r| {
+        [u64::from(r.number), r.step as u64, r.place as u64]
+    });
+    Answer {
+        refusal,
+        times: [state.gate_time, state.road_time, state.ramp_time],
+        total_present_exits: [state.total(), state.present(road.n), state.exits(&road)],
+        road,
+        state,
+        list,
+    }
+}
+
+fn by_engine(record: &[u8], length: usize) -> Answer {
+    let mut list = vec![UNTOUCHED; length];
+    let ended = nobyaluk::run_into(record, &[], &mut list);
+    let (road, state) = (ended.road, ended.state);
+    Answer {
+        refusal: [ended.number, ended.step, ended.place],
+        times: [state.gate_time, state.road_time, state.ramp_time],
+        total_present_exits: [ended.total, ended.present, ended.exits],
+        road: straight::Road {
+            n: road.n,
+            version: road.version,
+            seconds: road.seconds,
+            gate_capacity: road.gate_capacity,
+            speed: road.speed.map(u32::from),
+            wave: road.wave.map(u32::from),
+            share: road.share.map(u32::from),
+            ramp: road.ramp.map(|mark| mark == 1),
+            jam: road.jam,
+            capacity: road.capacity,
+        },
+        state: straight::State {
+            done: state.done,
+            gate_time: state.gate_time,
+            road_time: state.road_time,
+            ramp_time: state.ramp_time,
+            gate_queue: state.gate_queue,
+            gate_cumulative: state.gate_cumulative,
+            held: state.held,
+            queue: state.queue,
+            cumulative: state.cumulative,
+        },
+        list,
+    }
+}
+
+/// The records compared so far, by the number of the refusal.
+#[derive(Default)]
+struct Compared(BTreeMap<u64, u32>);
+
+impl Compared {
+    fn compare(&mut self, record: &[u8], length: usize) -> Result<(), String> {
+        let (engine, rust) = (by_engine(record, length), by_rust(record, length));
+        if engine != rust {
+            let pairs = rust.list.iter().zip(&engine.list);
+            let first = pairs.take_while(|(a, b)| a == b).count();
+            return Err(format!(
+                "a difference: engine {:?} {:?} {:?}, Rust {:?} {:?} {:?}, lists alike up to number {first} of {length}",
+                engine.refusal, engine.times, engine.total_present_exits, rust.refusal, rust.times, rust.total_present_exits,
+            ));
+        }
+        *self.0.entry(engine.refusal[0]).or_default() += 1;
+        Ok(())
+    }
+}
+
+/// The same record in version 2.
+fn with_seconds(record: &[u8], seconds: u16) -> Vec<u8> {
+    let mut longer = (record.len() as u32 - 2).to_be_bytes().to_vec();
+    longer.push(2);
+    longer.extend(&record[5..8]);
+    longer.extend(seconds.to_be_bytes());
+    longer.extend(&record[8..]);
+    longer
+}
+
+fn put(record: &[u8], at: usize, number: u32) -> Vec<u8> {
+    let mut changed = record.to_vec();
+    changed[at..at + 4].copy_from_slice(&number.to_be_bytes());
+    changed
+}
+
+/// One byte or one number of a record drawn anew, or its end cut off, with a first field that fits or doesn't.
+fn spoil(record: &[u8], load: &mut Load) -> Vec<u8> {
+    let mut changed = record.to_vec();
+    let last = changed.len() as u32 - 1;
+    match load.draw(9) {
+        0 => {
+            changed.truncate(load.draw(last) as usize);
+            if changed.len() >= 4 && load.draw(1) == 0 {
+                let follow = changed.len() as u32 - 4;
+                changed[..4].copy_from_slice(&follow.to_be_bytes());
+            }
+        }
+        1..=3 => changed[load.draw(last.min(200)) as usize] = load.draw(255) as u8,
+        4..=5 => changed[load.draw(last) as usize] = load.draw(255) as u8,
+        _ => {
+            let at = 4 * load.draw(last / 4) as usize;
+            let number = load.draw(1_000_000).to_be_bytes();
+            let end = (at + 4).min(changed.len());
+            changed[at..end].copy_from_slice(&number[..end - at]);
+        }
+    }
+    changed
+}
+
+/// Compares, and says how many records there were, by refusal.
+pub fn compare_all() -> Result<String, String> {
+    let mut compared = Compared::default();
+    let mut load = Load(SEED);
+    for (n, steps) in SIZES {
+        let (width, numbers) = (4 + 8 * n, steps * (n + 1));
+        for seed in SEED..SEED + 40 {
+            compared.compare(&record(seed, PEAK, n, steps), numbers)?;
+        }
+        let whole = record(SEED, PEAK, n, steps);
+        for length in [0, numbers - 1, numbers + 100] {
+            compared.compare(&whole, length)?;
+        }
+        // cell 2 has a ramp: its queue, and its release in a step of the second half
+        let (queue, release) = (16 + 24 + 20, 16 + 24 * n + steps / 2 * width + 16);
+        compared.compare(&put(&whole, release, 900_000), numbers)?;
+        let waiting = put(&whole, queue, 900_000_000);
+        compared.compare(&put(&waiting, release, 900_000), numbers)?;
+    }
+    for seed in 0..1_500 {
+        let (n, steps) = (1 + load.draw(63) as usize, 1 + load.draw(60) as usize);
+        let peak = load.draw(80_000);
+        let whole = record(seed, peak, n, steps);
+        let numbers = steps * (n + 1);
+        compared.compare(&whole, numbers)?;
+        for _ in 0..8 {
+            compared.compare(&spoil(&whole, &mut load), numbers)?;
+        }
+        let seconds = load.draw(1_000) as u16;
+        let longer = with_seconds(&whole, seconds);
+        compared.compare(&longer, numbers)?;
+        compared.compare(&spoil(&longer, &mut load), numbers)?;
+    }
+    let seen: Vec<u64> = compared.0.keys().copied().collect();
+    if seen != [0, 1, 2, 3, 4, 5, 6, 9, 10, 11, 19] {
+        return Err(format!("not every refusal was met: {seen:?}"));
+    }
+    let counts = |(number, count): (&u64, &u32)| format!("{number}: {count}");
+    let counts: Vec<String> = compared.0.iter().map(counts).collect();
+    let all: u32 = compared.0.values().sum();
+    Ok(format!(
+        "{all} records, the same answers and outflows (by refusal, {})",
+        counts.join(", ")
+    ))
+}

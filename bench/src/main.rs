@@ -1,0 +1,38 @@
+//! The proved engine beside straightforward Rust. First both are compared, then timed.
+//!
+//! `bench` compares and times; `bench --compare-only` only compares; `bench calls engine|rust N T COUNT` makes that many runs
+//! of one record, for a profiler.
+#![forbid(unsafe_code)]
+use std::process::ExitCode;
+
+mod compare;
+mod load;
+mod straight;
+mod timing;
+
+/// Cells and steps of the records that are timed: each is near the most bytes that a record may have.
+const SIZES: [(usize, usize); 3] = [(64, 124), (21, 377), (6, 1_257)];
+
+fn main() -> ExitCode {
+    let words: Vec<String> = std::env::args().skip(1).collect();
+    let words: Vec<&str> = words.iter().map(String::as_str).collect();
+    let done = match words[..] {
+        [] => compare_and_time(),
+        ["--compare-only"] => compare::compare_all().map(|said| println!("{said}")),
+        ["calls", program, n, steps, count] => timing::make_calls(program, n, steps, count),
+        _ => Err("bench [--compare-only | calls engine|rust N T COUNT]".into()),
+    };
+    match done {
+        Ok(()) => ExitCode::SUCCESS,
+        Err(why) => {
+            eprintln!("bench: {why}");
+            ExitCode::FAILURE
+        }
+    }
+}
+
+fn compare_and_time() -> Result<(), String> {
+    println!("{}", compare::compare_all()?);
+    timing::time_all();
+    Ok(())
+}

@@ -1,0 +1,38 @@
+-- `stepping::fill_outflows` meets its contract: the releases fit, so their look leaves the rooms. Assumes nothing.
+use mathlib.Core.Path.{ap, _∙_}
+use Rattle.model.specs.Step as model
+use Rattle.model.specs.StepLaws.{fit-releases}
+use Rattle.columns.specs.Columns.{ledgerOf}
+use borrow.Author.Needs.{needs}
+use Rattle.stepping.proofs.fill_outflows.Statement.{statement}
+use Rattle.stepping.proofs.fill_outflows.Tie as tie
+
+-- the arguments, from where the rooms are lent, and that place from the row filled
+abbrev A : tie.After-room → tie.Start
+A c = let s = c .before .before .before .before .before in s .before .before .before .before .before
+
+abbrev Room : tie.After-outflows-arg6 → tie.After-room
+Room c = let r = c .before .before .before .before .before in r .before .before .before .before .before
+
+releases-requires : tie.Need-releases-requires
+releases-requires c κs = let p = A c .pre .0 .input in (p .road .cells, (p .row .numbers, search needs))
+
+outflows-requires : tie.Need-outflows-requires
+outflows-requires c κs = let p = A (Room c) .pre in (p .0 .input .road .cells, p .1)
+
+same-length : tie.Need-same-length
+same-length c = search needs
+
+returns : tie.Need-returns
+returns c =
+    let o = c .before .before in
+    let a = A (Room (o .before)) in
+    let l = o .before .before .before .before .before .before .before .before .before .before in
+    let r = a .args .t1 in
+    let s = a .args .t2 in
+    let row = a .args .row .now in
+    let none = ap (λ (q : model.Fault). q .number) (l .releases .ensures .0 r (ledgerOf s) (s .cumulative) ∙ fit-releases r s row (a .pre .0 .released)) in
+    o .outflows .ensures r (ledgerOf s) (s .queue) row (l .releases .ensures .1 .0 r (ledgerOf s) (s .cumulative) none)
+
+pub fill-outflows-spec : {M : Type 1} → statement M
+fill-outflows-spec = tie.close (tie.spec releases-requires outflows-requires same-length returns)
