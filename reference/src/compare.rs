@@ -47,12 +47,14 @@ fn records_of(case: Case) -> Vec<Vec<u8>> {
             );
             vec![input.record, filled]
         }
+        Case::Weigh(input) => vec![input.record],
         Case::Step(_)
         | Case::Write(_)
         | Case::Row { .. }
         | Case::Rows { .. }
         | Case::Leaf(_)
-        | Case::Capacity { .. } => vec![],
+        | Case::Capacity { .. }
+        | Case::Present(_) => vec![],
     }
 }
 

@@ -23,4 +23,5 @@ pub mod run;
 pub mod step;
 pub mod text;
 pub mod trials;
+pub mod weigh;
 pub mod write;

@@ -57,6 +57,14 @@ pub struct Lanes {
     pub usable: [u8; CELLS],
 }
 
+/// Weights of waiting, 0 to 255: of the gate and each cell, gate first, and of each ramp's queue. None is read past cell n.
+#[repr(C)]
+#[derive(Clone, Copy, Debug, PartialEq, Eq)]
+pub struct Weights {
+    pub places: [u8; CELLS + 1],
+    pub ramps: [u8; CELLS],
+}
+
 /// What reading answers; number 0 without a refusal.
 #[repr(C)]
 #[derive(Clone, Copy, Debug, PartialEq, Eq)]
@@ -82,6 +90,14 @@ pub struct Ended {
     pub state: State,
 }
 
+/// What a weighted run answers: running's answer, and the weighted sum of present over the steps done.
+#[repr(C)]
+#[derive(Clone, Copy, Debug, PartialEq, Eq)]
+pub struct Weighed {
+    pub weighted: u64,
+    pub ended: Ended,
+}
+
 /// What stepping answers; after a refusal the state is the one given.
 #[repr(C)]
 #[derive(Clone, Copy, Debug, PartialEq, Eq)]
@@ -105,6 +121,8 @@ const _: () =
 const _: () = assert!(
     size_of::<Reading>() == 1872 && size_of::<Ended>() == 1896 && size_of::<Stepped>() == 824
 );
+
+const _: () = assert!(size_of::<Weights>() == 129 && size_of::<Weighed>() == 1904);
 
 /// A meter law.
 #[derive(Clone, Copy, Debug, PartialEq)]
@@ -138,7 +156,7 @@ impl Law {
 }
 
 mod raw {
-    use super::{Ended, Lanes, Reading, Road, Start, State, Stepped, Written};
+    use super::{Ended, Lanes, Reading, Road, Start, State, Stepped, Weighed, Weights, Written};
     extern "C" {
         pub fn nobyaluk_read(record: *const u8, bytes: usize) -> Reading;
         pub fn nobyaluk_run(
@@ -149,6 +167,15 @@ mod raw {
             list: *mut u32,
             count: usize,
         ) -> Ended;
+        pub fn nobyaluk_run_weighted(
+            record: *const u8,
+            bytes: usize,
+            lanes: *const u8,
+            lanes_count: usize,
+            weights: Weights,
+            list: *mut u32,
+            count: usize,
+        ) -> Weighed;
         pub fn nobyaluk_judge(
             record: *const u8,
             bytes: usize,
@@ -225,6 +252,26 @@ pub fn run_into(record: &[u8], lanes: &[u8], list: &mut [u32]) -> Ended {
             record.len(),
             lanes.as_ptr(),
             lanes.len(),
+            list.as_mut_ptr(),
+            list.len(),
+        )
+    }
+}
+
+/// Runs so with weights of waiting.
+pub fn run_weighted_into(
+    record: &[u8],
+    lanes: &[u8],
+    weights: Weights,
+    list: &mut [u32],
+) -> Weighed {
+    unsafe {
+        raw::nobyaluk_run_weighted(
+            record.as_ptr(),
+            record.len(),
+            lanes.as_ptr(),
+            lanes.len(),
+            weights,
             list.as_mut_ptr(),
             list.len(),
         )

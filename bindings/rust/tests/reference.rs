@@ -1,7 +1,10 @@
 //! The archive beside the reference: every example, each of them with damaged bytes, and its own schedule judged and told.
 //! FUZZ=20000 for more cases a record.
-use nobyaluk::{fill_into, history_into, judge, run, run_into, Law, Refused, MOST_OUTFLOWS};
-use reference::{fill, judge as judging, run as running};
+use nobyaluk::{
+    fill_into, history_into, judge, run, run_into, run_weighted_into, Law, Refused, Weights,
+    MOST_OUTFLOWS,
+};
+use reference::{fill, judge as judging, run as running, weigh};
 use std::path::PathBuf;
 
 fn examples() -> Vec<(String, Vec<u8>)> {
@@ -193,5 +196,40 @@ fn a_refusal_says_its_words() {
         let words = Refused { number, ..refused }.words();
         assert_eq!(words, reference::refusals::words(number as u32));
         assert!(!words.starts_with("no refusal"), "{number}");
+    }
+}
+
+/// Weights that rise, fall, are 0, 1 or 255, and any, also past cell n.
+#[test]
+fn weighted_alike() {
+    let kinds: [fn(usize) -> u8; 6] = [
+        |_| 0,
+        |_| 1,
+        |_| 255,
+        |i| i as u8,
+        |i| 255 - i as u8,
+        |i| (i * 167 + 41) as u8,
+    ];
+    for (name, record) in examples() {
+        for weight in kinds {
+            let (places, ramps) = (
+                std::array::from_fn(weight),
+                std::array::from_fn(|i| weight(i + 65)),
+            );
+            let (mut got, mut want) = (vec![9; MOST_OUTFLOWS], vec![9; MOST_OUTFLOWS]);
+            let e = run_weighted_into(&record, &[], Weights { places, ramps }, &mut got);
+            let (a, weighted) =
+                weigh::run(&record, &[], &weigh::Weights { places, ramps }, &mut want);
+            assert_eq!(
+                (e.weighted, e.ended.number, u128::from(e.ended.total), got),
+                (weighted, u64::from(a.number), a.state.total(), want),
+                "{name}"
+            );
+            assert_eq!(
+                e.ended,
+                run_into(&record, &[], &mut vec![9; MOST_OUTFLOWS]),
+                "{name}"
+            );
+        }
     }
 }

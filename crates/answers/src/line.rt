@@ -4,6 +4,7 @@ use road::Ended;
 use road::Reading;
 use road::Road;
 use road::Stepped;
+use road::Weighed;
 use road::Written;
 
 fn ended(out: &mut [u8], at: usize) -> usize {
@@ -36,6 +37,19 @@ pub fn of_run(out: &mut [u8], at: usize, run: Ended, list: &[u32]) -> usize {
     let mut next = text::put(out, at, b"run");
     next = answer(out, next, run);
     text::word(out, next, b" list ", digest::of_list(list) as u64)
+}
+
+// A weighted run's line has the words of a run and the weighted total.
+pub fn of_weighing(out: &mut [u8], at: usize, weighed: Weighed, list: &[u32]) -> usize {
+    let ended_run = weighed.ended;
+    let mut next = of_run(out, at, ended_run, list);
+    next = text::word(out, next, b" weighted ", weighed.weighted);
+    ended(out, next)
+}
+
+pub fn of_present(out: &mut [u8], at: usize, present: u64) -> usize {
+    let next = text::word(out, at, b"present ", present);
+    ended(out, next)
 }
 
 // A filling's line has the digests of the list that was lent and of the record that was filled.

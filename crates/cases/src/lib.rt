@@ -5,11 +5,16 @@ use frames::case::Case;
 use frames::field;
 use frames::input;
 use frames::lent;
+use road::Weights;
 
-// The kinds of frames: R, U, J, S, W, N, T, F, L and C.
+// The kinds of frames: R, U, G, P, J, S, W, N, T, F, L and C.
 const READ: u32 = 82;
 
 const RUN: u32 = 85;
+
+const WEIGH: u32 = 71;
+
+const PRESENT: u32 = 80;
 
 const JUDGE: u32 = 74;
 
@@ -80,6 +85,78 @@ fn run(
         at,
     );
     writes::again(&record[..size], list, target, out, next)
+}
+
+// A frame's weights, the gate's and the cells' first: 129 bytes.
+fn weights(bytes: &[u8; 129]) -> Weights {
+    let mut places = [0u8; 65];
+    let mut ramps = [0u8; 64];
+    let mut i = 0;
+    while i < 64 {
+        places[i] = bytes[i];
+        ramps[i] = bytes[65 + i];
+        i += 1;
+    }
+    places[64] = bytes[64];
+    Weights {
+        places: places,
+        ramps: ramps,
+    }
+}
+
+// A weighted run's line.
+fn weigh_line(
+    bytes: &[u8],
+    table: &[u8],
+    weights: Weights,
+    list: &mut [u32],
+    out: &mut [u8],
+    at: usize,
+) -> Case {
+    lent::list(list);
+    let weighed = freeway::run_weighted(bytes, table, weights, list);
+    case::whole(line::of_weighing(out, at, weighed, list))
+}
+
+fn weigh(record: &mut [u8], table: &mut [u8], list: &mut [u32], out: &mut [u8], at: usize) -> Case {
+    let length = input::size();
+    if list.len() < length {
+        return case::cut();
+    }
+    let mut bytes = [0u8; 129];
+    if !input::fills(&mut bytes) {
+        return case::cut();
+    }
+    let lanes = input::bytes(table);
+    if table.len() < lanes {
+        return case::cut();
+    }
+    let size = input::bytes(record);
+    if record.len() < size {
+        return case::cut();
+    }
+    weigh_line(
+        &record[..size],
+        &table[..lanes],
+        weights(&bytes),
+        &mut list[..length],
+        out,
+        at,
+    )
+}
+
+// The line of a weighted present: the road and the state take 1,844 bytes.
+fn present(out: &mut [u8], at: usize) -> Case {
+    let mut bytes = [0u8; 1844];
+    if !input::fills(&mut bytes) {
+        return case::cut();
+    }
+    let mut given = [0u8; 129];
+    if !input::fills(&mut given) {
+        return case::cut();
+    }
+    let weighted = freeway::weighted(field::road(&bytes), field::state(&bytes), weights(&given));
+    case::whole(line::of_present(out, at, weighted))
 }
 
 // A judging's line.
@@ -167,6 +244,12 @@ pub fn shown(
     }
     if kind == RUN {
         return run(record, table, list, target, out, at);
+    }
+    if kind == WEIGH {
+        return weigh(record, table, list, out, at);
+    }
+    if kind == PRESENT {
+        return present(out, at);
     }
     if kind == JUDGE {
         return judge(record, table, list, out, at);

@@ -2,7 +2,7 @@
 use mathlib.Core.Path.{_≡_, sym, ap, _∙_}
 use mathlib.Core.Logic.{⊎-elim}
 use mathlib.Core.List.{List}
-use Prim.Native.Nat.{ℕ, zero, suc, _+_, _-_, _*_, _^_, min, _≤_, _<_}
+use Prim.Native.Nat.{ℕ, _+_, _-_, _*_, _^_, min, _≤_, _<_}
 use native.Mathlib.Numerals.{add-one}
 use native.Mathlib.Omega.{arith}
 use lib.ListN.{length, take, length-take, List·getD-eq-default}
@@ -10,7 +10,7 @@ use lib.Seq.{take-all}
 use Rattle.numbers.specs.Tests.{order}
 use Rattle.rows.specs.Sum.{sumOf}
 use Rattle.rows.specs.Rows.{listOf}
-use Rattle.rows.specs.RowsLaws.{sum-list-none, sum-list-more}
+use Rattle.rows.specs.RowsLaws.{sum-list-none, sum-list-more, sum-list-min}
 use Rattle.road.specs.declared.Road.{Road}
 use Rattle.road.specs.declared.State.{State}
 use Rattle.road.specs.Road.{mostCells}
@@ -43,24 +43,9 @@ part-sum p h = record { is = h .0 ∙ ap sumOf (part-is p); fits = omega (arith,
 exit-past : (r : Road) (s : State) (i : ℕ) → length (s .cumulative) ≤ i → exitAt r s i ≡ 0
 exit-past r s i h = rw (List·getD-eq-default (s .cumulative) 0 {n = i} h) (omega arith)
 
-abbrev exitsTo : Road → State → ℕ → ℕ
-exitsTo r s n = sumOf (listOf (exitAt r s) n)
-
-exits-past : (r : Road) (s : State) (k : ℕ) → length (s .cumulative) ≡ mostCells → exitsTo r s (mostCells + k) ≡ exitsTo r s mostCells
-exits-past r s zero h = ap (exitsTo r s) (let e : mostCells + 0 ≡ mostCells = omega arith in e)
-exits-past r s (suc k) h =
-    ap (exitsTo r s) (let e : mostCells + suc k ≡ suc (mostCells + k) = omega arith in e)
-    ∙ omega (arith, sum-list-more (exitAt r s) (mostCells + k), exit-past r s (mostCells + k) (omega arith), exits-past r s k h)
-
-exits-cells : (r : Road) (s : State) → length (s .cumulative) ≡ mostCells → exitsTo r s (min (r .n) mostCells) ≡ exitsOf r s
+exits-cells : (r : Road) (s : State) → length (s .cumulative) ≡ mostCells → sumOf (listOf (exitAt r s) (min (r .n) mostCells)) ≡ exitsOf r s
 unfolding exitsOf
-exits-cells r s h = ⊎-elim
-    (λ (a : r .n ≤ mostCells). let e : min (r .n) mostCells ≡ r .n = omega arith in ap (exitsTo r s) e)
-    (λ (a : mostCells < r .n).
-    let e : min (r .n) mostCells ≡ mostCells = omega arith in
-    let f : mostCells + (r .n - mostCells) ≡ r .n = omega arith in
-    ap (exitsTo r s) e ∙ sym (exits-past r s (r .n - mostCells) h) ∙ ap (exitsTo r s) f)
-    (order (r .n) mostCells)
+exits-cells r s h = sum-list-min (exitAt r s) mostCells (r .n) (λ i l. exit-past r s i (omega arith))
 
 -- what holds when the loop over the cells has added the exits of the first i of them
 pub record Exited (r : Road) (s : State) (n sum i : ℕ) : Type 0 where
@@ -84,4 +69,4 @@ exited-more {r} {s} {i = i} h l e = record {
 pub exited-end : {r : Road} {s : State} {n sum i : ℕ} → Exited r s n sum i → n ≤ i → length (s .cumulative) ≡ mostCells → sum ≡ exitsOf r s
 exited-end {r} {s} {i = i} h l long =
     let e : i ≡ min (r .n) mostCells = omega (arith, h .within, h .cells) in
-    h .is ∙ ap (exitsTo r s) e ∙ exits-cells r s long
+    h .is ∙ ap (λ (k : ℕ). sumOf (listOf (exitAt r s) k)) e ∙ exits-cells r s long

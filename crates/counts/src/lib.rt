@@ -15,7 +15,7 @@ fn wide(x: u32) -> u64
 }
 
 // The entries of an array that belong to cells: 64 at most.
-fn cells(n: usize) -> usize
+pub fn cells(n: usize) -> usize
     ensures { λ r. ⌜ r ≡ min n 64 ⌝ }
 {
     if n <= Road::CELLS { n } else { Road::CELLS }

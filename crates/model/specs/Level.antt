@@ -1,13 +1,15 @@
 -- Two states after the same arrivals and releases, one ahead of the other at every place: what is ahead has no more present.
 -- Of the road only its cells and shares matter. Assumes nothing.
-use mathlib.Core.Path.{_≡_, refl}
-use Prim.Native.Nat.{ℕ, zero, suc, _+_, _-_, _≤_, _<_}
-use native.Mathlib.Nat.{le-refl}
+use mathlib.Core.Path.{_≡_, refl, sym, ap, subst}
+use Prim.Native.Nat.{ℕ, zero, suc, _+_, _-_, _*_, _≤_, _<_}
+use native.Mathlib.Nat.{le-refl, mul-le-mul-left}
 use native.Mathlib.Omega.{arith}
 use lib.ListN.{take}
 use Rattle.flow.specs.FlowLaws.{onward-mono, onward-step, onward-whole}
 use Rattle.rows.specs.Sum.{sumOf}
 use Rattle.rows.specs.SumLaws.{sum-start, sum-more}
+use Rattle.rows.specs.Rows.{listOf}
+use Rattle.rows.specs.RowsLaws.{sum-list-none, sum-list-more, sum-list-le, sum-list-same}
 use Rattle.road.specs.declared.Road.{Road}
 use Rattle.road.specs.declared.State.{State}
 use Rattle.numbers.specs.Lists.{at}
@@ -15,6 +17,8 @@ use Rattle.limits.specs.LimitsLaws.{RoadOk}
 use Rattle.model.specs.Places.{shareAt, cumulativeAt, onwardAt}
 use Rattle.model.specs.Move.{queueSum, presentOf}
 use Rattle.model.specs.Rules.{Sized}
+use Rattle.model.specs.Weights.{weighedSum, weightedOf, weightedTotal, Falling}
+use Rattle.model.specs.WeightsLaws.{ones, weighted-ones}
 use Rattle.model.specs.RulesLaws.{share-gate, share-le, onward-last}
 use Rattle.model.specs.Roads.{Alike, onward-alike, sized-alike}
 
@@ -55,6 +59,12 @@ level-alike a b s t e h = record {
   cumulatives = λ p l. h .cumulatives p (omega (arith, e .n));
 }
 
+-- a larger weight on the larger number
+weight-swap : (v w x y : ℕ) → v ≤ w → x ≤ y → w * x + v * y ≤ w * y + v * x
+weight-swap v w x y l k =
+    let e : v + (w - v) ≡ w = omega arith in
+    subst (λ (m : ℕ). m * x + v * y ≤ m * y + v * x) e (omega (arith, mul-le-mul-left (w - v) k))
+
 -- where all is accounted for, what is behind has no less present
 module _ (r : Road) (s t : State) (road : RoadOk r) (h : Level r s t) where
   pub onward-le : (p : ℕ) → p ≤ r .n → onwardAt r t p ≤ onwardAt r s p
@@ -68,21 +78,44 @@ module _ (r : Road) (s t : State) (road : RoadOk r) (h : Level r s t) where
       rw e at (onward-step (shareAt r p) (cumulativeAt t p) (cumulativeAt s p - cumulativeAt t p) (share-le r road p l)) in
       omega (arith, h .cumulatives p l)
 
-  -- the gate and the first k cells, with what has gone on from them
-  prefix : (k : ℕ) → k ≤ r .n
-      → s .«gate_queue» + sumOf (take k (s .held)) + onwardAt r s k ≤ t .«gate_queue» + sumOf (take k (t .held)) + onwardAt r t k
-  prefix zero l =
-      rw (share-gate r)
-      (omega (arith, h .gate, onward-whole (cumulativeAt s 0), onward-whole (cumulativeAt t 0), sum-start (s .held), sum-start (t .held)))
-  prefix (suc k) l =
-      omega (
-        arith,
-        prefix k (omega arith),
-        h .cells k l,
-        onward-ahead (suc k) l,
-        sum-more k (s .held) (omega (arith, h .sizedS .held)),
-        sum-more k (t .held) (omega (arith, h .sizedT .held)),
-      )
+  -- a cell holds more than on the other side only by what has come into it and has not gone on
+  cell-ahead : (i : ℕ) → i < r .n
+      → at (s .held) i + onwardAt r s (suc i) + onwardAt r t i ≤ at (t .held) i + onwardAt r t (suc i) + onwardAt r s i
+  cell-ahead i l = omega (arith, h .cells i l, onward-ahead (suc i) l)
+
+  -- with weights of which none is above the one before it
+  module _ (w u : ℕ → ℕ) (falling : Falling w (r .n)) where
+    -- the gate and the first k cells, with what has gone on from them at the weight of the last
+    prefix : (k : ℕ) → k ≤ r .n
+        → w 0 * s .«gate_queue» + weighedSum (λ i. w (suc i)) (at (s .held)) k + w k * onwardAt r s k
+        ≤ w 0 * t .«gate_queue» + weighedSum (λ i. w (suc i)) (at (t .held)) k + w k * onwardAt r t k
+    prefix zero l =
+        rw (share-gate r, onward-whole (cumulativeAt s 0), onward-whole (cumulativeAt t 0))
+        (omega (
+          arith,
+          ap (λ (x : ℕ). w 0 * x) (h .gate),
+          sum-list-none (λ i. w (suc i) * at (s .held) i),
+          sum-list-none (λ i. w (suc i) * at (t .held) i),
+        ))
+    prefix (suc k) l =
+        omega (
+          arith,
+          prefix k (omega arith),
+          mul-le-mul-left (w (suc k)) (cell-ahead k l),
+          weight-swap (w (suc k)) (w k) (onwardAt r t k) (onwardAt r s k) (falling .falls k l) (onward-le k (omega arith)),
+          sum-list-more (λ i. w (suc i) * at (s .held) i) k,
+          sum-list-more (λ i. w (suc i) * at (t .held) i) k,
+        )
+
+    -- ramp queues are equal, so their weights may be any
+    same-ramps : weighedSum u (at (s .queue)) (r .n) ≡ weighedSum u (at (t .queue)) (r .n)
+    same-ramps = sum-list-same (λ i. u i * at (s .queue) i) (λ i. u i * at (t .queue) i) (r .n) (λ i l. ap (λ (x : ℕ). u i * x) (h .queues i l))
+
+    pub weighted-le : weightedOf w u (r .n) s ≤ weightedOf w u (r .n) t
+    unfolding weightedOf
+    weighted-le =
+        let e : (x : State) → w (r .n) * onwardAt r x (r .n) ≡ 0 = λ x. rw (onward-last r road x) (omega arith) in
+        omega (arith, prefix (r .n) (le-refl (r .n)), same-ramps, e s, e t)
 
   -- the first k ramp queues together are equal
   same-queues : (k : ℕ) → k ≤ r .n → sumOf (take k (s .queue)) ≡ sumOf (take k (t .queue))
@@ -99,6 +132,20 @@ module _ (r : Road) (s t : State) (road : RoadOk r) (h : Level r s t) where
   pub queue-same : queueSum r s ≡ queueSum r t
   queue-same = same-queues (r .n) (le-refl (r .n))
 
-  pub present-le : presentOf r s ≤ presentOf r t
-  present-le =
-      omega (arith, prefix (r .n) (le-refl (r .n)), queue-same, onward-last r road s, onward-last r road t)
+-- present is the case of all weights 1
+pub present-le : (r : Road) (s t : State) → RoadOk r → Level r s t → presentOf r s ≤ presentOf r t
+present-le r s t road h =
+    omega (
+      arith,
+      weighted-le r s t road h ones ones (record { falls = λ p l. le-refl 1 }),
+      weighted-ones r s (h .sizedS),
+      weighted-ones r t (h .sizedT),
+    )
+
+-- over the steps of two runs that are level after each
+pub weighted-total-le : (w u : ℕ → ℕ) (r : Road) (f g : ℕ → State) (k : ℕ) → RoadOk r → Falling w (r .n)
+    → ((j : ℕ) → j < k → Level r (f (suc j)) (g (suc j))) → weightedTotal w u (r .n) f k ≤ weightedTotal w u (r .n) g k
+unfolding weightedTotal
+weighted-total-le w u r f g k road falling h =
+    sum-list-le (λ j. weightedOf w u (r .n) (f (suc j))) (λ j. weightedOf w u (r .n) (g (suc j))) k
+    (λ j l. weighted-le r (f (suc j)) (g (suc j)) road (h j l) w u falling)

@@ -13,9 +13,12 @@ pub mod AllOpen
 pub mod Conserve
 pub mod Kept
 pub mod Runs
+pub mod Weights
+pub mod WeightsLaws
 pub mod Level
 pub mod Behind
 pub mod RunsLaws
+pub mod Improved
 pub mod Stamped
 pub mod Edges
 pub mod Unread

@@ -18,6 +18,8 @@ use Rattle.model.specs.Conserve.{conserved, exits-alike, arrivals-alike}
 use Rattle.model.specs.Kept.{kept}
 use Rattle.model.specs.Roads.{Alike, Compared, StepRoad, step-alike, step-state, state-back, step-row, alike-back, wider-self, present-alike, sized-alike}
 use Rattle.model.specs.Behind.{Behind, behind-self, step-behind}
+use Rattle.model.specs.Weights.{weightedTotal, Falling}
+use Rattle.model.specs.Level.{weighted-total-le}
 
 -- the limits of a study: of its road in every step, of the state before step 0 and of its T rows
 pub record StudyOk (a : Study) : Type 0 where
@@ -160,6 +162,10 @@ pub record Rivals (rival engine : Study) (k : ℕ) : Type 0 where
   pub rows : (j : ℕ) → j < k → engine .rows j ≡ rival .rows j
   pub roads : (j : ℕ) → j < k → Compared (rival .road) (roadAt rival j) (roadAt engine j)
 
+-- and so up to fewer steps
+pub rivals-less : {rival engine : Study} {k : ℕ} → Rivals rival engine k → (j : ℕ) → j ≤ k → Rivals rival engine j
+rivals-less h j l = record { sized = h .sized; start = h .start; rows = λ i m. h .rows i (omega arith); roads = λ i m. h .roads i (omega arith) }
+
 -- one study for both
 pub rivals-self : (a : Study) → StudyOk a → (k : ℕ) → Rivals a a k
 rivals-self a ok k = record {
@@ -182,11 +188,17 @@ run-behind a b ys zero h fits ok = rw (h .start) (behind-self (a .road) (a .star
 run-behind a b ys (suc k) h fits ok =
     let l : k < suc k = le-refl (suc k) in
     let s = engineAfter b k in
-    let before = run-behind a b ys k
-    (record { sized = h .sized; start = h .start; rows = λ j m. h .rows j (omega arith); roads = λ j m. h .roads j (omega arith) })
-    (λ j m. fits j (omega arith)) (λ j m. ok j (omega arith)) in
+    let before = run-behind a b ys k (rivals-less h k (omega arith)) (λ j m. fits j (omega arith)) (λ j m. ok j (omega arith)) in
     let y = outflowsOf (roadAt b k) (engineAfter b k) (a .rows k) in
     let f : Released (roadAt b k) (engineAfter b k) (a .rows k) = rw (h .rows k l) at (fits k l) in
     rw (h .rows k l)
     (step-behind (a .road) (roadAt a k) (roadAt b k) s (scheduleAfter a ys k) (a .rows k) y (ys k)
     (h .roads k l) (outflows-obey (roadAt b k) s (a .rows k) f) (outflows-greatest (roadAt b k) s (a .rows k) f) (ok k l) before)
+
+-- nor with weights: where no place weighs more than the one before it, its weighted total is not smaller
+pub run-weighted : (a b : Study) (ys : ℕ → List ℕ) (k : ℕ) → Rivals a b k → Fitting b k → Obeying a ys k → RoadOk (a .road)
+    → (w u : ℕ → ℕ) → Falling w (a .road .n)
+    → weightedTotal w u (a .road .n) (engineAfter b) k ≤ weightedTotal w u (a .road .n) (scheduleAfter a ys) k
+run-weighted a b ys k h fits ok road w u falling =
+    weighted-total-le w u (a .road) (engineAfter b) (scheduleAfter a ys) k road falling
+    (λ j l. run-behind a b ys (suc j) (rivals-less h (suc j) l) (λ i m. fits i (omega arith)) (λ i m. ok i (omega arith)) .level)

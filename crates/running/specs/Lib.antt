@@ -1,3 +1,4 @@
 pub mod Ran
 pub mod Made
+pub mod Totalled
 pub mod Promise

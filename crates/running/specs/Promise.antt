@@ -1,5 +1,6 @@
 -- What running promises, from what its code finds. Assumes nothing.
-use mathlib.Core.Path.{_≡_, sym, _∙_}
+use mathlib.Core.Path.{_≡_, refl, sym, ap, _∙_}
+use mathlib.Core.Bool.{Bool, true, false, cond}
 use mathlib.Core.List.{List}
 use Prim.Native.Nat.{ℕ, _≤_, _<_}
 use lib.ListN.{length}
@@ -8,8 +9,11 @@ use Rattle.reading.specs.Reading.{ReadAnswer, readingOf, studyBy}
 use Rattle.schedules.specs.Schedules.{EndAnswer, noState, openingOf, runEnd, runningOf, runTable, listAfter}
 use Rattle.schedules.specs.Opening.{opened-taken, opened-reads}
 use Rattle.schedules.specs.Ends.{runs-unopened, writes-unopened, runs-short, writes-short, runs-long, writes-long}
-use Rattle.schedules.specs.Demand.{Taken, Promised}
+use Rattle.schedules.specs.Demand.{Taken, Promised, WeightedDemand}
 use Rattle.schedules.specs.Whole.{promised}
+use Rattle.schedules.specs.Weighing.{weighingOf}
+use Rattle.schedules.specs.Weighted.{weighted-demand, weighs-unopened, weighs-short, weighs-long}
+use Rattle.running.specs.Totalled.{weighedEnd}
 
 -- the answer, the list at exit and what they are worth
 abbrev pub Promise : List ℕ → List ℕ → List ℕ → EndAnswer → List ℕ → Type 0
@@ -20,12 +24,30 @@ promise : (bytes lanes list : List ℕ) (e : EndAnswer) (out : List ℕ) → e �
     → Promise bytes lanes list e out
 promise bytes lanes list e out ee eo = (ee, (eo, λ t. rw (ee, eo) (promised bytes lanes t list)))
 
+-- of one record, table and list every run gives the same answer and leaves the same list, with weights and without
+pub same-run : (bytes lanes list : List ℕ) (e f : EndAnswer) (out left : List ℕ) → Promise bytes lanes list e out → Promise bytes lanes list f left
+    → (e ≡ f) × (out ≡ left)
+same-run bytes lanes list e f out left p q = (p .0 ∙ sym (q .0), p .1 .0 ∙ sym (q .1 .0))
+
+-- a promise of three parts, with what is said of the weighted total
+pub with-weights : {A B C D : Type 0} → A × (B × C) → D → A × (B × (C × D))
+with-weights p h = (p .0, (p .1 .0, (p .1 .1, h)))
+
+-- no step was done
+none : (weighs : Bool) {t : ℕ} → t ≡ 0 → 0 ≡ cond weighs t 0
+none true e = sym e
+none false e = refl
+
 -- x is what opening gave
 module _ (bytes lanes list : List ℕ) {x : ReadAnswer} (ex : x ≡ openingOf bytes lanes) where
   pub promise-unopened : {e : EndAnswer} → (x .number ≡ 0 → ⊥) → e ≡ noState (x .number) (x .place) → Promise bytes lanes list e list
   promise-unopened {e} h ee =
       let n : openingOf bytes lanes .number ≡ 0 → ⊥ = rw ex at h in
       promise bytes lanes list e list (rw ex at ee ∙ sym (runs-unopened bytes lanes n list)) (sym (writes-unopened bytes lanes n list))
+
+  -- and its weighted total, where weights are asked for
+  pub weighed-unopened : (weighs : Bool) (w u : ℕ → ℕ) {t : ℕ} → (x .number ≡ 0 → ⊥) → t ≡ 0 → t ≡ cond weighs (weighingOf w u bytes lanes list) 0
+  weighed-unopened weighs w u h e = e ∙ none weighs (weighs-unopened w u bytes lanes list (rw ex at h))
 
   -- without a refusal
   module _ (h : x .number ≡ 0) where
@@ -48,3 +70,20 @@ module _ (bytes lanes list : List ℕ) {x : ReadAnswer} (ex : x ≡ openingOf by
     promise-long {e} {out} l ee eo =
         let m = rw reads at l in
         promise bytes lanes list e out (rw reads at ee ∙ sym (runs-long bytes lanes taken list m)) (rw reads at eo ∙ sym (writes-long bytes lanes taken list m))
+
+    module _ (weighs : Bool) (w u : ℕ → ℕ) {t : ℕ} where
+      pub weighed-short : length list < tableSize (studyBy bytes lanes (x .road) (x .state) (x .steps)) → t ≡ 0
+          → t ≡ cond weighs (weighingOf w u bytes lanes list) 0
+      weighed-short l e = e ∙ none weighs (weighs-short w u bytes lanes list taken (rw reads at l))
+
+      pub weighed-long : tableSize (studyBy bytes lanes (x .road) (x .state) (x .steps)) ≤ length list
+          → t ≡ weighedEnd weighs w u (studyBy bytes lanes (x .road) (x .state) (x .steps)) → t ≡ cond weighs (weighingOf w u bytes lanes list) 0
+      weighed-long l e = rw reads at e ∙ ap (λ (k : ℕ). cond weighs k 0) (sym (weighs-long w u bytes lanes list taken (rw reads at l)))
+
+-- a weighted run's whole promise
+pub all-weighted : (bytes lanes list : List ℕ) (w u : ℕ → ℕ) {e : EndAnswer} {out : List ℕ} {t : ℕ} → e ≡ runningOf bytes lanes list
+    → out ≡ listAfter bytes lanes list → (Taken bytes lanes → Promised bytes lanes out e) → t ≡ weighingOf w u bytes lanes list
+    → (e ≡ runningOf bytes lanes list) × ((out ≡ listAfter bytes lanes list) × ((t ≡ weighingOf w u bytes lanes list)
+    × ((Taken bytes lanes → Promised bytes lanes out e) × (Taken bytes lanes → WeightedDemand w u bytes lanes out e t))))
+all-weighted bytes lanes list w u ee eo promise et =
+    (ee, (eo, (et, (promise, λ taken. rw (ee, eo, et) (weighted-demand bytes lanes taken list w u)))))

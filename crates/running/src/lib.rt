@@ -4,17 +4,34 @@ use road::Ended;
 use road::Refusal;
 use road::Road;
 use road::State;
+use road::Weighed;
+use road::Weights;
 ghost use mathlib.Core.Path.{_≡_};
+ghost use mathlib.Core.Bool.{cond};
+ghost use Rattle.numbers.specs.Lists.{at};
+ghost use Rattle.road.specs.Road.{withoutState};
 ghost use Rattle.reading.specs.Reading.{studyBy};
 ghost use Rattle.schedules.specs.Schedules.{endAnswer, runEnd, runTable, runningOf, listAfter};
-ghost use Rattle.schedules.specs.Demand.{Taken, Promised};
+ghost use Rattle.schedules.specs.Demand.{Taken, Promised, WeightedDemand};
+ghost use Rattle.schedules.specs.Weighing.{weighingOf};
 ghost use Rattle.running.specs.Made.{Runnable};
+ghost use Rattle.running.specs.Totalled.{weighedEnd};
 
 // Writes the rows of the steps before the first fault, 9 or 10.
-fn run_rows(bytes: &[u8], table: &[u8], r: Road, s: State, steps: usize, out: &mut [u32]) -> Ended
+fn run_rows(
+    bytes: &[u8],
+    table: &[u8],
+    r: Road,
+    s: State,
+    steps: usize,
+    weights: Weights,
+    weighs: bool,
+    out: &mut [u32],
+) -> Weighed
     requires { ⌜ Runnable (now bytes) (studyBy (now bytes) (now table) r s steps) (now out) ⌝ }
-    ensures answer { λ e. ⌜ endAnswer e ≡ runEnd (studyBy (now (bytes .entry)) (now (table .entry)) r s steps) ⌝ }
+    ensures answer { λ e. ⌜ endAnswer (e .ended) ≡ runEnd (studyBy (now (bytes .entry)) (now (table .entry)) r s steps) ⌝ }
     ensures list { λ e. ⌜ now (out .exit) ≡ runTable (studyBy (now (bytes .entry)) (now (table .entry)) r s steps) (now (out .entry)) ⌝ }
+    ensures weighted { λ e. ⌜ e .weighted ≡ weighedEnd weighs (at (weights .places)) (at (weights .ramps)) (studyBy (now (bytes .entry)) (now (table .entry)) r s steps) ⌝ }
 {
     let n = r.n;
     let numbers = 1 + 2 * n;
@@ -34,6 +51,7 @@ fn run_rows(bytes: &[u8], table: &[u8], r: Road, s: State, steps: usize, out: &m
     };
     let mut row = [0u32; 129];
     let mut room = [0u32; 64];
+    let mut weighted: u64 = 0;
     let mut k = 0;
     let mut to = 0;
     while k < steps {
@@ -54,7 +72,11 @@ fn run_rows(bytes: &[u8], table: &[u8], r: Road, s: State, steps: usize, out: &m
         );
         let refusal = q.refusal;
         if refusal.number() != 0 {
-            return Ended::at_step(refusal, k, q.place, r, l.state(held, queue, cumulative));
+            let ended = Ended::at_step(refusal, k, q.place, r, l.state(held, queue, cumulative));
+            return Weighed {
+                ended: ended,
+                weighted: weighted,
+            };
         }
         let end = to + places;
         l = stepping::lent::next(
@@ -71,10 +93,64 @@ fn run_rows(bytes: &[u8], table: &[u8], r: Road, s: State, steps: usize, out: &m
             &room,
             &mut out[to..end],
         );
+        weighted = weighing::added(
+            weighted,
+            weighs,
+            n,
+            l.gate_queue,
+            &held,
+            &queue,
+            &weights.places,
+            &weights.ramps,
+        );
         to = end;
         k += 1;
     }
-    Ended::complete(r, l.state(held, queue, cumulative))
+    let ended = Ended::complete(r, l.state(held, queue, cumulative));
+    Weighed {
+        ended: ended,
+        weighted: weighted,
+    }
+}
+
+// A refusal that names no state, with no step done.
+fn unbegun(refusal: Refusal, place: usize) -> Weighed
+    ensures { λ e. ⌜ (e .ended ≡ withoutState refusal place) × (e .weighted ≡ 0) ⌝ }
+{
+    let ended = Ended::without_state(refusal, place);
+    Weighed {
+        ended: ended,
+        weighted: 0,
+    }
+}
+
+// Runs a record under a table of lanes, with weights where they are asked for.
+fn run_opened(
+    bytes: &[u8],
+    table: &[u8],
+    weights: Weights,
+    weighs: bool,
+    out: &mut [u32],
+) -> Weighed
+    ensures answer { λ e. ⌜ endAnswer (e .ended) ≡ runningOf (now (bytes .entry)) (now (table .entry)) (now (out .entry)) ⌝ }
+    ensures list { λ e. ⌜ now (out .exit) ≡ listAfter (now (bytes .entry)) (now (table .entry)) (now (out .entry)) ⌝ }
+    ensures demand { λ e. ⌜ (Taken (now (bytes .entry)) (now (table .entry))
+        → Promised (now (bytes .entry)) (now (table .entry)) (now (out .exit)) (endAnswer (e .ended))) ⌝ }
+    ensures weighted { λ e. ⌜ e .weighted
+        ≡ cond weighs (weighingOf (at (weights .places)) (at (weights .ramps)) (now (bytes .entry)) (now (table .entry)) (now (out .entry))) 0 ⌝ }
+{
+    let a = opening::opened(bytes, table);
+    let refusal = a.refusal;
+    if refusal.number() != 0 {
+        return unbegun(refusal, a.place);
+    }
+    let road = a.road;
+    let state = a.state;
+    let steps = a.steps;
+    if out.len() < steps * (road.n + 1) {
+        return unbegun(Refusal::ListLength, 0);
+    }
+    run_rows(bytes, table, road, state, steps, weights, weighs, out)
 }
 
 // Runs a record under a table of lanes: the refusals of reading, 17, 18, 11, then 9 or 10 with its step and cell.
@@ -83,16 +159,23 @@ pub fn run(bytes: &[u8], table: &[u8], out: &mut [u32]) -> Ended
     ensures list { λ e. ⌜ now (out .exit) ≡ listAfter (now (bytes .entry)) (now (table .entry)) (now (out .entry)) ⌝ }
     ensures demand { λ e. ⌜ (Taken (now (bytes .entry)) (now (table .entry)) → Promised (now (bytes .entry)) (now (table .entry)) (now (out .exit)) (endAnswer e)) ⌝ }
 {
-    let a = opening::opened(bytes, table);
-    let refusal = a.refusal;
-    if refusal.number() != 0 {
-        return Ended::without_state(refusal, a.place);
-    }
-    let road = a.road;
-    let state = a.state;
-    let steps = a.steps;
-    if out.len() < steps * (road.n + 1) {
-        return Ended::without_state(Refusal::ListLength, 0);
-    }
-    run_rows(bytes, table, road, state, steps, out)
+    let weights = Weights {
+        places: [0; 65],
+        ramps: [0; 64],
+    };
+    let weighed = run_opened(bytes, table, weights, false, out);
+    weighed.ended
+}
+
+// Runs a record with weights of waiting: running's answer and list, and the weighted sum of present over the steps done.
+pub fn run_weighted(bytes: &[u8], table: &[u8], weights: Weights, out: &mut [u32]) -> Weighed
+    ensures answer { λ e. ⌜ endAnswer (e .ended) ≡ runningOf (now (bytes .entry)) (now (table .entry)) (now (out .entry)) ⌝ }
+    ensures list { λ e. ⌜ now (out .exit) ≡ listAfter (now (bytes .entry)) (now (table .entry)) (now (out .entry)) ⌝ }
+    ensures weighted { λ e. ⌜ e .weighted ≡ weighingOf (at (weights .places)) (at (weights .ramps)) (now (bytes .entry)) (now (table .entry)) (now (out .entry)) ⌝ }
+    ensures demand { λ e. ⌜ (Taken (now (bytes .entry)) (now (table .entry))
+        → Promised (now (bytes .entry)) (now (table .entry)) (now (out .exit)) (endAnswer (e .ended))) ⌝ }
+    ensures weights { λ e. ⌜ (Taken (now (bytes .entry)) (now (table .entry))
+        → WeightedDemand (at (weights .places)) (at (weights .ramps)) (now (bytes .entry)) (now (table .entry)) (now (out .exit)) (endAnswer (e .ended)) (e .weighted)) ⌝ }
+{
+    run_opened(bytes, table, weights, true, out)
 }

@@ -12,8 +12,10 @@ use Rattle.road.specs.Refusals.{began}
 use Rattle.road.specs.Study.{Study, roadAt, tableSize}
 use Rattle.model.specs.Rules.{Greatest}
 use Rattle.model.specs.Runs.{Obeying}
+use Rattle.model.specs.Weights.{Falling}
 use Rattle.reading.specs.Reading.{readingOf, studyOf}
 use Rattle.schedules.specs.Schedules.{proposedAt, scheduledAt, EndAnswer, lanesFault, stepsMade, judgingOf}
+use Rattle.schedules.specs.Weighing.{weighedIn}
 
 -- s is ahead of t: no cumulative outflow of t is larger, at the gate and at every cell, and t's total is not smaller.
 -- Releases are agreed beforehand, so no holding plan changes what the town sees: ramp times are equal. What a plan adds to the
@@ -67,6 +69,19 @@ pub record Grounds (bytes lanes out : List ℕ) (e : EndAnswer) : Type 0 where
   pub judgedState : (zs : List ℕ) → length zs ≡ tableSize (studyOf bytes lanes)
       → judgingOf bytes lanes zs .state ≡ scheduledAt (studyOf bytes lanes) zs (stepsMade (studyOf bytes lanes) (judgingOf bytes lanes zs))
   pub judgedRoad : (zs : List ℕ) → length zs ≡ tableSize (studyOf bytes lanes) → judgingOf bytes lanes zs .road ≡ studyOf bytes lanes .road
+
+-- the same with weights w of places, gate first, and u of ramps: what the weighted total of running's answer e, with its list at exit, is worth.
+-- That weights fall from the gate on is needed: `Rising` has a schedule that beats the engine where they rise
+pub record WeightedDemand (w u : ℕ → ℕ) (bytes lanes out : List ℕ) (e : EndAnswer) (total : ℕ) : Type 0 where
+  -- it is that of the rows written, taken as a schedule
+  pub own : total ≡ weighedIn w u (studyOf bytes lanes) out (stepsMade (studyOf bytes lanes) e)
+  -- if no place weighs more than the one before it, gate first, then after every step that both reach the engine's weighted total so far is at
+  -- most the schedule's; ramp queues may weigh anything, since they are equal on both sides
+  pub best : Falling w (studyOf bytes lanes .road .n) → (zs : List ℕ) (k : ℕ) → k ≤ stepsMade (studyOf bytes lanes) e → Reaches (studyOf bytes lanes) zs k
+      → weighedIn w u (studyOf bytes lanes) out k ≤ weighedIn w u (studyOf bytes lanes) zs k
+  -- where running and judging end after equally many steps, the total returned is at most that of the steps judged
+  pub returned : Falling w (studyOf bytes lanes .road .n) → (zs : List ℕ) → e .state .done ≡ judgingOf bytes lanes zs .state .done
+      → total ≤ weighedIn w u (studyOf bytes lanes) zs (stepsMade (studyOf bytes lanes) (judgingOf bytes lanes zs))
 
 -- no refusal of the record (those of reading) or of its table of lanes (17, 18) applies
 pub record Taken (bytes lanes : List ℕ) : Type 0 where

@@ -17,7 +17,7 @@ use Rattle.schedules.specs.SchedulesLaws.{step-within, step-before, end-
 use Rattle.schedules.specs.Demand.{Ahead, GreatestIn}
 
 -- what is behind in the model is what the statement calls ahead
-behind-ahead : (r : Road) (s t : State) → Behind r s t → Ahead r s t
+pub behind-ahead : (r : Road) (s t : State) → Behind r s t → Ahead r s t
 unfolding cumulativeAt
 behind-ahead r s t b = record {
   gate = b .level .cumulatives 0 (omega arith);

@@ -1,6 +1,7 @@
 pub mod Schedules
 pub mod SchedulesLaws
 pub mod TableLaws
+pub mod Weighing
 pub mod Demand
 pub mod Readable
 pub mod Opening
@@ -13,4 +14,9 @@ pub mod Accounts
 pub mod Returned
 pub mod Unclosed
 pub mod Restamped
+pub mod Weighted
+pub mod WeightedTimes
+pub mod Improved
 pub mod NotEmpty
+pub mod Rising
+pub mod Raised

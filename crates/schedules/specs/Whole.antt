@@ -88,7 +88,7 @@ module _ (bytes lanes : List ℕ) (taken : Taken bytes lanes) where
       subst⁻¹ (Fresh (a .road)) (end-state a (judgeSays a zs) (scheduledAt a zs) ∙ ap (scheduledAt a zs) z) fresh-start
 
   -- a schedule of the right length, or not
-  sized : (zs : List ℕ) → (length zs ≡ tableSize a) ⊎ ((length zs ≡ tableSize a) → ⊥)
+  pub sized : (zs : List ℕ) → (length zs ≡ tableSize (studyOf bytes lanes)) ⊎ ((length zs ≡ tableSize (studyOf bytes lanes)) → ⊥)
   sized zs = go (eqb (length zs) (tableSize a)) refl
     where
       go : (b : Bool) → eqb (length zs) (tableSize a) ≡ b → (length zs ≡ tableSize a) ⊎ ((length zs ≡ tableSize a) → ⊥)

@@ -1,8 +1,8 @@
 //! The cases in their order, as the groups add them.
 
 use super::frame::{
-    Case, FillInput, LeafInput, StepInput, WriteInput, MAX_LANES, MAX_LIST, MAX_RECORD, MAX_ROW,
-    MAX_ROWS, MAX_TARGET,
+    Case, FillInput, LeafInput, PresentInput, StepInput, WeighInput, WriteInput, MAX_LANES,
+    MAX_LIST, MAX_RECORD, MAX_ROW, MAX_ROWS, MAX_TARGET,
 };
 use crate::draft::Draft;
 use crate::model::Road;
@@ -93,6 +93,16 @@ impl Cases {
             built,
             open,
         });
+    }
+
+    pub fn weigh(&mut self, input: &WeighInput) {
+        assert!(input.record.len() <= MAX_RECORD && input.length <= MAX_LIST);
+        assert!(input.lanes.len() <= MAX_LANES);
+        self.list.push(Case::Weigh(Box::new(input.clone())));
+    }
+
+    pub fn present(&mut self, input: &PresentInput) {
+        self.list.push(Case::Present(Box::new(input.clone())));
     }
 
     /// These bytes read, run with a list of this length, and judged with a

@@ -234,7 +234,7 @@ fn random(cases: &mut Cases, k: usize, dice: &mut Dice) {
     }
 }
 
-fn random_trial(k: usize, dice: &mut Dice) -> Trial {
+pub fn random_trial(k: usize, dice: &mut Dice) -> Trial {
     let style = STYLES[k % STYLES.len()];
     let n = 1 + dice.upto(8) as usize;
     let steps = 1 + dice.upto(11) as usize;

@@ -43,22 +43,32 @@
 //!      u32 n, u32 T, the number of steps
 //!      u32 L, the lent list's length
 //!      u32 B, B bytes of a record, whole or not
+//! 'G'  weighing a run
+//!      u32 L, the lent list's length
+//!      weights (129 bytes)
+//!      u32 Y, Y bytes of a table of lanes
+//!      u32 B, B bytes of a record
+//! 'P'  weighted present
+//!      a road (1,040 bytes), a state (804 bytes)
+//!      weights (129 bytes)
 //!
-//! road   u32 n, u32 gate capacity, 64 x (u16 v, w, b, ramp mark), 64 x (u32 J, C),
-//!        u32 version (0 to 255), u32 seconds (0 to 65,535)
-//! state  u32 steps, u64 gate time, u64 road time, u64 ramp time,
-//!        u32 gate queue, u32 gate F,
-//!        64 x (u32 held, ramp queue, F)
-//! start  u32 gate queue, 64 x (u32 held, ramp queue)
-//! law    u32 kind, 3 x u64 bits of a 64-bit float
+//! road     u32 n, u32 gate capacity, 64 x (u16 v, w, b, ramp mark), 64 x (u32 J, C),
+//!          u32 version (0 to 255), u32 seconds (0 to 65,535)
+//! state    u32 steps, u64 gate time, u64 road time, u64 ramp time,
+//!          u32 gate queue, u32 gate F,
+//!          64 x (u32 held, ramp queue, F)
+//! start    u32 gate queue, 64 x (u32 held, ramp queue)
+//! law      u32 kind, 3 x u64 bits of a 64-bit float
+//! weights  65 x u8 of gate and cells (the gate, then cell 1), 64 x u8 of ramp
+//!          queues (cell 1 first)
 //! ```
 //!
 //! Kind 0 is the fixed law with the numbers rate, -, -; 1 ALINEA with gain,
 //! target, -; 2 demand-capacity with capacity, critical, least. Any other kind
 //! is read as 0. A number marked - is not looked at, whatever its bits.
 //!
-//! Counts are within these limits: B at most 65,540; L of 'U' and 'F', Y and Z
-//! at most 9,000; K of 'S' at most 200; K of 'W' and L of 'T' at most 16,512; L
+//! Counts are within these limits: B at most 65,540; L of 'U', 'F' and 'G', Y
+//! and Z at most 9,000; K of 'S' at most 200; K of 'W' and L of 'T' at most 16,512; L
 //! of 'W' at most 65,600. No frame has more than 110,553 bytes. `report` says what each
 //! frame must print.
 
@@ -66,6 +76,7 @@ use crate::fill::Laws;
 use crate::meter::Law;
 use crate::model::{Road, Start, State};
 use crate::step::Lanes;
+use crate::weigh::Weights;
 
 /// Most bytes of a record in a frame.
 pub const MAX_RECORD: usize = 65_540;
@@ -116,6 +127,8 @@ pub enum Case {
         length: usize,
         bytes: Vec<u8>,
     },
+    Weigh(Box<WeighInput>),
+    Present(Box<PresentInput>),
 }
 
 /// What stepping takes.
@@ -162,6 +175,23 @@ pub struct LeafInput {
     pub entered: u32,
     pub held: u32,
     pub cap: u32,
+}
+
+/// What weighing a run takes; the list is lent with `length` numbers.
+#[derive(Clone, Debug, PartialEq, Eq)]
+pub struct WeighInput {
+    pub length: usize,
+    pub weights: Weights,
+    pub lanes: Vec<u8>,
+    pub record: Vec<u8>,
+}
+
+/// What weighted present takes.
+#[derive(Clone, Debug, PartialEq, Eq)]
+pub struct PresentInput {
+    pub road: Road,
+    pub state: State,
+    pub weights: Weights,
 }
 
 impl LawInput {
@@ -291,6 +321,19 @@ impl Case {
                 put(out, *length as u32);
                 put_bytes(out, bytes);
             }
+            Case::Weigh(input) => {
+                out.push(b'G');
+                put(out, input.length as u32);
+                put_weights(out, &input.weights);
+                put_bytes(out, &input.lanes);
+                put_bytes(out, &input.record);
+            }
+            Case::Present(input) => {
+                out.push(b'P');
+                put_road(out, &input.road);
+                put_state(out, &input.state);
+                put_weights(out, &input.weights);
+            }
         }
     }
 }
@@ -316,6 +359,11 @@ fn put_law(out: &mut Vec<u8>, law: &LawInput) {
     for bits in law.bits {
         out.extend(bits.to_be_bytes());
     }
+}
+
+fn put_weights(out: &mut Vec<u8>, weights: &Weights) {
+    out.extend(weights.places);
+    out.extend(weights.ramps);
 }
 
 fn put_road(out: &mut Vec<u8>, road: &Road) {
@@ -435,6 +483,17 @@ impl<'a> Reader<'a> {
                 length: self.count("the list's length", MAX_ROWS)?,
                 bytes: self.record()?,
             }),
+            b'G' => Ok(Case::Weigh(Box::new(WeighInput {
+                length: self.count("the list's length", MAX_LIST)?,
+                weights: self.weights()?,
+                lanes: self.lanes()?,
+                record: self.record()?,
+            }))),
+            b'P' => Ok(Case::Present(Box::new(PresentInput {
+                road: self.road()?,
+                state: self.state()?,
+                weights: self.weights()?,
+            }))),
             kind => Err(format!("{kind} is not a kind of frame")),
         }
     }
@@ -510,6 +569,15 @@ impl<'a> Reader<'a> {
             *law = self.law()?;
         }
         Ok(laws)
+    }
+
+    fn weights(&mut self) -> Result<Weights, String> {
+        let places = self.take(Road::MAX_CELLS + 1, "the weights")?;
+        let ramps = self.take(Road::MAX_CELLS, "the weights")?;
+        Ok(Weights {
+            places: places.try_into().expect("65 bytes"),
+            ramps: ramps.try_into().expect("64 bytes"),
+        })
     }
 
     fn road(&mut self) -> Result<Road, String> {

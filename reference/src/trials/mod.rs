@@ -25,6 +25,7 @@ mod sweep;
 mod trial;
 mod versions;
 mod walk;
+mod weights;
 mod writes;
 
 use cases::Cases;
@@ -55,6 +56,8 @@ pub fn all_cases() -> Vec<Case> {
     versions::add(&mut cases, &trials);
     // Group 10: all rows of a record in one list.
     rows::add(&mut cases, &trials);
+    // Group 11: runs weighted, and weighted present.
+    weights::add(&mut cases, &trials);
     cases.list
 }
 

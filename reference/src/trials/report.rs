@@ -15,6 +15,8 @@
 //! 'L'  wish BITS release RELEASE
 //! 'C'  capacity CAPACITY
 //! 'T'  rows COUNT D
+//! 'G'  run NUMBER STEP PLACE total T SUMS list D weighted WEIGHTED
+//! 'P'  present WEIGHTED
 //!
 //! SUMS   gate G road R ramp W exits E present P digest D
 //! AGAIN  NUMBER PLACE COUNT target D
@@ -38,6 +40,10 @@
 //! The list of 'T' is lent as running's and digested at its whole lent length.
 //! COUNT is how many of its numbers are the rows', 0 where it stays as lent.
 //!
+//! 'G' says what 'U' says of the same run, without AGAIN, then the weighted
+//! present summed over the steps done. 'P' says the weighted present of the state
+//! given, where n above 64 counts as 64.
+//!
 //! AGAIN: the record is read; its rows are taken step by step, for each t below
 //! the T that reading gives the first 1 + 2n numbers of its row; the road, T,
 //! the start and these rows are written into a target of B + 3 bytes. All this
@@ -55,7 +61,7 @@
 //!   each of the 64 cells held, ramp queue, F.
 
 use super::digest;
-use super::frame::{Case, FillInput, LeafInput, StepInput, WriteInput};
+use super::frame::{Case, FillInput, LeafInput, StepInput, WeighInput, WriteInput};
 use super::walk::Walk;
 use crate::answer::Answer;
 use crate::fill;
@@ -66,6 +72,7 @@ use crate::model::{self, Road, State};
 use crate::record;
 use crate::run;
 use crate::step;
+use crate::weigh;
 use crate::write::{self, Written};
 
 /// A case's line.
@@ -111,6 +118,11 @@ pub fn line(case: &Case) -> Line {
             length,
             bytes,
         } => rows_line(*n as usize, *steps as usize, *length, bytes),
+        Case::Weigh(input) => weigh_line(input),
+        Case::Present(input) => {
+            let present = weigh::present(&input.road, &input.state, &input.weights);
+            format!("present {present}")
+        }
     };
     Line {
         text,
@@ -149,12 +161,22 @@ fn run_line(length: usize, lanes: &[u8], record: &[u8]) -> Line {
         0 => counts(record, lanes, &list),
         _ => Counts::default(),
     };
-    let words = answer_words(&answer);
-    let list = digest::of_list(&list);
     Line {
-        text: format!("run {words} list {list} again {}", again(record)),
+        text: format!("{} again {}", run_words(&answer, &list), again(record)),
         complete: counts.ramps > 0 && counts.released > 0 && counts.held > 0,
     }
+}
+
+fn weigh_line(input: &WeighInput) -> String {
+    let mut list = lent(input.length);
+    let (answer, weighted) = weigh::run(&input.record, &input.lanes, &input.weights, &mut list);
+    format!("{} weighted {weighted}", run_words(&answer, &list))
+}
+
+/// What a run returns, and its list.
+fn run_words(answer: &Answer, list: &[u32]) -> String {
+    let list = digest::of_list(list);
+    format!("run {} list {list}", answer_words(answer))
 }
 
 fn write_line(input: &WriteInput) -> String {

@@ -127,7 +127,7 @@ fn constant_roads(dice: &mut Dice) -> Vec<Trial> {
 }
 
 /// Mostly just the table's length, often more, seldom less.
-fn list_length(table: usize, dice: &mut Dice) -> usize {
+pub fn list_length(table: usize, dice: &mut Dice) -> usize {
     let most = MAX_LIST - table;
     match dice.upto(23) {
         0..=13 => table,

@@ -8,6 +8,7 @@ use reference::laws::laws_of;
 use reference::print::{judgement_line, printed_run, printed_under};
 use reference::run::run;
 use reference::text::schedule_of;
+use reference::weigh::{self, Weights};
 use std::collections::BTreeSet;
 use std::fs;
 use std::path::PathBuf;
@@ -164,6 +165,40 @@ fn the_page_of_rocade_sud_says_who_waits_where_under_works() {
             assert_eq!(fill(&mut record, &laws, &lanes, &mut list).number, 0);
         }
         assert_eq!(row[1..], who_waits_where(&record, &lanes), "{}", row[0]);
+    }
+}
+
+#[test]
+fn the_page_of_rocade_sud_counts_the_gate_double() {
+    let mut weights = Weights {
+        places: [1; 65],
+        ramps: [1; 64],
+    };
+    weights.places[0] = 2;
+    let rows = table_rows("rocade-sud.md", "gate double");
+    let weighed = |name: &str| {
+        let mut list = vec![0; 378 * 22];
+        let record = bytes_of(&format!("{name}.rec"));
+        weigh::run(&record, &[], &weights, &mut list)
+    };
+    let base = hundredths_of_hours(weighed("rocade-sud").1) as i64;
+    assert_eq!(rows.len(), 3);
+    for row in &rows {
+        let (answer, weighted) = weighed(&row[0]);
+        let state = answer.state;
+        let total = state.gate_time + state.road_time + state.ramp_time;
+        let more = hundredths_of_hours(weighted) as i64 - base;
+        let against = match more {
+            0 => String::new(),
+            _ => format!("−{}.{:02}", -more / 100, -more % 100),
+        };
+        let wanted = [
+            hours(total),
+            hours(state.gate_time),
+            hours(weighted),
+            against,
+        ];
+        assert_eq!(row[1..], wanted, "{}", row[0]);
     }
 }
 

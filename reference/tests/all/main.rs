@@ -19,4 +19,5 @@ mod support;
 mod text_form;
 mod trials;
 mod versions;
+mod weighing;
 mod writing;

@@ -7,11 +7,11 @@ use reference::record::read;
 use reference::step::{advance, greatest_outflows, room};
 
 /// A linear congruential generator (Knuth's 64-bit one); the upper half is used.
-struct Dice(u64);
+pub struct Dice(pub u64);
 
 impl Dice {
     /// A number from 0 to `most`.
-    fn upto(&mut self, most: u64) -> u64 {
+    pub fn upto(&mut self, most: u64) -> u64 {
         self.0 = self
             .0
             .wrapping_mul(6_364_136_223_846_793_005)
@@ -91,7 +91,7 @@ fn fitting_row(dice: &mut Dice, road: &Road, state: &State) -> Vec<u32> {
 }
 
 /// A record that runs to its end, made by stepping along.
-fn random_record(dice: &mut Dice) -> Draft {
+pub fn random_record(dice: &mut Dice) -> Draft {
     let mut draft = random_road(dice);
     draft.rows = vec![vec![0; 1 + 2 * draft.cells.len()]];
     draft.steps = 1;

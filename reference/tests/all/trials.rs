@@ -7,10 +7,11 @@ use reference::record::read;
 use reference::text::schedule_of;
 use reference::trials::digest::{of_bytes, of_list, of_road_and_state, Digest};
 use reference::trials::frame::{
-    decode, Case, FillInput, LawInput, LeafInput, StepInput, WriteInput,
+    decode, Case, FillInput, LawInput, LeafInput, PresentInput, StepInput, WeighInput, WriteInput,
 };
 use reference::trials::report::{lent, lent_bytes, line};
 use reference::trials::{all_cases, input, output};
+use reference::weigh::Weights;
 use std::collections::BTreeSet;
 use std::sync::OnceLock;
 
@@ -53,8 +54,14 @@ fn roads_start(cases: &[Case]) -> usize {
 }
 
 /// One small case of each kind.
-fn small_cases() -> [Case; 10] {
+fn small_cases() -> [Case; 12] {
     let reading = read(&record_of(EXAMPLE));
+    let mut weights = Weights {
+        places: [5; 65],
+        ramps: [6; 64],
+    };
+    (weights.places[0], weights.places[64]) = (1, 2);
+    (weights.ramps[0], weights.ramps[63]) = (3, 4);
     [
         Case::Read {
             record: vec![0xAA, 0xBB],
@@ -112,6 +119,17 @@ fn small_cases() -> [Case; 10] {
             built: 7,
             open: 3,
         },
+        Case::Weigh(Box::new(WeighInput {
+            length: 9,
+            weights,
+            lanes: vec![0xCC],
+            record: vec![0xAA, 0xBB],
+        })),
+        Case::Present(Box::new(PresentInput {
+            road: reading.road,
+            state: reading.state,
+            weights,
+        })),
     ]
 }
 
@@ -200,7 +218,7 @@ fn frames_of_writing_byte_by_byte() {
 
 #[test]
 fn frames_of_meters_byte_by_byte() {
-    let [.., fill, leaf, capacity] = small_cases().map(|case| encoded(&case));
+    let [.., fill, leaf, capacity, _, _] = small_cases().map(|case| encoded(&case));
     assert_eq!(capacity, [b'C', 0, 0, 0x07, 0xD0, 7, 3]);
     // 1 is 3ff0..., -2 is c000..., a half 3fe0....
     let number = |high: [u8; 2]| [&high[..], &[0; 6]].concat();
@@ -220,7 +238,7 @@ fn frames_of_meters_byte_by_byte() {
 #[test]
 fn lines_of_meters() {
     // 1 + 1 x (-2 - 3) is -4: sign, exponent 1025, no fraction.
-    let [.., fill, leaf, capacity] = small_cases();
+    let [.., fill, leaf, capacity, _, _] = small_cases();
     assert_eq!(line(&capacity).text, "capacity 1333");
     let bits = (1_u64 << 63) + (1_025 << 52);
     assert_eq!(line(&leaf).text, format!("wish {bits} release 0"));
@@ -240,6 +258,42 @@ fn lines_of_meters() {
     assert!(said.starts_with(&format!("fill 1 0 0 {zeros}")));
     let (list, record) = (of_list(&lent(9)), of_bytes(&[0xAA]));
     assert!(said.ends_with(&format!(" list {list} record {record}")));
+}
+
+#[test]
+fn frames_of_weighing_byte_by_byte() {
+    let [.., weigh, present] = small_cases().map(|case| encoded(&case));
+    let places = [&[1][..], &[5; 63], &[2]].concat();
+    let ramps = [&[3][..], &[6; 62], &[4]].concat();
+    let weights = [places, ramps].concat();
+    let rest = [0, 0, 0, 1, 0xCC, 0, 0, 0, 2, 0xAA, 0xBB];
+    let wanted = [&b"G"[..], &[0, 0, 0, 9], &weights, &rest].concat();
+    assert_eq!(weigh, wanted);
+    // Road and state as in a step.
+    let step = encoded(&small_cases()[3]);
+    let wanted = [&b"P"[..], &step[1..1845], &weights].concat();
+    assert_eq!(present, wanted);
+    assert_eq!(present.len(), 1 + 1040 + 804 + 129);
+}
+
+#[test]
+fn lines_of_weighing() {
+    let [.., weigh, present] = small_cases();
+    // Refused by 1: as running says, and 0.
+    let [_, run, ..] = small_cases().map(|case| line(&case).text);
+    let said = run.split(" again ").next().unwrap();
+    assert_eq!(line(&weigh).text, format!("{said} weighted 0"));
+    // 1 x 3000 + 5 x 2000 + 5 x 4000 + 6 x 1500.
+    assert_eq!(line(&present).text, "present 42000");
+    let Case::Weigh(mut input) = weigh else {
+        panic!("a run to weigh");
+    };
+    (input.lanes, input.record) = (vec![], record_of(EXAMPLE));
+    // 6532 + 5 x 20866 + 6 x 5700.
+    let said = line(&Case::Weigh(input)).text;
+    assert!(said.starts_with("run 0 0 0 total 33098 gate 6532 "));
+    let list = of_list(&run_text(EXAMPLE).1);
+    assert!(said.ends_with(&format!(" list {list} weighted 145062")));
 }
 
 #[test]
@@ -348,6 +402,7 @@ fn frames_beyond_their_limits_are_rejected() {
     assert!(
         error(&[b'U', 0, 0, 0, 9, 0, 0, 0x23, 0x29]).ends_with("the lanes: 9001 is more than 9000")
     );
+    assert!(error(&[b'G', 0, 0, 0x23, 0x29]).ends_with("9001 is more than 9000"));
     let mut step = encoded(&small_cases()[3]);
     step[1848] = 201;
     assert!(error(&step).ends_with("the row: 201 is more than 200"));
@@ -368,9 +423,9 @@ fn every_case_comes_back_from_its_frame() {
     let (cases, ..) = made();
     let bytes: Vec<u8> = cases.iter().flat_map(encoded).collect();
     assert_eq!(&decode(&bytes).unwrap(), cases);
-    // The same each time, and below 10 MB.
+    // The same each time, and below 11 MB.
     assert!(bytes == input());
-    assert!(bytes.len() < 10_000_000, "{}", bytes.len());
+    assert!(bytes.len() < 11_000_000, "{}", bytes.len());
 }
 
 #[test]
@@ -437,6 +492,9 @@ fn there_are_enough_cases_of_each_kind() {
     assert!(count(0, "wish ") >= 1_000);
     assert!(count(0, "fill 0 ") >= 400);
     assert!(count(0, "capacity ") >= 900);
+    assert!(count(0, "present ") >= 70);
+    let weighed = cases.iter().filter(|case| matches!(case, Case::Weigh(_)));
+    assert!(weighed.count() >= 300);
     // On the random roads alone.
     assert!(complete[roads..].iter().filter(|&&c| c).count() >= 250);
     assert!(count(roads, "run 9 ") >= 10 && count(roads, "run 10 ") >= 10);

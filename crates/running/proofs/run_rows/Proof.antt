@@ -1,6 +1,7 @@
 -- `running::run_rows` meets its contract. The invariant: the rows of the k steps made stand in the list, no step had a fault, the
--- road is the record's but for its capacities, and the arrays for a row and for rooms are long enough. Assumes nothing.
-use mathlib.Core.Path.{_≡_, sym, ap, _∙_}
+-- road is the record's but for its capacities, the weights of those steps are added, and the arrays for a row and for rooms are
+-- long enough. Assumes nothing.
+use mathlib.Core.Path.{_≡_, refl, sym, ap, _∙_}
 use mathlib.Core.Logic.{inl, inr}
 use mathlib.Core.List.{List}
 use Prim.Native.Nat.{ℕ, _+_, _-_, _≤_}
@@ -19,7 +20,9 @@ use Rattle.columns.specs.Columns.{stateOf}
 use Rattle.reading.specs.Reading.{studyBy}
 use Rattle.reading.specs.Table.{mostOutflows}
 use Rattle.schedules.specs.Schedules.{ended, endAnswer}
-use Rattle.running.specs.Ran.{RanTurn, releasable, same-places, ends-ran, ends-fault, steps-on}
+use Rattle.numbers.specs.Lists.{at}
+use Rattle.running.specs.Ran.{RanTurn, releasable, same-places, steps-all, ends-ran, ends-fault, steps-fault, steps-on}
+use Rattle.running.specs.Totalled.{Totalled, totalled-none, totalled-fits, totalled-more, totalled-end}
 use Rattle.running.specs.Made.{Made, made-none, made-more, same-length, row-fits, row-ends-by, table-end, table-fault}
 use borrow.Author.Needs.{needs}
 use native.Mathlib.Omega.{arith}
@@ -27,12 +30,15 @@ use Rattle.running.proofs.run_rows.Statement.{statement}
 use Rattle.running.proofs.run_rows.Tie as tie
 
 abbrev Inv-loop : tie.InvT-loop
-Inv-loop bytes table r steps out₀ n numbers places capacity road₀ held₀ queue₀ cumulative₀ l₀ row₀ room₀ k₀ to₀ out road held queue cumulative l row room k to =
-    let a = studyBy bytes table r (stateOf l₀ held₀ queue₀ cumulative₀) steps in
-    Made a out₀ out (stateOf l held queue cumulative) k to × (OnRoad a road × ((rowNumbers (r .n) ≤ length row) × (length room ≡ 64)))
+Inv-loop bytes table r steps weighs out₀ weights n numbers places capacity road₀ held₀ queue₀ sent₀ l₀ row₀ room₀ total₀ k₀ to₀
+    out road held queue sent l row room total k to =
+    let a = studyBy bytes table r (stateOf l₀ held₀ queue₀ sent₀) steps in
+    Made a out₀ out (stateOf l held queue sent) k to
+    × (OnRoad a road × (Totalled weighs (at (weights .places)) (at (weights .ramps)) a total k × ((rowNumbers (r .n) ≤ length row) × (length room ≡ 64))))
 
 abbrev μ-loop : tie.MeasureT-loop
-μ-loop bytes table r steps out₀ n numbers places capacity road₀ held₀ queue₀ cumulative₀ l₀ row₀ room₀ k₀ to₀ out road held queue cumulative l row room k to =
+μ-loop bytes table r steps weighs out₀ weights n numbers places capacity road₀ held₀ queue₀ sent₀ l₀ row₀ room₀ total₀ k₀ to₀
+    out road held queue sent l row room total k to =
     steps - k
 
 -- places of the code: the arguments from the loop's place, that place and the turn's start from its row, and the row from the places after it
@@ -56,6 +62,15 @@ to-passed c = let a = c .before .before .before in a .before .before .before .be
 
 abbrev Next : tie.After-next Inv-loop μ-loop → tie.After-cumulative2 Inv-loop μ-loop
 Next c = c .before .before .before .before
+
+abbrev to-made : tie.After-next Inv-loop μ-loop → tie.Else2 Inv-loop μ-loop
+to-made c = to-passed (Next c)
+
+abbrev to-next : tie.After-slice-known2 Inv-loop μ-loop → tie.After-next Inv-loop μ-loop
+to-next c = c .before .before
+
+abbrev to-weighed : tie.After-added-arg2 Inv-loop μ-loop → tie.After-next Inv-loop μ-loop
+to-weighed c = to-next (c .before .before .before .before .before)
 
 abbrev Read : tie.After-number Inv-loop μ-loop → tie.After-read-row Inv-loop μ-loop
 Read c = to-row (c .before .before .before .before)
@@ -140,7 +155,7 @@ add-places c = search needs
 loop-holds : tie.Need-loop-holds Inv-loop μ-loop
 loop-holds c =
     let cells = Begun c .pre .readable .ok .road .cells in
-    (made-none, (on-road, (omega (arith, length-replicate {A = ℕ} 129 0, cells), length-replicate {A = ℕ} 64 0)))
+    (made-none, (on-road, (totalled-none _ _ _ _, (omega (arith, length-replicate {A = ℕ} 129 0, cells), length-replicate {A = ℕ} 64 0))))
 
 step-capacities-requires : tie.Need-step-capacities-requires Inv-loop μ-loop
 step-capacities-requires c κs =
@@ -158,7 +173,7 @@ read-row-requires : tie.Need-read-row-requires Inv-loop μ-loop
 read-row-requires c κs =
     let i = c .before .before in
     let t = A (i .before) .pre .readable in
-    (t .row (i .before .loop .k) (i .loop-test .taken), i .before .loop .inv .1 .1 .0)
+    (t .row (i .before .loop .k) (i .loop-test .taken), i .before .loop .inv .1 .1 .1 .0)
 
 array-share-prefix-row : tie.Need-array-share-prefix-row Inv-loop μ-loop
 array-share-prefix-row c = omega (arith, holds (to-row c))
@@ -170,7 +185,7 @@ releases-requires : tie.Need-releases-requires Inv-loop μ-loop
 releases-requires c κs =
     let r = to-row (c .before .before) in
     let asked = releasable (turn r) in
-    (asked .0, (asked .1, In r .before .loop .inv .1 .1 .1))
+    (asked .0, (asked .1, In r .before .loop .inv .1 .1 .1 .1))
 
 number-requires : tie.Need-number-requires Inv-loop μ-loop
 number-requires c κs = search needs
@@ -191,8 +206,10 @@ returns c =
     let l = In (Read f) .before in
     let r = A l .args .r in
     let t = turn (Read f) in
-    let e = ap endAnswer (c .at-step .ensures) ∙ ap (λ (u : State). ended (refusalNumber (q .refusal)) (l .loop .k) (q .place) r u) (c .before .state .ensures) in
-    (ends-fault t (found f) (search needs) e, table-fault (l .loop .inv .0) t (found f) (search needs))
+    let e = ap endAnswer (c .at-step .ensures) ∙ ap (λ (u : State). ended (refusalNumber (q .refusal)) (l .loop .k) (q .place) r u) (c .before .state .ensures) in (
+      ends-fault t (found f) (search needs) e,
+      (table-fault (l .loop .inv .0) t (found f) (search needs), totalled-end _ _ _ _ (l .loop .inv .1 .1 .0) (steps-fault t (found f) (search needs))),
+    )
 
 add-end : tie.Need-add-end Inv-loop μ-loop
 add-end c = omega (arith, small (In (Read (c .before))))
@@ -228,25 +245,39 @@ next-requires c κs =
       places = same-places (turn (Read f)) (part-length (l .loop .out) (l .loop .to) (places (Of (A l))) (fits i));
     }
 
+added-requires : tie.Need-added-requires Inv-loop μ-loop
+added-requires c κs =
+    let i = In (Read (to-made (to-weighed c) .before)) in
+    let ok = A (i .before) .pre .readable .ok in
+    (totalled-fits _ _ _ _ (i .before .loop .inv .1 .1 .0) (omega (arith, i .loop-test .taken, ok .steps)), ok .road .cells)
+
 add-k : tie.Need-add-k Inv-loop μ-loop
 add-k c =
-    let i = In (Read (to-passed (Next (c .before .before)) .before)) in
+    let i = In (Read (to-made (to-weighed (c .before)) .before)) in
     omega (arith, i .loop-test .taken, A (i .before) .pre .readable .ok .steps)
 
 loop-less : tie.Need-loop-less Inv-loop μ-loop
-loop-less c = omega (arith, In (Read (to-passed (Next (c .before .before)) .before)) .loop-test .taken)
+loop-less c = omega (arith, In (Read (to-made (to-weighed (c .before)) .before)) .loop-test .taken)
 
 loop-again : tie.Need-loop-again Inv-loop μ-loop
 loop-again c =
-    let n = c .before .before in
-    let p = to-passed (Next n) in
+    let n = to-weighed (c .before) in
+    let p = to-made n in
     let f = p .before in
     let r = Read f in
     let l = In r .before .loop in
     let q = Joined r .if1 .road in
-    let rooms = f .before .releases .ensures .1 .0 q (l .l) (l .cumulative) (passes p) in (
-      made-more (l .inv .0) (turn r) (found f) (passes p) (n .next .ensures .0 q rooms) (n .next .ensures .1 q rooms),
-      (turned-on (turned (Joined r)), (omega (arith, holds r), f .before .releases .ensures .1 .1)),
+    let rooms = f .before .releases .ensures .1 .0 q (l .l) (l .cumulative) (passes p) in
+    let m = made-more (l .inv .0) (turn r) (found f) (passes p) (n .next .ensures .0 q rooms) (n .next .ensures .1 q rooms) in
+    let e = c .added .ensures in (
+      m,
+      (
+        turned-on (turned (Joined r)),
+        (
+          totalled-more _ _ _ _ (l .inv .1 .1 .0) (m .ran) (e .0 _ (record { atGate = refl; onRoad = refl; atRamps = refl })) (e .1),
+          (omega (arith, holds r), f .before .releases .ensures .1 .1),
+        ),
+      ),
     )
 
 state-requires-2 : tie.Need-state-requires-2 Inv-loop μ-loop
@@ -262,7 +293,10 @@ returns-2 : tie.Need-returns-2 Inv-loop μ-loop
 returns-2 c =
     let l = c .before .before .before in
     let e = ap endAnswer (c .complete .ensures) ∙ ap (λ (u : State). ended 0 0 0 (A l .args .r) u) (c .before .state2 .ensures) in
-    (ends-ran (l .loop .inv .0 .ran) (search needs) e, table-end (l .loop .inv .0) (search needs))
+    let ran = l .loop .inv .0 .ran in (
+      ends-ran ran (search needs) e,
+      (table-end (l .loop .inv .0) (search needs), totalled-end _ _ _ _ (l .loop .inv .1 .1 .0) (steps-all ran (search needs))),
+    )
 
 pub run-rows-spec : {M : Type 1} → statement M
 run-rows-spec =
@@ -292,6 +326,7 @@ run-rows-spec =
     part-next-start
     part-next-end
     next-requires
+    added-requires
     add-k
     loop-less
     loop-again

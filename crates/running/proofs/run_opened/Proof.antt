@@ -1,15 +1,17 @@
--- `running::run` meets its contract. Each return, by the tests on the way to it. Assumes nothing.
+-- `running::run_opened` meets its contract. Each return, by the tests on the way to it. Assumes nothing.
 use mathlib.Core.Path.{_≡_, sym, ap, _∙_}
 use Rattle.road.specs.Refusals.{refusalNumber}
 use Rattle.reading.specs.Reading.{studyBy, readAnswer}
 use Rattle.schedules.specs.Schedules.{endAnswer}
 use Rattle.schedules.specs.Opening.{opened-readable}
 use Rattle.schedules.specs.Readable.{Readable}
-use Rattle.running.specs.Promise.{promise-unopened, promise-short, promise-long}
+use Rattle.running.specs.Promise.{with-weights, promise-unopened, promise-short, promise-long}
+use Rattle.running.specs.Promise.{weighed-unopened, weighed-short, weighed-long}
+use Rattle.numbers.specs.Lists.{at}
 use borrow.Author.Needs.{needs}
 use native.Mathlib.Omega.{arith}
-use Rattle.running.proofs.run.Statement.{statement}
-use Rattle.running.proofs.run.Tie as tie
+use Rattle.running.proofs.run_opened.Statement.{statement}
+use Rattle.running.proofs.run_opened.Tie as tie
 
 -- places of the code: the arguments from the opening, the opening from its test, and that test from the list's
 abbrev A : tie.After-opened → tie.Start
@@ -38,16 +40,19 @@ opened-requires c κs = search needs
 number-requires : tie.Need-number-requires
 number-requires c κs = search needs
 
-without-state-requires : tie.Need-without-state-requires
-without-state-requires c κs = search needs
+unbegun-requires : tie.Need-unbegun-requires
+unbegun-requires c κs = search needs
 
 returns : tie.Need-returns
 returns c =
     let t = c .before in
     let o = t .before .before in
     let a = A o .args in
-    promise-unopened (a .bytes .now) (a .table .now) (a .out .now) (o .opened .ensures) (λ z. t .if1 .taken (t .before .number .ensures ∙ z))
-    (ap endAnswer (c .without-state .ensures))
+    let n : refusalNumber (o .opened .result .refusal) ≡ 0 → ⊥ = λ z. t .if1 .taken (t .before .number .ensures ∙ z) in
+    with-weights
+    (promise-unopened (a .bytes .now) (a .table .now) (a .out .now) (o .opened .ensures) n (ap endAnswer (c .unbegun .ensures .0)))
+    (weighed-unopened (a .bytes .now) (a .table .now) (a .out .now) (o .opened .ensures) (a .weighs) (at (a .weights .places)) (at (a .weights .ramps)) n
+    (c .unbegun .ensures .1))
 
 add-if2 : tie.Need-add-if2
 add-if2 c = omega (arith, held (to-passed c) .ok .road .cells)
@@ -55,15 +60,18 @@ add-if2 c = omega (arith, held (to-passed c) .ok .road .cells)
 mul-if2 : tie.Need-mul-if2
 mul-if2 c = omega (arith, held (to-passed c) .outflows)
 
-without-state-requires-2 : tie.Need-without-state-requires-2
-without-state-requires-2 c κs = search needs
+unbegun-requires-2 : tie.Need-unbegun-requires-2
+unbegun-requires-2 c κs = search needs
 
 returns-2 : tie.Need-returns-2
 returns-2 c =
     let k = to-passed (c .before .before) in
     let a = A (to-opened k) .args in
-    promise-short (a .bytes .now) (a .table .now) (a .out .now) (to-opened k .opened .ensures) (opens k) (omega arith)
-    (ap endAnswer (c .without-state2 .ensures))
+    let e = to-opened k .opened .ensures in
+    with-weights
+    (promise-short (a .bytes .now) (a .table .now) (a .out .now) e (opens k) (omega arith) (ap endAnswer (c .unbegun2 .ensures .0)))
+    (weighed-short (a .bytes .now) (a .table .now) (a .out .now) e (opens k) (a .weighs) (at (a .weights .places)) (at (a .weights .ramps)) (omega arith)
+    (c .unbegun2 .ensures .1))
 
 run-rows-requires : tie.Need-run-rows-requires
 run-rows-requires c κs = record { readable = held (to-passed (c .before .before)); long = omega arith }
@@ -73,23 +81,26 @@ same-length c = search needs
 
 returns-3 : tie.Need-returns-3
 returns-3 c =
-    let e = c .before .before in
-    let k = to-passed (e .before .before .before) in
+    let r = c .before .before in
+    let k = to-passed (r .before .before .before) in
     let a = A (to-opened k) .args in
-    promise-long (a .bytes .now) (a .table .now) (a .out .now) (to-opened k .opened .ensures) (opens k) (search needs)
-    (e .run-rows .ensures .0) (e .run-rows .ensures .1)
+    let e = to-opened k .opened .ensures in
+    with-weights
+    (promise-long (a .bytes .now) (a .table .now) (a .out .now) e (opens k) (search needs) (r .run-rows .ensures .0) (r .run-rows .ensures .1 .0))
+    (weighed-long (a .bytes .now) (a .table .now) (a .out .now) e (opens k) (a .weighs) (at (a .weights .places)) (at (a .weights .ramps)) (search needs)
+    (r .run-rows .ensures .1 .1))
 
-pub run-spec : {M : Type 1} → statement M
-run-spec =
+pub run-opened-spec : {M : Type 1} → statement M
+run-opened-spec =
     tie.close
     (tie.spec
     opened-requires
     number-requires
-    without-state-requires
+    unbegun-requires
     returns
     add-if2
     mul-if2
-    without-state-requires-2
+    unbegun-requires-2
     returns-2
     run-rows-requires
     same-length

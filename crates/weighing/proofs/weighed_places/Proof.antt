@@ -1,0 +1,52 @@
+-- `weighing::weighed_places` meets its contract. Assumes nothing.
+use native.Mathlib.Omega.{arith}
+use Rattle.weighing.specs.Summed.{weighted-is}
+use borrow.Author.Needs.{needs}
+use Rattle.weighing.proofs.weighed_places.Statement.{statement}
+use Rattle.weighing.proofs.weighed_places.Tie as tie
+
+-- places of the code: the arguments from the gate's count, and that from the cells'
+abbrev A : tie.After-weighed → tie.Start
+A c = c .before .before
+
+abbrev to-gate : tie.After-weighed-cells → tie.After-weighed
+to-gate c = c .before .before .before
+
+element-copy-out-weighed : tie.Need-element-copy-out-weighed
+element-copy-out-weighed c = search needs
+
+weighed-requires : tie.Need-weighed-requires
+weighed-requires c κs = search needs
+
+weighed-cells-requires : tie.Need-weighed-cells-requires
+weighed-cells-requires c κs = search needs
+
+weighed-cells-requires-2 : tie.Need-weighed-cells-requires-2
+weighed-cells-requires-2 c κs = search needs
+
+add-result : tie.Need-add-result
+add-result c = search needs
+
+add-result-2 : tie.Need-add-result-2
+add-result-2 c = search needs
+
+returns : tie.Need-returns
+returns c =
+    let r = c .before .before .before in
+    let g = to-gate r in
+    let a = A g .args in (
+      weighted-is (a .places .now) (a .ramps .now) (a .n) (g .weighed .ensures .0) (r .weighed-cells .ensures .0) (c .weighed-cells2 .ensures .0),
+      omega (arith, g .weighed .ensures .1, r .weighed-cells .ensures .1, c .weighed-cells2 .ensures .1),
+    )
+
+pub weighed-places-spec : {M : Type 1} → statement M
+weighed-places-spec =
+    tie.close
+    (tie.spec
+    element-copy-out-weighed
+    weighed-requires
+    weighed-cells-requires
+    weighed-cells-requires-2
+    add-result
+    add-result-2
+    returns)
