@@ -78,8 +78,8 @@ module _ {a : Study} {zs : List ℕ} where
     same-places : length y ≡ q .n + 1
     same-places = t .size ∙ ap (λ (n : ℕ). n + 1) (sym (step-road this-step .n))
 
-    pub proposed : Proposed q row y
-    proposed = record { road = step-road this-step .ok; numbers = step-input this-step .row .numbers; places = same-places }
+    pub proposed : Proposed (q .n) row y
+    proposed = record { cells = step-road this-step .ok .cells; numbers = step-input this-step .row .numbers; places = same-places }
 
     pub steps-left : u .done < mostSteps
     steps-left = step-left this-step

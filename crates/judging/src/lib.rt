@@ -1,4 +1,5 @@
 // Judging: whether a proposed schedule obeys the rules of a record, step by step in its own states.
+use columns::Ledger;
 use road::Ended;
 use road::Refusal;
 use road::Road;
@@ -26,7 +27,19 @@ fn judge_rows(
     let places = n + 1;
     let capacity = r.capacity;
     let mut road = r;
-    let mut u = s;
+    let mut held = s.held;
+    let mut queue = s.queue;
+    let mut cumulative = s.cumulative;
+    let mut l = Ledger {
+        done: s.done,
+        gate_time: s.gate_time,
+        road_time: s.road_time,
+        ramp_time: s.ramp_time,
+        gate_queue: s.gate_queue,
+        gate_cumulative: s.gate_cumulative,
+    };
+    let mut row = [0u32; 129];
+    let mut room = [0u32; 64];
     let mut k = 0;
     let mut from = 0;
     while k < steps {
@@ -34,19 +47,44 @@ fn judge_rows(
             let left = lanes::step_capacities(capacity, table, n, k);
             road.capacity = left;
         }
-        let row = fields::row(bytes, n, k);
+        fields::read_row(bytes, n, k, &mut row);
         let end = from + places;
         let outflows = &schedule[from..end];
-        let q = verdict::verdict(road, u, &row[..numbers], outflows);
+        let q = verdict::lent::verdict(
+            road.n,
+            road.gate_capacity,
+            &road.speed,
+            &road.wave,
+            &road.share,
+            &road.jam,
+            &road.capacity,
+            l.gate_queue,
+            l.gate_cumulative,
+            &held,
+            &queue,
+            &cumulative,
+            &row[..numbers],
+            &mut room,
+            outflows,
+        );
         let refusal = q.refusal;
         if refusal.number() != 0 {
-            return Ended::at_step(refusal, k, q.place, r, u);
+            return Ended::at_step(refusal, k, q.place, r, l.state(held, queue, cumulative));
         }
-        u = stepping::next_by(road, u, &row[..numbers], outflows);
+        l = moves::lent::advance(
+            road.n,
+            &road.share,
+            l,
+            &mut held,
+            &mut queue,
+            &mut cumulative,
+            &row[..numbers],
+            outflows,
+        );
         from = end;
         k += 1;
     }
-    Ended::complete(r, u)
+    Ended::complete(r, l.state(held, queue, cumulative))
 }
 
 // Judges a proposed schedule under a table of lanes: the refusals of reading, 17, 18, 12, then 9 or 10 and 13 or 14 step by step.

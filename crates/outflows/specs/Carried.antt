@@ -2,11 +2,11 @@
 use mathlib.Core.Path.{_≡_, refl, sym, _∙_}
 use Prim.Native.Nat.{ℕ, _+_, _≤_, _<_}
 use native.Mathlib.Omega.{arith}
-use Rattle.flow.specs.Flow.{whole, gateDemandOf, demandOf, supplyOf}
+use Rattle.flow.specs.Flow.{whole, gateDemandOf, demandOf}
 use Rattle.road.specs.declared.Road.{Road}
 use Rattle.road.specs.declared.State.{State}
 use Rattle.numbers.specs.Lists.{at}
-use Rattle.model.specs.Places.{capacityAt, supplyAt, demandAt, shareAt, cumulativeAt}
+use Rattle.model.specs.Places.{capacityAt, demandAt, shareAt, cumulativeAt}
 use Rattle.model.specs.RulesLaws.{share-cell, cumulative-cell, demand-cell}
 
 pub record Carried (r : Road) (s : State) (share cumulative demand i : ℕ) : Type 0 where
@@ -32,9 +32,3 @@ carried-cell r s i demand l e = record {
   cumulatives = sym (cumulative-cell s i);
   demands = e ∙ sym (demand-cell r s i);
 }
-
--- the supply that the code computes for the cell at i
-pub supply-is : (r : Road) (s : State) (i supply : ℕ) → supply ≡ supplyOf (at (r .wave) i) (at (r .capacity) i) (at (r .jam) i) (at (s .held) i)
-    → supply ≡ supplyAt r s i
-unfolding capacityAt
-supply-is r s i supply e = e

@@ -7,23 +7,23 @@ use native.Mathlib.Nat.{eq-or-lt-of-le}
 use native.Mathlib.Omega.{arith}
 use borrow.Author.Count.{below-more, below-none}
 use lib.ListN.{length}
-use Rattle.flow.specs.Flow.{whole, gateDemandOf, demandOf, supplyOf, roomOf, enteringOf}
+use Rattle.flow.specs.Flow.{whole, gateDemandOf, demandOf, enteringOf}
 use Rattle.road.specs.declared.Road.{Road}
 use Rattle.road.specs.declared.State.{State}
+use Rattle.road.specs.Road.{mostCells}
 use Rattle.numbers.specs.Lists.{at}
-use Rattle.limits.specs.LimitsLaws.{RoadOk}
-use Rattle.model.specs.Places.{releaseAt, demandAt}
+use Rattle.model.specs.Places.{roomAt, demandAt}
 use Rattle.model.specs.Step.{Fault, fault, releasesOf}
 use Rattle.model.specs.Verdict.{outflowFault, outflowFaultAt, outflowsFaultOf, verdictOf}
 use Rattle.model.specs.StepLaws.{number-of, lowest-none, lowest-at}
 use Rattle.model.specs.VerdictLaws.{fault-before-last, last-passes, last-above-demand, verdict-releases, verdict-outflows}
-use Rattle.outflows.specs.Carried.{Carried, carried-gate, carried-cell, supply-is}
+use Rattle.outflows.specs.Carried.{Carried, carried-gate, carried-cell}
 
--- a road within its limits, the row of a step and a row of outflows, gate first
-pub record Proposed (r : Road) (row y : List ℕ) : Type 0 where
-  pub road : RoadOk r
-  pub numbers : length row ≡ 1 + 2 * r .n
-  pub places : length y ≡ r .n + 1
+-- of a road of n cells the row of a step and a row of outflows, gate first
+pub record Proposed (n : ℕ) (row y : List ℕ) : Type 0 where
+  pub cells : n ≤ mostCells
+  pub numbers : length row ≡ 1 + 2 * n
+  pub places : length y ≡ n + 1
 
 -- the loop over the places: the outflows of the first i obey
 pub record Passed (r : Road) (s : State) (row y : List ℕ) (share cumulative demand i : ℕ) : Type 0 where
@@ -34,11 +34,9 @@ pub record Passed (r : Road) (s : State) (row y : List ℕ) (share cumulative de
 pub record Turn (r : Road) (s : State) (row y : List ℕ) (share cumulative demand i m : ℕ) : Type 0 where
   pub passed : Passed r s row y share cumulative demand i
   pub left : i < r .n
-  pub supply : ℕ
   pub room : ℕ
   pub entering : ℕ
-  pub supplied : supply ≡ supplyOf (at (r .wave) i) (at (r .capacity) i) (at (r .jam) i) (at (s .held) i)
-  pub leaves-room : room ≡ roomOf supply (releaseAt row i)
+  pub leaves : room ≡ roomAt r s row i
   pub enters : entering ≡ enteringOf share cumulative (at y i)
   pub number : m ≡ outflowFault (at y i) demand entering room
 
@@ -52,7 +50,7 @@ module _ {r : Road} {s : State} {row y : List ℕ} where
     found =
         let k = t .passed .carried in
         fault-before-last r s row y i (t .left)
-        ∙ sym (rw (t .enters, t .leaves-room, supply-is r s i (t .supply) (t .supplied), k .shares, k .cumulatives, k .demands) at (t .number))
+        ∙ sym (rw (t .enters, t .leaves, k .shares, k .cumulatives, k .demands) at (t .number))
 
     pub passed-more : {next : ℕ} → m ≡ 0 → next ≡ demandOf (at (r .speed) i) (at (r .capacity) i) (at (s .held) i)
         → Passed r s row y (at (r .share) i) (at (s .cumulative) i) next (i + 1)

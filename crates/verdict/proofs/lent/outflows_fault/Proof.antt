@@ -1,0 +1,192 @@
+-- `verdict::lent::outflows_fault` meets its contract. The invariant: the outflows of the i places passed obey. Assumes nothing.
+use mathlib.Core.Path.{sym, _∙_}
+use mathlib.Core.List.{List}
+use Prim.Native.Nat.{ℕ, _-_}
+use Rattle.road.specs.declared.Road.{Road}
+use Rattle.road.specs.declared.State.{State}
+use Rattle.road.specs.Refusals.{refusalNumber}
+use Rattle.numbers.specs.Lists.{at}
+use Rattle.columns.specs.declared.Ledger.{Ledger}
+use Rattle.columns.specs.Columns.{sending, gated, stateOf}
+use Rattle.outflows.specs.Rooms.{Rooms}
+use Rattle.verdict.specs.Proposed.{Passed, Turn, passed-none, passed-more, passed-fault, passed-last, passed-end}
+use borrow.Author.Needs.{needs}
+use native.Mathlib.Omega.{arith}
+use Rattle.verdict.proofs.lent.outflows_fault.Statement.{statement}
+use Rattle.verdict.proofs.lent.outflows_fault.Tie as tie
+
+abbrev Inv-loop : tie.InvT-loop
+Inv-loop n gate-capacity speed share capacity gate-queue gate-cumulative held cumulative room y part₀ before₀ demand₀ i₀ part before demand i =
+    (r : Road) (l : Ledger) (queue row : List ℕ) →
+    let q = sending r n gate-capacity speed share capacity in
+    let s = stateOf (gated l gate-queue gate-cumulative) held queue cumulative in
+    Rooms q s row room → Passed q s row y part before demand i
+
+abbrev μ-loop : tie.MeasureT-loop
+μ-loop n gate-capacity speed share capacity gate-queue gate-cumulative held cumulative room y part₀ before₀ demand₀ i₀ part before demand i = n - i
+
+-- places of the code: the arguments from the loop's place, a turn's start and what enters from the refusal, and the refusal from the turn's end, by its
+-- test
+abbrev A : tie.At-loop Inv-loop μ-loop → tie.Start Inv-loop μ-loop
+A c = c .before .before .before
+
+abbrev Entering : tie.After-outflow-refusal Inv-loop μ-loop → tie.After-entering Inv-loop μ-loop
+Entering c = c .before .before
+
+abbrev In : tie.After-outflow-refusal Inv-loop μ-loop → tie.In-loop Inv-loop μ-loop
+In c = Entering c .before .before
+
+abbrev Else : tie.After-demand Inv-loop μ-loop → tie.Else1 Inv-loop μ-loop
+Else c = let a = c .before .before .before in a .before .before .before
+
+abbrev Refusal : tie.After-demand Inv-loop μ-loop → tie.After-outflow-refusal Inv-loop μ-loop
+Refusal c = Else c .before .before
+
+-- any road and any state with the columns that were lent
+abbrev On : tie.Start Inv-loop μ-loop → Road → Road
+On c r =
+    let a = c .args in
+    sending r (a .n) (a .gate-capacity) (a .speed .now) (a .share .now) (a .capacity .now)
+
+abbrev From : tie.Start Inv-loop μ-loop → Ledger → List ℕ → State
+From c l queue = let a = c .args in stateOf (gated l (a .gate-queue) (a .gate-cumulative)) (a .held .now) queue (a .cumulative .now)
+
+-- what a turn finds on it, by its rooms
+turn : (c : tie.After-outflow-refusal Inv-loop μ-loop) (r : Road) (l : Ledger) (queue row : List ℕ) →
+    let p = In c .before in
+    let a = A p .args in
+    let x = p .loop in
+    Rooms (On (A p) r) (From (A p) l queue) row (a .room .now)
+    → Turn (On (A p) r) (From (A p) l queue) row (a .y .now) (x .part) (x .before) (x .demand) (x .i) (refusalNumber (c .outflow-refusal .result))
+turn c r l queue row rooms =
+    let p = In c .before in
+    record {
+      passed = p .loop .inv r l queue row rooms;
+      left = In c .loop-test .taken;
+      room = at (A p .args .room .now) (p .loop .i);
+      entering = Entering c .entering .result;
+      leaves = rooms (p .loop .i) (In c .loop-test .taken);
+      enters = Entering c .entering .ensures;
+      number = c .outflow-refusal .ensures;
+    }
+
+gate-demand-requires : tie.Need-gate-demand-requires Inv-loop μ-loop
+gate-demand-requires c κs = search needs
+
+loop-holds : tie.Need-loop-holds Inv-loop μ-loop
+loop-holds c r l queue row rooms = passed-none (c .gate-demand .ensures)
+
+mul-outflow : tie.Need-mul-outflow Inv-loop μ-loop
+mul-outflow c = search needs
+
+shared-slice-read-outflow : tie.Need-shared-slice-read-outflow Inv-loop μ-loop
+shared-slice-read-outflow c = search needs
+
+entering-requires : tie.Need-entering-requires Inv-loop μ-loop
+entering-requires c κs = search needs
+
+mul-outflow-refusal : tie.Need-mul-outflow-refusal Inv-loop μ-loop
+mul-outflow-refusal c = search needs
+
+element-copy-out-outflow-refusal : tie.Need-element-copy-out-outflow-refusal Inv-loop μ-loop
+element-copy-out-outflow-refusal c = search needs
+
+outflow-refusal-requires : tie.Need-outflow-refusal-requires Inv-loop μ-loop
+outflow-refusal-requires c κs = search needs
+
+number-requires : tie.Need-number-requires Inv-loop μ-loop
+number-requires c κs = search needs
+
+returns : tie.Need-returns Inv-loop μ-loop
+returns c r l queue row rooms = let m = c .before in passed-fault (turn (m .before) r l queue row rooms) (λ z. c .if1 .taken (m .number .ensures ∙ z))
+
+mul-part : tie.Need-mul-part Inv-loop μ-loop
+mul-part c = search needs
+
+element-copy-out-part : tie.Need-element-copy-out-part Inv-loop μ-loop
+element-copy-out-part c = search needs
+
+mul-before : tie.Need-mul-before Inv-loop μ-loop
+mul-before c = search needs
+
+element-copy-out-before : tie.Need-element-copy-out-before Inv-loop μ-loop
+element-copy-out-before c = search needs
+
+mul-demand : tie.Need-mul-demand Inv-loop μ-loop
+mul-demand c = search needs
+
+element-copy-out-demand : tie.Need-element-copy-out-demand Inv-loop μ-loop
+element-copy-out-demand c = search needs
+
+mul-demand-2 : tie.Need-mul-demand-2 Inv-loop μ-loop
+mul-demand-2 c = search needs
+
+element-copy-out-demand-2 : tie.Need-element-copy-out-demand-2 Inv-loop μ-loop
+element-copy-out-demand-2 c = search needs
+
+mul-demand-3 : tie.Need-mul-demand-3 Inv-loop μ-loop
+mul-demand-3 c = search needs
+
+element-copy-out-demand-3 : tie.Need-element-copy-out-demand-3 Inv-loop μ-loop
+element-copy-out-demand-3 c = search needs
+
+demand-requires : tie.Need-demand-requires Inv-loop μ-loop
+demand-requires c κs = search needs
+
+add-i : tie.Need-add-i Inv-loop μ-loop
+add-i c = search needs
+
+loop-less : tie.Need-loop-less Inv-loop μ-loop
+loop-less c = search needs
+
+loop-again : tie.Need-loop-again Inv-loop μ-loop
+loop-again c r l queue row rooms =
+    let i = Else c in
+    passed-more (turn (Refusal c) r l queue row rooms) (sym (i .before .number .ensures) ∙ i .if1 .left) (c .demand .ensures)
+
+mul-if2 : tie.Need-mul-if2 Inv-loop μ-loop
+mul-if2 c = search needs
+
+shared-slice-read-if2 : tie.Need-shared-slice-read-if2 Inv-loop μ-loop
+shared-slice-read-if2 c = search needs
+
+returns-2 : tie.Need-returns-2 Inv-loop μ-loop
+returns-2 c r l queue row rooms = let o = c .before .before in passed-last (o .before .loop .inv r l queue row rooms) (o .loop-test .left) (omega arith)
+
+returns-3 : tie.Need-returns-3 Inv-loop μ-loop
+returns-3 c r l queue row rooms = let o = c .before .before in passed-end (o .before .loop .inv r l queue row rooms) (o .loop-test .left) (omega arith)
+
+pub outflows-fault-spec : {M : Type 1} → statement M
+outflows-fault-spec =
+    tie.close
+    (tie.spec
+    Inv-loop
+    μ-loop
+    gate-demand-requires
+    loop-holds
+    mul-outflow
+    shared-slice-read-outflow
+    entering-requires
+    mul-outflow-refusal
+    element-copy-out-outflow-refusal
+    outflow-refusal-requires
+    number-requires
+    returns
+    mul-part
+    element-copy-out-part
+    mul-before
+    element-copy-out-before
+    mul-demand
+    element-copy-out-demand
+    mul-demand-2
+    element-copy-out-demand-2
+    mul-demand-3
+    element-copy-out-demand-3
+    demand-requires
+    add-i
+    loop-less
+    loop-again
+    mul-if2
+    shared-slice-read-if2
+    returns-2
+    returns-3)

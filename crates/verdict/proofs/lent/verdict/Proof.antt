@@ -1,0 +1,64 @@
+-- `verdict::lent::verdict` meets its contract. Assumes nothing.
+use mathlib.Core.Path.{sym, _∙_}
+use Rattle.road.specs.declared.Road.{Road}
+use Rattle.road.specs.declared.State.{State}
+use Rattle.columns.specs.declared.Ledger.{Ledger}
+use Rattle.columns.specs.Columns.{roadOf, gated, stateOf}
+use Rattle.releases.specs.Faults.{faultOf}
+use Rattle.verdict.specs.Proposed.{Looked, verdict-fault, verdict-end}
+use borrow.Author.Needs.{needs}
+use Rattle.verdict.proofs.lent.verdict.Statement.{statement}
+use Rattle.verdict.proofs.lent.verdict.Tie as tie
+
+-- the arguments, from the number of the releases' refusal
+abbrev A : tie.After-number → tie.Start
+A c = c .before .before .before .before .before
+
+-- any road and any state with the columns that were lent
+abbrev On : tie.Start → Road → Road
+On c r =
+    let a = c .args in
+    roadOf r (a .n) (a .gate-capacity) (a .speed .now) (a .wave .now) (a .share .now) (a .jam .now) (a .capacity .now)
+
+abbrev From : tie.Start → Ledger → State
+From c l = let a = c .args in stateOf (gated l (a .gate-queue) (a .gate-cumulative)) (a .held .now) (a .queue .now) (a .cumulative .now)
+
+looked : (c : tie.After-number) (r : Road) (l : Ledger) →
+    let s = A c in
+    Looked (On s r) (From s l) (s .args .row .now) (faultOf (c .before .releases .result)) (c .number .result)
+looked c r l =
+    let a = A c .args in
+    record { found = c .before .releases .ensures .0 (On (A c) r) (gated l (a .gate-queue) (a .gate-cumulative)) (a .cumulative .now); number = c .number .ensures }
+
+releases-requires : tie.Need-releases-requires
+releases-requires c κs = search needs
+
+number-requires : tie.Need-number-requires
+number-requires c κs = search needs
+
+returns : tie.Need-returns
+returns c =
+    let m = c .before in
+    (λ r l. verdict-fault (A m .args .y .now) (looked m r l) (c .if1 .taken), m .before .releases .ensures .1 .1)
+
+outflows-fault-requires : tie.Need-outflows-fault-requires
+outflows-fault-requires c κs = search needs
+
+returns-2 : tie.Need-returns-2
+returns-2 c =
+    let p = c .before .before in
+    let m = p .before in
+    let a = A m .args in
+    let e = m .before .releases .ensures .1 in (
+      λ r l.
+          let on = On (A m) r in
+          let gate = gated l (a .gate-queue) (a .gate-cumulative) in
+          let rooms = e .0 on gate (a .cumulative .now) (sym (m .number .ensures) ∙ p .if1 .left) in
+          verdict-end (a .y .now) (looked m r l) (p .if1 .left) (c .outflows-fault .ensures on gate (a .queue .now) (a .row .now) rooms),
+      e .1,
+    )
+
+pub verdict-spec : {M : Type 1} → statement M
+verdict-spec =
+    tie.close
+    (tie.spec releases-requires number-requires returns outflows-fault-requires returns-2)

@@ -1,0 +1,112 @@
+// What judging says of one row, on a road and a state that are lent column by column, so that judging copies neither.
+use releases::Fault;
+use road::Refusal;
+use road::Road;
+ghost use mathlib.Core.Path.{_≡_};
+ghost use mathlib.Core.List.{List};
+ghost use Prim.Native.Nat.{ℕ, _+_, _≤_};
+ghost use lib.ListN.{length};
+ghost use Rattle.road.specs.declared.Road.{Road};
+ghost use Rattle.model.specs.Verdict.{outflowsFaultOf, verdictOf};
+ghost use Rattle.columns.specs.declared.Ledger.{Ledger};
+ghost use Rattle.columns.specs.Columns.{roadOf, sending, gated, stateOf};
+ghost use Rattle.outflows.specs.Rooms.{Rooms};
+ghost use Rattle.releases.specs.Faults.{faultOf};
+ghost use Rattle.verdict.specs.Proposed.{Proposed};
+
+// The lowest place whose outflow does not obey, with its refusal, where `room` has the room of each cell. No cell follows the last
+// place: only its demand is looked at.
+fn outflows_fault<'a, 'b>(
+    n: usize,
+    gate_capacity: u32,
+    speed: &'a [u16; 64],
+    share: &'a [u16; 64],
+    capacity: &'a [u32; 64],
+    gate_queue: u32,
+    gate_cumulative: u32,
+    held: &'b [u32; 64],
+    cumulative: &'b [u32; 64],
+    room: &[u32; 64],
+    y: &[u32],
+) -> Fault
+    requires { ⌜ (n ≤ 64) × (length (now y) ≡ n + 1) ⌝ }
+    ensures { λ q. ⌜ ((r : Road) (l : Ledger) (queue row : List ℕ)
+        → Rooms (sending r n «gate_capacity» (now (speed .entry)) (now (share .entry)) (now (capacity .entry)))
+        (stateOf (gated l «gate_queue» «gate_cumulative») (now (held .entry)) queue (now (cumulative .entry))) row (now (room .entry))
+        → faultOf q ≡ outflowsFaultOf (sending r n «gate_capacity» (now (speed .entry)) (now (share .entry)) (now (capacity .entry)))
+        (stateOf (gated l «gate_queue» «gate_cumulative») (now (held .entry)) queue (now (cumulative .entry))) row (now (y .entry))) ⌝ }
+{
+    let mut part = Road::WHOLE;
+    let mut before = gate_cumulative;
+    let mut demand = flow::gate_demand(gate_capacity, gate_queue);
+    let mut i = 0;
+    while i < n {
+        let outflow = y[i];
+        let entering = flow::entering(part, before, outflow);
+        let refusal = crate::outflow_refusal(outflow, demand, entering, room[i]);
+        if refusal.number() != 0 {
+            return Fault {
+                refusal: refusal,
+                place: i,
+            };
+        }
+        part = share[i];
+        before = cumulative[i];
+        demand = flow::demand(speed[i], capacity[i], held[i]);
+        i += 1;
+    }
+    if demand < y[n] {
+        return Fault {
+            refusal: Refusal::OutflowAboveDemand,
+            place: n,
+        };
+    }
+    Fault {
+        refusal: Refusal::None,
+        place: 0,
+    }
+}
+
+// The releases of the row, then the outflows by the rooms that the releases leave, which `room` is lent for.
+pub fn verdict<'a, 'b>(
+    n: usize,
+    gate_capacity: u32,
+    speed: &'a [u16; 64],
+    wave: &'a [u16; 64],
+    share: &'a [u16; 64],
+    jam: &'a [u32; 64],
+    capacity: &'a [u32; 64],
+    gate_queue: u32,
+    gate_cumulative: u32,
+    held: &'b [u32; 64],
+    queue: &'b [u32; 64],
+    cumulative: &'b [u32; 64],
+    row: &[u32],
+    room: &mut [u32; 64],
+    y: &[u32],
+) -> Fault
+    requires { ⌜ (Proposed n (now row) (now y)) × (length (now room) ≡ 64) ⌝ }
+    ensures fault { λ q. ⌜ ((r : Road) (l : Ledger) → faultOf q
+        ≡ verdictOf (roadOf r n «gate_capacity» (now (speed .entry)) (now (wave .entry)) (now (share .entry)) (now (jam .entry)) (now (capacity .entry)))
+        (stateOf (gated l «gate_queue» «gate_cumulative») (now (held .entry)) (now (queue .entry)) (now (cumulative .entry))) (now (row .entry)) (now (y .entry))) ⌝ }
+    ensures length { λ q. ⌜ length (now (room .exit)) ≡ 64 ⌝ }
+{
+    let q = releases::lent::releases(n, wave, jam, capacity, held, queue, row, room);
+    let refusal = q.refusal;
+    if refusal.number() != 0 {
+        return q;
+    }
+    outflows_fault(
+        n,
+        gate_capacity,
+        speed,
+        share,
+        capacity,
+        gate_queue,
+        gate_cumulative,
+        held,
+        cumulative,
+        room,
+        y,
+    )
+}
