@@ -3,7 +3,7 @@
 use crate::fill;
 use crate::model::Road;
 use crate::print;
-use crate::trials::{self, frame::Case};
+use crate::trials::{self, case::Case};
 use std::collections::BTreeSet;
 use std::io::{ErrorKind, Write};
 use std::process::{Command, Output, Stdio};

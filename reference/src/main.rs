@@ -9,17 +9,13 @@
 //!     reference judge RECORD SCHEDULE       a schedule's numbers judged
 //!     reference schedule < RECORD           a run's own rows as a schedule
 //!     reference fill RECORD LAWS [LANES]    the record filled by meter laws
-//!     reference trials-input > FRAMES       cases for any implementation
-//!     reference trials-output < FRAMES      what it must print for them
 //!     reference compare PROGRAM RECORD...   a program's print beside its own,
 //!                                           on these and on the trials' records
 //!     reference ctm-records DIR             those records and their prints
 
 use reference::answer::Answer;
 use reference::model::Road;
-use reference::{
-    as_text, compare, fill, judge, lanes_text, laws, print, record, refusals, text, trials,
-};
+use reference::{as_text, compare, fill, judge, lanes_text, laws, print, record, refusals, text};
 use std::fs::{self, File};
 use std::io::{self, Read, Write};
 use std::os::unix::fs::MetadataExt;
@@ -33,8 +29,6 @@ const USAGE: &str = "usage:
   reference judge RECORD SCHEDULE
   reference schedule < RECORD
   reference fill RECORD LAWS [LANES]
-  reference trials-input > FRAMES
-  reference trials-output < FRAMES
   reference compare PROGRAM RECORD...
   reference ctm-records DIR
 ";
@@ -44,8 +38,6 @@ const USAGE: &str = "usage:
 const RECORD_BYTES: u64 = Road::MAX_BYTES as u64 + 1;
 /// The most that a text may have.
 const TEXT_BYTES: u64 = 1 << 20;
-/// The most that the frames of trials may have.
-const FRAMES_BYTES: u64 = 1 << 26;
 
 /// Bytes to write, or what went wrong.
 type Made = Result<Vec<u8>, String>;
@@ -65,10 +57,6 @@ fn main() -> ExitCode {
         ["schedule"] => convert(&[], read_record, print_schedule),
         ["fill", record, laws] => fill_files(record, laws, None).and_then(print_out),
         ["fill", record, laws, lanes] => fill_files(record, laws, Some(lanes)).and_then(print_out),
-        ["trials-input"] => print_out(trials::input()),
-        ["trials-output"] => convert(&[], read_frames, |frames| {
-            trials::output(frames).map(String::into_bytes)
-        }),
         ["compare", program, ref records @ ..] => compare_program(program, records),
         ["ctm-records", dir] => write_records(Path::new(dir)),
         _ => {
@@ -227,22 +215,12 @@ fn read_record(name: Option<&str>) -> Made {
     read_some(name, RECORD_BYTES)
 }
 
-/// A text whole.
+/// A text whole, if it isn't too long.
 fn read_text(name: Option<&str>) -> Made {
-    read_whole(name, TEXT_BYTES)
-}
-
-/// The frames of trials whole.
-fn read_frames(name: Option<&str>) -> Made {
-    read_whole(name, FRAMES_BYTES)
-}
-
-/// All bytes of a file or of standard input, if they aren't too many.
-fn read_whole(name: Option<&str>, most: u64) -> Made {
-    let bytes = read_some(name, most + 1)?;
-    if bytes.len() as u64 > most {
+    let bytes = read_some(name, TEXT_BYTES + 1)?;
+    if bytes.len() as u64 > TEXT_BYTES {
         let name = name.unwrap_or("standard input");
-        return Err(format!("{name}: more than {most} bytes"));
+        return Err(format!("{name}: more than {TEXT_BYTES} bytes"));
     }
     Ok(bytes)
 }

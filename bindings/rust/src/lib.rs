@@ -1,7 +1,31 @@
 //! Safe calls of the proved freeway engine. Counts are in parts, thousandths of a vehicle; times in part-steps.
 //!
 //! Each call passes slices whole, so pointer, count, alignment and the borrows are Rust's own; the engine asks nothing more.
+//! No call panics, whatever it is given: an answer holds a refusal's number, and `ok()` makes a [`Result`] of it.
+//!
+//! ```
+//! let record = std::fs::read("../../examples/printed-run.rec")?;
+//! let run = nobyaluk::run(&record, &[])?;
+//! assert_eq!((run.ended.total, run.ended.exits), (33_098, 3_701));
+//!
+//! // a plan that holds everyone back obeys the rules, and costs more
+//! let plan = vec![0; run.outflow.len()];
+//! let judged = nobyaluk::judge(&record, &[], &plan).ok()?;
+//! assert_eq!(judged.total, 40_500);
+//!
+//! // a plan that lets too much in doesn't, and is told where
+//! let mut plan = run.outflow.clone();
+//! plan[4] = 934;
+//! let refused = nobyaluk::judge(&record, &[], &plan).ok().unwrap_err();
+//! assert_eq!(refused.to_string(), "refused 14: step 1, place 1: an outflow that lets too much into the next cell");
+//! # Ok::<(), Box<dyn std::error::Error>>(())
+//! ```
 
+mod refused;
+pub use refused::Refused;
+
+/// Of the structs and arguments below; [`version`] gives the linked library's.
+pub const VERSION: u32 = 1;
 /// Limits of a road and its record.
 pub const CELLS: usize = 64;
 pub const STEPS: usize = 1_440;
@@ -158,6 +182,7 @@ impl Law {
 mod raw {
     use super::{Ended, Lanes, Reading, Road, Start, State, Stepped, Weighed, Weights, Written};
     extern "C" {
+        pub fn nobyaluk_version() -> u32;
         pub fn nobyaluk_read(record: *const u8, bytes: usize) -> Reading;
         pub fn nobyaluk_run(
             record: *const u8,
@@ -232,11 +257,27 @@ mod raw {
             numbers: usize,
             lanes: Lanes,
         ) -> Stepped;
+        pub fn nobyaluk_weighted(road: Road, state: State, weights: Weights) -> u64;
         pub fn nobyaluk_demand(speed: u16, capacity: u32, held: u32) -> u32;
         pub fn nobyaluk_supply(wave: u16, capacity: u32, jam: u32, held: u32) -> u32;
         pub fn nobyaluk_outflow(share: u16, cumulative: u32, room: u32, demand: u32) -> u32;
         pub fn nobyaluk_open_capacity(capacity: u32, built: u8, usable: u8) -> u32;
+        pub fn nobyaluk_wish(
+            kind: u8,
+            first: f64,
+            second: f64,
+            third: f64,
+            last: u32,
+            entered: u32,
+            held: u32,
+        ) -> f64;
+        pub fn nobyaluk_release(wish: f64, cap: u32) -> u32;
     }
+}
+
+/// The linked library's [`VERSION`].
+pub fn version() -> u32 {
+    unsafe { raw::nobyaluk_version() }
 }
 
 /// Reads a record.
@@ -376,14 +417,22 @@ pub fn step(road: Road, state: State, row: &[u32], lanes: Lanes) -> Stepped {
     unsafe { raw::nobyaluk_step(road, state, row.as_ptr(), row.len(), lanes) }
 }
 
+/// What is present in any road and state, each place and ramp queue times its weight.
+pub fn weighted(road: Road, state: State, weights: Weights) -> u64 {
+    unsafe { raw::nobyaluk_weighted(road, state, weights) }
+}
+
+/// What a cell can send in a step.
 pub fn demand(speed: u16, capacity: u32, held: u32) -> u32 {
     unsafe { raw::nobyaluk_demand(speed, capacity, held) }
 }
 
+/// What a cell can take in a step.
 pub fn supply(wave: u16, capacity: u32, jam: u32, held: u32) -> u32 {
     unsafe { raw::nobyaluk_supply(wave, capacity, jam, held) }
 }
 
+/// The greatest outflow within the demand whose onward part fits the room.
 pub fn outflow(share: u16, cumulative: u32, room: u32, demand: u32) -> u32 {
     unsafe { raw::nobyaluk_outflow(share, cumulative, room, demand) }
 }
@@ -392,43 +441,16 @@ pub fn open_capacity(capacity: u32, built: u8, usable: u8) -> u32 {
     unsafe { raw::nobyaluk_open_capacity(capacity, built, usable) }
 }
 
-/// A refusal by its number, with step and place (0 where none is named).
-#[derive(Clone, Copy, Debug, PartialEq, Eq)]
-pub struct Refused {
-    pub number: u64,
-    pub step: u64,
-    pub place: u64,
+/// What a law wishes to release, after the last step's release and its entry from upstream, with so much held.
+pub fn wish(law: Law, last: u32, entered: u32, held: u32) -> f64 {
+    let (kind, [first, second, third]) = law.flat();
+    unsafe { raw::nobyaluk_wish(kind, first, second, third, last, entered, held) }
 }
 
-/// The words of the refusals: number, what the place is, the words and who says them, between tabs.
-const REFUSALS: &str = include_str!("../../../docs/refusals.tsv");
-
-impl Refused {
-    /// What the number means.
-    pub fn words(&self) -> &'static str {
-        REFUSALS
-            .lines()
-            .map(|line| line.split('\t'))
-            .find_map(|mut columns| {
-                let number: u64 = columns.next()?.parse().ok()?;
-                (number == self.number).then(|| columns.nth(1))?
-            })
-            .unwrap_or("no refusal has this number")
-    }
+/// The greatest whole number up to the cap that is not above a wish.
+pub fn release(wish: f64, cap: u32) -> u32 {
+    unsafe { raw::nobyaluk_release(wish, cap) }
 }
-
-impl std::fmt::Display for Refused {
-    fn fmt(&self, f: &mut std::fmt::Formatter<'_>) -> std::fmt::Result {
-        let Refused {
-            number,
-            step,
-            place,
-        } = self;
-        write!(f, "refused {number} {step} {place}: {}", self.words())
-    }
-}
-
-impl std::error::Error for Refused {}
 
 /// A run without refusal, with its tables: one row a step, n + 1 numbers a row, gate first.
 #[derive(Clone, Debug)]
@@ -444,14 +466,7 @@ pub fn run(record: &[u8], lanes: &[u8]) -> Result<Run, Refused> {
     let reading = read(record);
     let size = reading.steps as usize * (reading.road.n + 1);
     let mut outflow = vec![0; size];
-    let ended = run_into(record, lanes, &mut outflow);
-    if ended.number != 0 {
-        return Err(Refused {
-            number: ended.number,
-            step: ended.step,
-            place: ended.place,
-        });
-    }
+    let ended = run_into(record, lanes, &mut outflow).ok()?;
     let (mut held, mut queue) = (vec![0; size], vec![0; size]);
     history_into(record, lanes, &outflow, &mut held, &mut queue);
     Ok(Run {

@@ -1,6 +1,6 @@
 //! The cases in their order, as the groups add them.
 
-use super::frame::{
+use super::case::{
     Case, FillInput, LeafInput, PresentInput, StepInput, WeighInput, WriteInput, MAX_LANES,
     MAX_LIST, MAX_RECORD, MAX_ROW, MAX_ROWS, MAX_TARGET,
 };

@@ -1,9 +1,9 @@
 //! Part of group 8: capacities of open lanes, and steps with lanes closed.
 
+use super::case::StepInput;
 use super::cases::Cases;
 use super::cells::STYLES;
 use super::dice::Dice;
-use super::frame::StepInput;
 use super::samples;
 use super::steps;
 use super::trial;
@@ -135,7 +135,7 @@ fn counts_of_cells(cases: &mut Cases) {
 }
 
 /// A step whose releases mostly fit the lanes left open.
-fn random(k: usize, dice: &mut Dice) -> StepInput {
+pub fn random(k: usize, dice: &mut Dice) -> StepInput {
     let style = STYLES[k % STYLES.len()];
     let mut input = steps::random_step(style, dice);
     let n = input.road.n;

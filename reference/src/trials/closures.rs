@@ -1,10 +1,10 @@
 //! Part of group 8: records run, judged and filled with lanes closed. Refusals
 //! 17 and 18, closures by hand, and random tables.
 
+use super::case::{FillInput, LawInput};
 use super::cases::{own_rows, table_length, Cases};
 use super::cells::{with_ramp, STYLES};
 use super::dice::Dice;
-use super::frame::{FillInput, LawInput};
 use super::judged;
 use super::meters;
 use super::roads;
@@ -190,7 +190,7 @@ fn random_lanes(n: usize, dice: &mut Dice) -> Vec<u8> {
 
 /// A table that closes lanes here and there, a stretch of steps at one cell,
 /// or everything for a while.
-fn random_table(n: usize, steps: usize, dice: &mut Dice) -> Vec<u8> {
+pub fn random_table(n: usize, steps: usize, dice: &mut Dice) -> Vec<u8> {
     let built = random_lanes(n, dice);
     let manner = dice.upto(4);
     let cell = dice.upto(n as u64 - 1) as usize;

@@ -1,7 +1,7 @@
 //! Group 1: the document's printed run and its edges.
 
+use super::case::StepInput;
 use super::cases::Cases;
-use super::frame::StepInput;
 use super::samples::{self, PRINTED_ROWS};
 use crate::draft::Draft;
 

@@ -1,8 +1,8 @@
 //! Part of group 7: the wish of a meter law and its release, at every edge.
 
+use super::case::{LawInput, LeafInput};
 use super::cases::Cases;
 use super::dice::Dice;
-use super::frame::{LawInput, LeafInput};
 
 /// Laws whose numbers have any bits, and laws of common numbers.
 const ANY_BITS: usize = 300;
@@ -179,7 +179,7 @@ fn demand_capacity(cases: &mut Cases) {
 }
 
 /// Any bits in the numbers, any counts.
-fn any_bits(dice: &mut Dice) -> LeafInput {
+pub fn any_bits(dice: &mut Dice) -> LeafInput {
     LeafInput {
         law: LawInput {
             kind: dice.upto(2) as u32,
@@ -193,7 +193,7 @@ fn any_bits(dice: &mut Dice) -> LeafInput {
 }
 
 /// Numbers as on a road, with fractions that no float holds exactly.
-fn common(dice: &mut Dice) -> LeafInput {
+pub fn common(dice: &mut Dice) -> LeafInput {
     let mut number = |most: u64| dice.upto(most * 1_000) as f64 / 1_000.0;
     let numbers = if number(1) < 0.5 {
         [number(2) - 0.5, number(1_000_000) - 100_000.0, 0.0]

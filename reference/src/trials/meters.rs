@@ -1,10 +1,10 @@
 //! Part of group 7: records filled by meter laws. Refusals 1 to 6, 16 and 11,
 //! and random roads.
 
+use super::case::{FillInput, LawInput};
 use super::cases::{table_length, Cases};
 use super::cells::{with_ramp, Style, STYLES};
 use super::dice::Dice;
-use super::frame::{FillInput, LawInput};
 use super::samples;
 use crate::draft::{CellDraft, Draft};
 use crate::lanes_text;
@@ -357,7 +357,7 @@ pub fn common_law(cell: &CellDraft, dice: &mut Dice) -> LawInput {
 }
 
 /// A law of tiny, huge and negative numbers, seldom one that isn't finite.
-fn odd_law(cell: &CellDraft, dice: &mut Dice) -> LawInput {
+pub fn odd_law(cell: &CellDraft, dice: &mut Dice) -> LawInput {
     let odd = [
         0.0,
         -0.0,

@@ -1,14 +1,12 @@
-//! Trials: cases for any implementation, and what it must print for them.
-//!
-//! `input` makes the cases as binary frames; nothing but fixed seeds goes into
-//! them. `output` reads frames and gives the text.
+//! Trials: cases for any implementation. `all_cases` has each edge by hand, and
+//! random roads of fixed seeds; `source` gives cases without end.
 
+pub mod case;
 pub mod cases;
 pub mod dice;
-pub mod digest;
-pub mod frame;
-pub mod report;
+pub mod source;
 
+mod altered;
 mod cells;
 mod closed_steps;
 mod closures;
@@ -16,6 +14,7 @@ mod edges;
 mod judged;
 mod leaves;
 mod meters;
+mod random;
 mod refusals;
 mod roads;
 mod rows;
@@ -28,8 +27,8 @@ mod walk;
 mod weights;
 mod writes;
 
+use case::Case;
 use cases::Cases;
-use frame::Case;
 
 /// All cases, group by group.
 pub fn all_cases() -> Vec<Case> {
@@ -59,25 +58,4 @@ pub fn all_cases() -> Vec<Case> {
     // Group 11: runs weighted, and weighted present.
     weights::add(&mut cases, &trials);
     cases.list
-}
-
-/// The frames of all cases.
-pub fn input() -> Vec<u8> {
-    let mut bytes = Vec::new();
-    for case in all_cases() {
-        case.encode(&mut bytes);
-    }
-    bytes
-}
-
-/// A line a case, and the line of their count.
-pub fn output(input: &[u8]) -> Result<String, String> {
-    let cases = frame::decode(input)?;
-    let mut out = String::new();
-    for case in &cases {
-        out.push_str(&report::line(case).text);
-        out.push('\n');
-    }
-    out.push_str(&format!("cases {}\n", cases.len()));
-    Ok(out)
 }

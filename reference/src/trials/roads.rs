@@ -1,12 +1,12 @@
 //! Group 4: random roads, run.
 
+use super::case::MAX_LIST;
 use super::cases::Cases;
 use super::cells::{Style, STYLES};
 use super::dice::Dice;
-use super::frame::{Case, MAX_LIST};
-use super::report;
 use super::sweep;
 use super::trial::{self, Hold, Plan, Trial};
+use super::walk;
 use crate::draft::Draft;
 use crate::model::Road;
 use crate::record;
@@ -41,12 +41,7 @@ pub fn add(cases: &mut Cases) -> Vec<Trial> {
 fn complete_roads(dice: &mut Dice) -> Vec<Trial> {
     let complete_road = |n: usize| loop {
         let trial = random_road(n, STYLES[n % STYLES.len()], dice);
-        let case = Case::Run {
-            length: trial.table(),
-            lanes: vec![],
-            record: trial.record.clone(),
-        };
-        if report::line(&case).complete {
+        if walk::complete(&trial.record, &trial.lanes) {
             return trial;
         }
     };
@@ -69,7 +64,7 @@ fn random_roads(dice: &mut Dice) -> Vec<Trial> {
     trials
 }
 
-fn random_road(n: usize, style: Style, dice: &mut Dice) -> Trial {
+pub fn random_road(n: usize, style: Style, dice: &mut Dice) -> Trial {
     let steps = steps_for(n, dice);
     let plan = Plan {
         style,

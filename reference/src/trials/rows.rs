@@ -1,9 +1,9 @@
 //! Group 10: all rows of a record in one list, of any bytes, n and T, into
 //! lists too short, just long enough and longer.
 
+use super::case::MAX_ROWS;
 use super::cases::Cases;
 use super::dice::Dice;
-use super::frame::MAX_ROWS;
 use super::samples;
 use super::trial::Trial;
 use super::versions;

@@ -5,7 +5,7 @@ use crate::model::{Road, State};
 use crate::record;
 use crate::step;
 
-use super::frame::StepInput;
+use super::case::StepInput;
 
 /// The outflows of the document's printed run.
 pub const PRINTED_ROWS: [u32; 9] = [1500, 934, 1000, 1358, 933, 1000, 1252, 934, 1000];

@@ -1,9 +1,9 @@
 //! Group 3: single steps. Refusals 7 to 10 at their bounds, and random steps.
 
+use super::case::{StepInput, MAX_ROW};
 use super::cases::Cases;
 use super::cells::{Style, STYLES};
 use super::dice::Dice;
-use super::frame::{StepInput, MAX_ROW};
 use super::samples;
 use super::trial;
 use crate::limits;

@@ -1,9 +1,9 @@
 //! Group 9: records of version 2, with a step's seconds. Refusals 1, 2, 3, 19
 //! and 4 in their order, and all that version 1 is tried with.
 
+use super::case::{Case, FillInput, LawInput, WriteInput, MAX_RECORD};
 use super::cases::{table_length, Cases};
 use super::dice::Dice;
-use super::frame::{Case, FillInput, LawInput, WriteInput, MAX_RECORD};
 use super::samples;
 use super::steps;
 use super::trial::Trial;

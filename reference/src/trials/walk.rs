@@ -4,6 +4,7 @@ use crate::judge;
 use crate::lanes;
 use crate::model::{self, Road, State};
 use crate::record;
+use crate::run;
 use crate::step;
 
 /// The steps that a schedule reaches on a record that reading accepts.
@@ -60,4 +61,21 @@ impl Walk {
     pub fn greatest(&self, t: usize) -> Vec<u32> {
         step::greatest_outflows(&self.roads[t], &self.states[t], &self.rows[t])
     }
+}
+
+/// Whether a record runs through, with ramps, releases and places held by supply.
+pub fn complete(record: &[u8], lanes: &[u8]) -> bool {
+    let reading = record::read(record);
+    let mut list = vec![0; reading.steps * (reading.road.n + 1)];
+    if run::run(record, lanes, &mut list).number != 0 {
+        return false;
+    }
+    let walk = Walk::new(record, lanes, &list);
+    let n = walk.road.n;
+    let released = |row: &Vec<u32>| (1..=n).any(|cell| model::release(row, cell) > 0);
+    let held =
+        |t: usize| (0..=n).any(|place| u64::from(list[walk.at(t, place)]) < walk.demand(t, place));
+    walk.road.ramp[..n].contains(&1)
+        && walk.rows.iter().any(released)
+        && (0..walk.steps()).any(held)
 }

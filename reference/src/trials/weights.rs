@@ -1,11 +1,11 @@
 //! Group 11: runs weighted, with every refusal of running, and the weighted
 //! present of any road and state.
 
+use super::case::{PresentInput, WeighInput};
 use super::cases::{table_length, Cases};
 use super::cells::STYLES;
 use super::closures;
 use super::dice::Dice;
-use super::frame::{PresentInput, WeighInput};
 use super::roads;
 use super::samples;
 use super::steps;
@@ -90,7 +90,7 @@ fn falling_soon(n: usize, dice: &mut Dice) -> Weights {
 }
 
 /// In one of several manners.
-fn some(n: usize, dice: &mut Dice) -> Weights {
+pub fn some(n: usize, dice: &mut Dice) -> Weights {
     match dice.upto(6) {
         0 => falling(dice),
         1 => rising(dice),
@@ -356,7 +356,7 @@ fn largest(cases: &mut Cases, dice: &mut Dice) {
 }
 
 /// Anything in a road and a state; the weights are for the caller to set.
-fn anything(n: usize, dice: &mut Dice) -> PresentInput {
+pub fn anything(n: usize, dice: &mut Dice) -> PresentInput {
     let mut road = Road::empty();
     steps::fill_road_past_n(&mut road, dice);
     (road.n, road.gate_capacity) = (n, dice.bits() as u32);

@@ -1,9 +1,9 @@
 //! Group 6: records written, at every bound and at random, and rows' numbers.
 
+use super::case::{WriteInput, MAX_ROWS};
 use super::cases::Cases;
 use super::cells::STYLES;
 use super::dice::Dice;
-use super::frame::{WriteInput, MAX_ROWS};
 use super::samples;
 use super::steps;
 use super::trial;

@@ -8,7 +8,7 @@ use reference::model::Road;
 use reference::record::{read, row, size};
 use reference::run::run as run_under;
 use reference::trials::all_cases;
-use reference::trials::frame::Case;
+use reference::trials::case::Case;
 
 const fn fixed(rate: f64) -> Law {
     Law::Fixed { rate }

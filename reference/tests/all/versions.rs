@@ -7,8 +7,8 @@ use reference::meter::Law;
 use reference::print::printed_run;
 use reference::record::{read, row_numbers, size};
 use reference::step::step as step_under;
-use reference::trials::frame::Case;
-use reference::trials::{all_cases, report};
+use reference::trials::all_cases;
+use reference::trials::case::Case;
 use reference::write::write;
 
 fn timed(seconds: u16) -> Draft {
@@ -239,7 +239,7 @@ fn a_run_does_not_depend_on_version_or_seconds() {
             continue;
         }
         let length = reading.steps * (reading.road.n + 1);
-        let (mut new, mut old) = (report::lent(length), report::lent(length));
+        let (mut new, mut old) = (vec![LENT; length], vec![LENT; length]);
         let mut found = reference::run::run(record, lanes, &mut new);
         let wanted = reference::run::run(&untimed(record), lanes, &mut old);
         (found.road.version, found.road.seconds) = (1, 0);

@@ -1,0 +1,239 @@
+//! The proved engine, through its C boundary.
+
+use crate::freeway::{Ended, Freeway, Laws, Row, Told};
+use reference::answer::Answer;
+use reference::meter::Law;
+use reference::model::{Road, Start, State};
+use reference::record::Reading;
+use reference::step::{Lanes, Stepped};
+use reference::trials::case::LawInput;
+use reference::weigh::Weights;
+use reference::write::Written;
+
+pub struct Engine;
+
+fn refusal(number: u64) -> u32 {
+    u32::try_from(number).expect("a refusal's number is small")
+}
+
+fn road_of(road: nobyaluk::Road) -> Road {
+    Road {
+        n: road.n,
+        version: road.version,
+        seconds: road.seconds,
+        gate_capacity: road.gate_capacity,
+        v: road.speed,
+        w: road.wave,
+        b: road.share,
+        ramp: road.ramp,
+        jam: road.jam,
+        capacity: road.capacity,
+    }
+}
+
+fn road_for(road: &Road) -> nobyaluk::Road {
+    nobyaluk::Road {
+        n: road.n,
+        version: road.version,
+        seconds: road.seconds,
+        gate_capacity: road.gate_capacity,
+        speed: road.v,
+        wave: road.w,
+        share: road.b,
+        ramp: road.ramp,
+        jam: road.jam,
+        capacity: road.capacity,
+    }
+}
+
+fn state_of(state: nobyaluk::State) -> State {
+    State {
+        steps: state.done,
+        gate_time: state.gate_time,
+        road_time: state.road_time,
+        ramp_time: state.ramp_time,
+        gate_queue: state.gate_queue,
+        gate_f: state.gate_cumulative,
+        held: state.held,
+        queue: state.queue,
+        f: state.cumulative,
+    }
+}
+
+fn state_for(state: State) -> nobyaluk::State {
+    nobyaluk::State {
+        done: state.steps,
+        gate_time: state.gate_time,
+        road_time: state.road_time,
+        ramp_time: state.ramp_time,
+        gate_queue: state.gate_queue,
+        gate_cumulative: state.gate_f,
+        held: state.held,
+        queue: state.queue,
+        cumulative: state.f,
+    }
+}
+
+fn law_for(law: &LawInput) -> nobyaluk::Law {
+    match law.law() {
+        Law::Fixed { rate } => nobyaluk::Law::Fixed { rate },
+        Law::Alinea { gain, target } => nobyaluk::Law::Alinea { gain, target },
+        Law::DemandCapacity {
+            capacity,
+            critical,
+            least,
+        } => nobyaluk::Law::DemandCapacity {
+            capacity,
+            critical,
+            least,
+        },
+    }
+}
+
+fn weights_for(weights: &Weights) -> nobyaluk::Weights {
+    nobyaluk::Weights {
+        places: weights.places,
+        ramps: weights.ramps,
+    }
+}
+
+fn ended(ended: nobyaluk::Ended) -> Ended {
+    Ended {
+        answer: Answer {
+            number: refusal(ended.number),
+            step: ended.step as usize,
+            place: ended.place as usize,
+            road: road_of(ended.road),
+            state: state_of(ended.state),
+        },
+        total: ended.total,
+        present: ended.present,
+        exits: ended.exits,
+    }
+}
+
+impl Freeway for Engine {
+    fn read(&self, record: &[u8]) -> Reading {
+        let reading = nobyaluk::read(record);
+        Reading {
+            number: refusal(reading.number),
+            place: reading.place as usize,
+            road: road_of(reading.road),
+            steps: reading.steps as usize,
+            state: state_of(reading.state),
+        }
+    }
+
+    fn run(&self, record: &[u8], lanes: &[u8], list: &mut [u32]) -> Ended {
+        ended(nobyaluk::run_into(record, lanes, list))
+    }
+
+    fn run_weighted(
+        &self,
+        record: &[u8],
+        lanes: &[u8],
+        weights: &Weights,
+        list: &mut [u32],
+    ) -> (Ended, u64) {
+        let weighed = nobyaluk::run_weighted_into(record, lanes, weights_for(weights), list);
+        (ended(weighed.ended), weighed.weighted)
+    }
+
+    fn judge(&self, record: &[u8], lanes: &[u8], schedule: &[u32]) -> Ended {
+        ended(nobyaluk::judge(record, lanes, schedule))
+    }
+
+    fn history(&self, record: &[u8], told: Told) -> Ended {
+        ended(nobyaluk::history_into(
+            record,
+            told.lanes,
+            told.schedule,
+            told.held,
+            told.queue,
+        ))
+    }
+
+    fn fill(&self, record: &mut [u8], laws: &Laws, lanes: &[u8], list: &mut [u32]) -> Ended {
+        let laws = laws.each_ref().map(law_for);
+        ended(nobyaluk::fill_into(record, &laws, lanes, list))
+    }
+
+    fn step(&self, road: Road, state: State, row: &[u32], built: &Lanes, open: &Lanes) -> Stepped {
+        let lanes = nobyaluk::Lanes {
+            built: *built,
+            usable: *open,
+        };
+        let stepped = nobyaluk::step(road_for(&road), state_for(state), row, lanes);
+        Stepped {
+            number: refusal(stepped.number),
+            place: stepped.place as usize,
+            state: state_of(stepped.state),
+        }
+    }
+
+    fn write(
+        &self,
+        road: &Road,
+        steps: usize,
+        start: &Start,
+        rows: &[u32],
+        target: &mut [u8],
+    ) -> Written {
+        let start = nobyaluk::Start {
+            gate_queue: start.gate_queue,
+            held: start.held,
+            queue: start.queue,
+        };
+        let written = nobyaluk::write_into(road_for(road), steps, start, rows, target);
+        Written {
+            number: refusal(written.number),
+            place: written.place as usize,
+            count: written.count as usize,
+        }
+    }
+
+    fn rows(&self, record: &[u8], n: usize, steps: usize, list: &mut [u32]) -> usize {
+        nobyaluk::rows_into(record, n, steps, list)
+    }
+
+    /// The boundary has rows only from the first on: the last of t + 1.
+    fn row(&self, record: &[u8], n: usize, step: usize) -> Row {
+        let mut row = [0; Road::MAX_ROW];
+        if n <= Road::MAX_CELLS && step < Road::MAX_STEPS {
+            let width = 1 + 2 * n;
+            let mut list = vec![0; (step + 1) * width];
+            let count = nobyaluk::rows_into(record, n, step + 1, &mut list);
+            assert_eq!(count, list.len(), "the rows fit the list");
+            row[..width].copy_from_slice(&list[step * width..]);
+        }
+        row
+    }
+
+    fn wish(&self, law: &LawInput, last: u32, entered: u32, held: u32) -> f64 {
+        nobyaluk::wish(law_for(law), last, entered, held)
+    }
+
+    fn release(&self, wish: f64, cap: u32) -> u32 {
+        nobyaluk::release(wish, cap)
+    }
+
+    fn weighted(&self, road: &Road, state: &State, weights: &Weights) -> u64 {
+        nobyaluk::weighted(road_for(road), state_for(*state), weights_for(weights))
+    }
+
+    fn demand(&self, speed: u16, capacity: u32, held: u32) -> u32 {
+        nobyaluk::demand(speed, capacity, held)
+    }
+
+    fn supply(&self, wave: u16, capacity: u32, jam: u32, held: u32) -> u32 {
+        nobyaluk::supply(wave, capacity, jam, held)
+    }
+
+    fn outflow(&self, share: u16, cumulative: u32, room: u32, demand: u32) -> u32 {
+        nobyaluk::outflow(share, cumulative, room, demand)
+    }
+
+    fn open_capacity(&self, capacity: u32, built: u8, open: u8) -> u32 {
+        nobyaluk::open_capacity(capacity, built, open)
+    }
+}

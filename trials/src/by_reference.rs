@@ -1,0 +1,132 @@
+//! The second implementation.
+
+use crate::freeway::{Ended, Freeway, Laws, Row, Told};
+use reference::answer::Answer;
+use reference::model::{self, Road, Start, State};
+use reference::record::{self, Reading};
+use reference::step::{self, Lanes, Stepped};
+use reference::trials::case::LawInput;
+use reference::weigh::{self, Weights};
+use reference::write::{self, Written};
+use reference::{fill, judge, lanes, meter, run};
+
+pub struct Reference;
+
+fn ended(answer: Answer) -> Ended {
+    let Answer { road, state, .. } = &answer;
+    Ended {
+        total: u64::try_from(state.total()).unwrap_or(u64::MAX),
+        present: model::present(road, state),
+        exits: model::exits(road, state),
+        answer,
+    }
+}
+
+impl Freeway for Reference {
+    fn read(&self, bytes: &[u8]) -> Reading {
+        record::read(bytes)
+    }
+
+    fn run(&self, record: &[u8], lanes: &[u8], list: &mut [u32]) -> Ended {
+        ended(run::run(record, lanes, list))
+    }
+
+    fn run_weighted(
+        &self,
+        record: &[u8],
+        lanes: &[u8],
+        weights: &Weights,
+        list: &mut [u32],
+    ) -> (Ended, u64) {
+        let (answer, weighted) = weigh::run(record, lanes, weights, list);
+        (ended(answer), weighted)
+    }
+
+    fn judge(&self, record: &[u8], lanes: &[u8], schedule: &[u32]) -> Ended {
+        ended(judge::judge(record, lanes, schedule))
+    }
+
+    /// After the refusals of reading, 17, 18 and 12 comes 11 for either list.
+    fn history(&self, bytes: &[u8], told: Told) -> Ended {
+        let answer = judge::judge(bytes, told.lanes, told.schedule);
+        let size = told.schedule.len();
+        if answer.road.n == 0 {
+            return ended(answer);
+        }
+        if told.held.len() < size || told.queue.len() < size {
+            return ended(Answer::without_state(11, 0));
+        }
+        let Reading {
+            road, mut state, ..
+        } = record::read(bytes);
+        let width = road.n + 1;
+        for t in 0..answer.state.steps {
+            let places = t * width..(t + 1) * width;
+            let row = record::row(bytes, road.n, t);
+            state = step::advance(&road, &state, &row, &told.schedule[places.clone()]);
+            let held = &mut told.held[places.clone()];
+            held[0] = state.gate_queue;
+            held[1..].copy_from_slice(&state.held[..road.n]);
+            let queue = &mut told.queue[places];
+            queue[0] = 0;
+            queue[1..].copy_from_slice(&state.queue[..road.n]);
+        }
+        ended(answer)
+    }
+
+    fn fill(&self, record: &mut [u8], laws: &Laws, lanes: &[u8], list: &mut [u32]) -> Ended {
+        ended(fill::fill(record, &laws.map(|law| law.law()), lanes, list))
+    }
+
+    fn step(&self, road: Road, state: State, row: &[u32], built: &Lanes, open: &Lanes) -> Stepped {
+        step::step(road, state, row, built, open)
+    }
+
+    fn write(
+        &self,
+        road: &Road,
+        steps: usize,
+        start: &Start,
+        rows: &[u32],
+        target: &mut [u8],
+    ) -> Written {
+        write::write(road, steps, start, rows, target)
+    }
+
+    fn rows(&self, bytes: &[u8], n: usize, steps: usize, list: &mut [u32]) -> usize {
+        record::rows(bytes, n, steps, list)
+    }
+
+    fn row(&self, bytes: &[u8], n: usize, step: usize) -> Row {
+        record::row_numbers(bytes, n, step)
+    }
+
+    fn wish(&self, law: &LawInput, last: u32, entered: u32, held: u32) -> f64 {
+        law.law().wish(last, entered, held)
+    }
+
+    fn release(&self, wish: f64, cap: u32) -> u32 {
+        meter::release(wish, cap)
+    }
+
+    fn weighted(&self, road: &Road, state: &State, weights: &Weights) -> u64 {
+        weigh::present(road, state, weights)
+    }
+
+    fn demand(&self, speed: u16, capacity: u32, held: u32) -> u32 {
+        model::cell_demand(speed, capacity, held) as u32
+    }
+
+    fn supply(&self, wave: u16, capacity: u32, jam: u32, held: u32) -> u32 {
+        model::cell_supply(wave, capacity, jam, held) as u32
+    }
+
+    fn outflow(&self, share: u16, cumulative: u32, room: u32, demand: u32) -> u32 {
+        let [share, f] = [u64::from(share), u64::from(cumulative)];
+        model::greatest_outflow(share, f, u64::from(demand), u64::from(room)) as u32
+    }
+
+    fn open_capacity(&self, capacity: u32, built: u8, open: u8) -> u32 {
+        lanes::open_capacity(capacity, built, open)
+    }
+}

@@ -1,0 +1,70 @@
+//! The operations that both implementations have, in the reference's own types.
+
+use reference::answer::Answer;
+use reference::model::{Road, Start, State};
+use reference::record::Reading;
+use reference::step::{Lanes, Stepped};
+use reference::trials::case::LawInput;
+use reference::weigh::Weights;
+use reference::write::Written;
+
+/// A law for each cell.
+pub type Laws = [LawInput; Road::MAX_CELLS];
+
+/// The numbers of a row, 0 past its end.
+pub type Row = [u32; Road::MAX_ROW];
+
+/// What running, judging, history and filling answer.
+pub struct Ended {
+    pub answer: Answer,
+    /// Total time spent.
+    pub total: u64,
+    pub present: u64,
+    pub exits: u64,
+}
+
+/// What a study passes to history beside its record.
+pub struct Told<'a> {
+    pub lanes: &'a [u8],
+    pub schedule: &'a [u32],
+    pub held: &'a mut [u32],
+    pub queue: &'a mut [u32],
+}
+
+pub trait Freeway {
+    fn read(&self, record: &[u8]) -> Reading;
+    fn run(&self, record: &[u8], lanes: &[u8], list: &mut [u32]) -> Ended;
+    /// Runs, and gives the weighted sum of present over the steps done.
+    fn run_weighted(
+        &self,
+        record: &[u8],
+        lanes: &[u8],
+        weights: &Weights,
+        list: &mut [u32],
+    ) -> (Ended, u64);
+    fn judge(&self, record: &[u8], lanes: &[u8], schedule: &[u32]) -> Ended;
+    /// Judges, and puts what each place holds and what waits at each ramp after each
+    /// step made into two lent lists.
+    fn history(&self, record: &[u8], told: Told) -> Ended;
+    fn fill(&self, record: &mut [u8], laws: &Laws, lanes: &[u8], list: &mut [u32]) -> Ended;
+    fn step(&self, road: Road, state: State, row: &[u32], built: &Lanes, open: &Lanes) -> Stepped;
+    fn write(
+        &self,
+        road: &Road,
+        steps: usize,
+        start: &Start,
+        rows: &[u32],
+        target: &mut [u8],
+    ) -> Written;
+    fn rows(&self, record: &[u8], n: usize, steps: usize, list: &mut [u32]) -> usize;
+    fn row(&self, record: &[u8], n: usize, step: usize) -> Row;
+    fn wish(&self, law: &LawInput, last: u32, entered: u32, held: u32) -> f64;
+    fn release(&self, wish: f64, cap: u32) -> u32;
+    /// Present, each place and ramp queue times its weight.
+    fn weighted(&self, road: &Road, state: &State, weights: &Weights) -> u64;
+    /// The flow rules of a place within its limits.
+    fn demand(&self, speed: u16, capacity: u32, held: u32) -> u32;
+    fn supply(&self, wave: u16, capacity: u32, jam: u32, held: u32) -> u32;
+    fn outflow(&self, share: u16, cumulative: u32, room: u32, demand: u32) -> u32;
+    fn open_capacity(&self, capacity: u32, built: u8, open: u8) -> u32;
+}

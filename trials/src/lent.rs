@@ -1,0 +1,42 @@
+//! Lists as they are lent: no two neighbours alike, and guards before and after that
+//! nobody may touch.
+
+/// Entries of a guard.
+pub const GUARD: usize = 8;
+
+pub struct Lent<T> {
+    all: Vec<T>,
+}
+
+impl<T: Copy> Lent<T> {
+    fn new(length: usize, entry: impl Fn(usize) -> T) -> Lent<T> {
+        let all = (0..length + 2 * GUARD).map(entry).collect();
+        Lent { all }
+    }
+
+    /// What is lent.
+    pub fn list(&mut self) -> &mut [T] {
+        let end = self.all.len() - GUARD;
+        &mut self.all[GUARD..end]
+    }
+
+    /// All of it afterwards, guards too.
+    pub fn all(self) -> Vec<T> {
+        self.all
+    }
+}
+
+pub fn numbers(length: usize) -> Lent<u32> {
+    Lent::new(length, |i| 4_000_000_000 + i as u32)
+}
+
+pub fn bytes(length: usize) -> Lent<u8> {
+    Lent::new(length, |i| (7 * i + 3) as u8)
+}
+
+/// Bytes that are given and may be written, between guards.
+pub fn given(bytes: &[u8]) -> Lent<u8> {
+    let mut lent = self::bytes(bytes.len());
+    lent.list().copy_from_slice(bytes);
+    lent
+}

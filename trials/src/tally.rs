@@ -1,0 +1,47 @@
+//! The cases counted.
+
+use crate::show;
+use crate::trial::{self, Failure};
+use reference::trials::case::Case;
+use std::collections::BTreeMap;
+
+#[derive(Default)]
+pub struct Tally {
+    passed: u64,
+    failed: u64,
+    /// How often each kind gave each refusal, 0 for none.
+    seen: BTreeMap<(&'static str, u64), u64>,
+}
+
+impl Tally {
+    /// Puts a case to both implementations.
+    pub fn add(&mut self, case: &Case) -> Result<(), Failure> {
+        let compared = trial::compare(case);
+        match &compared {
+            Ok(number) => {
+                self.passed += 1;
+                *self.seen.entry((show::kind(case), *number)).or_default() += 1;
+            }
+            Err(_) => self.failed += 1,
+        }
+        compared.map(|_| ())
+    }
+
+    pub fn failed(&self) -> u64 {
+        self.failed
+    }
+
+    /// A line a kind: its refusals, each with how often it came.
+    pub fn table(&self) -> String {
+        let mut lines: BTreeMap<&str, String> = BTreeMap::new();
+        for ((kind, number), count) in &self.seen {
+            let line = lines.entry(kind).or_insert(format!("{kind:8}"));
+            line.push_str(&format!(" {number}: {count}"));
+        }
+        lines.into_values().map(|line| line + "\n").collect()
+    }
+
+    pub fn verdict(&self) -> String {
+        format!("{} passed, {} failed", self.passed, self.failed)
+    }
+}

@@ -1,0 +1,374 @@
+//! The whole answer of a case: every number that is returned and every list that was
+//! lent, by name.
+
+use crate::freeway::{Ended, Freeway, Told};
+use crate::lent::{self, Lent};
+use reference::model::{Road, State};
+use reference::record::Reading;
+use reference::step::Stepped;
+use reference::trials::case::{
+    Case, FillInput, LeafInput, PresentInput, StepInput, WeighInput, WriteInput,
+};
+use reference::write::Written;
+use std::fmt;
+
+/// A part of an answer: numbers of one name.
+#[derive(Clone, Debug, PartialEq, Eq)]
+pub struct Field {
+    pub name: &'static str,
+    pub numbers: Vec<u64>,
+    /// Numbers of the guard before the first one that was lent.
+    guard: usize,
+}
+
+#[derive(Clone, Debug, Default, PartialEq, Eq)]
+pub struct Whole {
+    fields: Vec<Field>,
+}
+
+/// Where two answers part.
+#[derive(Debug, PartialEq, Eq)]
+pub struct Difference {
+    pub name: &'static str,
+    pub at: At,
+    pub left: u64,
+    pub right: u64,
+}
+
+#[derive(Debug, PartialEq, Eq)]
+pub enum At {
+    /// The only number of this name.
+    Number,
+    /// One of several, counted from the first that was lent; the guard before it is
+    /// counted downwards.
+    Index(isize),
+    /// The counts of numbers, which differ.
+    Count,
+}
+
+impl Whole {
+    /// The refusal's number; 0 for operations that refuse nothing.
+    pub fn number(&self) -> u64 {
+        let first = self.fields.first().filter(|field| field.name == "number");
+        first.map_or(0, |field| field.numbers[0])
+    }
+
+    pub fn fields(&self) -> impl Iterator<Item = &Field> {
+        self.fields.iter()
+    }
+
+    /// All differences, at most one a name.
+    pub fn differences(&self, other: &Whole) -> Vec<Difference> {
+        let pairs = self.fields.iter().zip(&other.fields);
+        let mut found: Vec<Difference> = pairs.filter_map(|(a, b)| difference(a, b)).collect();
+        if self.fields.len() != other.fields.len() {
+            found.push(Difference {
+                name: "parts of the answer",
+                at: At::Count,
+                left: self.fields.len() as u64,
+                right: other.fields.len() as u64,
+            });
+        }
+        found
+    }
+
+    #[cfg(test)]
+    pub fn with_one_more(&self, field: usize, index: usize) -> Whole {
+        let mut other = self.clone();
+        let number = &mut other.fields[field].numbers[index];
+        *number = number.wrapping_add(1);
+        other
+    }
+
+    fn put<T: Into<u64>>(&mut self, name: &'static str, numbers: impl IntoIterator<Item = T>) {
+        let numbers = numbers.into_iter().map(Into::into).collect();
+        self.fields.push(Field {
+            name,
+            numbers,
+            guard: 0,
+        });
+    }
+
+    fn put_size(&mut self, name: &'static str, size: usize) {
+        self.put(name, [size as u64]);
+    }
+
+    fn put_lent<T: Copy + Into<u64>>(&mut self, name: &'static str, lent: Lent<T>) {
+        self.fields.push(Field {
+            name,
+            numbers: lent.all().into_iter().map(Into::into).collect(),
+            guard: lent::GUARD,
+        });
+    }
+
+    fn put_road(&mut self, road: &Road) {
+        self.put_size("n", road.n);
+        self.put("version", [road.version]);
+        self.put("seconds", [road.seconds]);
+        self.put("gate capacity", [road.gate_capacity]);
+        self.put("v", road.v);
+        self.put("w", road.w);
+        self.put("b", road.b);
+        self.put("ramp", road.ramp);
+        self.put("J", road.jam);
+        self.put("C", road.capacity);
+    }
+
+    fn put_state(&mut self, state: &State) {
+        self.put_size("steps done", state.steps);
+        self.put("gate time", [state.gate_time]);
+        self.put("road time", [state.road_time]);
+        self.put("ramp time", [state.ramp_time]);
+        self.put("gate queue", [state.gate_queue]);
+        self.put("gate F", [state.gate_f]);
+        self.put("held", state.held);
+        self.put("queue", state.queue);
+        self.put("F", state.f);
+    }
+
+    fn put_reading(&mut self, reading: &Reading) {
+        self.put("number", [reading.number]);
+        self.put_size("place", reading.place);
+        self.put_size("T", reading.steps);
+        self.put_road(&reading.road);
+        self.put_state(&reading.state);
+    }
+
+    fn put_ended(&mut self, ended: &Ended) {
+        let answer = &ended.answer;
+        self.put("number", [answer.number]);
+        self.put_size("step", answer.step);
+        self.put_size("place", answer.place);
+        self.put("total", [ended.total]);
+        self.put("present", [ended.present]);
+        self.put("exits", [ended.exits]);
+        self.put_road(&answer.road);
+        self.put_state(&answer.state);
+    }
+
+    fn put_written(&mut self, written: &Written, target: Lent<u8>) {
+        self.put("number", [written.number]);
+        self.put_size("place", written.place);
+        self.put_size("bytes written", written.count);
+        self.put_lent("target", target);
+    }
+}
+
+fn difference(left: &Field, right: &Field) -> Option<Difference> {
+    let (a, b) = (&left.numbers, &right.numbers);
+    if a == b {
+        return None;
+    }
+    let index = a.iter().zip(b).position(|(x, y)| x != y);
+    let (at, left_number, right_number) = match index {
+        Some(0) if a.len() == 1 => (At::Number, a[0], b[0]),
+        Some(i) => (At::Index(i as isize - left.guard as isize), a[i], b[i]),
+        None => (At::Count, a.len() as u64, b.len() as u64),
+    };
+    Some(Difference {
+        name: left.name,
+        at,
+        left: left_number,
+        right: right_number,
+    })
+}
+
+/// What an implementation answers to a case.
+pub fn answer(freeway: &impl Freeway, case: &Case) -> Whole {
+    let mut whole = Whole::default();
+    match case {
+        Case::Read { record } => whole.put_reading(&freeway.read(record)),
+        Case::Run {
+            length,
+            lanes,
+            record,
+        } => {
+            let mut list = lent::numbers(*length);
+            whole.put_ended(&freeway.run(record, lanes, list.list()));
+            whole.put_lent("outflows", list);
+            again(freeway, record, &mut whole);
+        }
+        Case::Judge {
+            schedule,
+            lanes,
+            record,
+        } => {
+            whole.put_ended(&freeway.judge(record, lanes, schedule));
+            history(freeway, record, lanes, schedule, &mut whole);
+        }
+        Case::Step(input) => step(freeway, input, &mut whole),
+        Case::Write(input) => write(freeway, input, &mut whole),
+        Case::Row { n, t, bytes } => {
+            whole.put("row", freeway.row(bytes, *n as usize, *t as usize));
+        }
+        Case::Fill(input) => fill(freeway, input, &mut whole),
+        Case::Leaf(input) => leaf(freeway, input, &mut whole),
+        Case::Capacity {
+            capacity,
+            built,
+            open,
+        } => whole.put(
+            "capacity",
+            [freeway.open_capacity(*capacity, *built, *open)],
+        ),
+        Case::Rows {
+            n,
+            steps,
+            length,
+            bytes,
+        } => {
+            let mut list = lent::numbers(*length);
+            let count = freeway.rows(bytes, *n as usize, *steps as usize, list.list());
+            whole.put_size("count", count);
+            whole.put_lent("rows", list);
+        }
+        Case::Weigh(input) => weigh(freeway, input, &mut whole),
+        Case::Present(input) => {
+            let PresentInput {
+                road,
+                state,
+                weights,
+            } = &**input;
+            whole.put("weighted", [freeway.weighted(road, state, weights)]);
+        }
+    }
+    whole
+}
+
+/// A record read, its rows taken, and written again, into a target a little longer.
+fn again(freeway: &impl Freeway, record: &[u8], whole: &mut Whole) {
+    let reading = freeway.read(record);
+    let mut rows = vec![0; reading.steps * (1 + 2 * reading.road.n)];
+    let count = freeway.rows(record, reading.road.n, reading.steps, &mut rows);
+    let mut target = lent::bytes(record.len() + 3);
+    let start = reading.state.start();
+    let written = freeway.write(
+        &reading.road,
+        reading.steps,
+        &start,
+        &rows[..count],
+        target.list(),
+    );
+    whole.put("rows", rows);
+    whole.put_written(&written, target);
+}
+
+/// The states of a judged schedule, in lists that by turns are one too short.
+fn history(
+    freeway: &impl Freeway,
+    record: &[u8],
+    lanes: &[u8],
+    schedule: &[u32],
+    whole: &mut Whole,
+) {
+    let (longer, shorter) = (schedule.len() + 2, schedule.len().saturating_sub(1));
+    let (held, queue) = match schedule.len() % 5 {
+        0 => (shorter, longer),
+        1 => (longer, shorter),
+        _ => (longer, schedule.len()),
+    };
+    let (mut held, mut queue) = (lent::numbers(held), lent::numbers(queue));
+    let told = Told {
+        lanes,
+        schedule,
+        held: held.list(),
+        queue: queue.list(),
+    };
+    whole.put_ended(&freeway.history(record, told));
+    whole.put_lent("held after each step", held);
+    whole.put_lent("queues after each step", queue);
+}
+
+/// A step, and unless its road or state is out of its limits the rules of each place.
+fn step(freeway: &impl Freeway, input: &StepInput, whole: &mut Whole) {
+    let StepInput {
+        road,
+        state,
+        row,
+        built,
+        open,
+    } = input;
+    let Stepped {
+        number,
+        place,
+        state: next,
+    } = freeway.step(*road, *state, row, built, open);
+    whole.put("number", [number]);
+    whole.put_size("place", place);
+    whole.put_state(&next);
+    if number == 7 {
+        return;
+    }
+    let cells = 0..road.n.min(Road::MAX_CELLS);
+    let demand = |i: usize| freeway.demand(road.v[i], road.capacity[i], state.held[i]);
+    let supply = |i: usize| freeway.supply(road.w[i], road.capacity[i], road.jam[i], state.held[i]);
+    let outflow = |i: usize| freeway.outflow(road.b[i], state.f[i], supply(i), demand(i));
+    whole.put("demand", cells.clone().map(demand));
+    whole.put("supply", cells.clone().map(supply));
+    whole.put("outflow", cells.map(outflow));
+}
+
+fn write(freeway: &impl Freeway, input: &WriteInput, whole: &mut Whole) {
+    let mut target = lent::bytes(input.length);
+    let WriteInput {
+        road,
+        steps,
+        start,
+        rows,
+        ..
+    } = input;
+    let written = freeway.write(road, *steps, start, rows, target.list());
+    whole.put_written(&written, target);
+}
+
+fn fill(freeway: &impl Freeway, input: &FillInput, whole: &mut Whole) {
+    let (mut record, mut list) = (lent::given(&input.record), lent::numbers(input.length));
+    let ended = freeway.fill(record.list(), &input.laws, &input.lanes, list.list());
+    whole.put_ended(&ended);
+    whole.put_lent("outflows", list);
+    whole.put_lent("record", record);
+}
+
+fn weigh(freeway: &impl Freeway, input: &WeighInput, whole: &mut Whole) {
+    let WeighInput {
+        length,
+        weights,
+        lanes,
+        record,
+    } = input;
+    let mut list = lent::numbers(*length);
+    let (ended, weighted) = freeway.run_weighted(record, lanes, weights, list.list());
+    whole.put_ended(&ended);
+    whole.put("weighted", [weighted]);
+    whole.put_lent("outflows", list);
+}
+
+fn leaf(freeway: &impl Freeway, input: &LeafInput, whole: &mut Whole) {
+    let wish = freeway.wish(&input.law, input.last, input.entered, input.held);
+    whole.put("wish, as bits", [bits_of(wish)]);
+    whole.put("release", [freeway.release(wish, input.cap)]);
+}
+
+/// The bits of a float; those of all that aren't numbers are the same.
+fn bits_of(float: f64) -> u64 {
+    match float.is_nan() {
+        true => f64::NAN.to_bits(),
+        false => float.to_bits(),
+    }
+}
+
+impl fmt::Display for Difference {
+    fn fmt(&self, out: &mut fmt::Formatter) -> fmt::Result {
+        let Difference {
+            name,
+            at,
+            left,
+            right,
+        } = self;
+        match at {
+            At::Number => write!(out, "{name}: engine {left}, reference {right}"),
+            At::Index(i) => write!(out, "{name}[{i}]: engine {left}, reference {right}"),
+            At::Count => write!(out, "{name}: engine has {left}, reference {right}"),
+        }
+    }
+}
