@@ -140,6 +140,14 @@ pub struct Written {
     pub count: u64,
 }
 
+/// What loading answers: the last number, the seed after a refusal or for an empty list.
+#[repr(C)]
+#[derive(Clone, Copy, Debug, PartialEq, Eq)]
+pub struct Loaded {
+    pub number: u64,
+    pub last: u64,
+}
+
 const _: () =
     assert!(size_of::<Road>() == 1040 && size_of::<State>() == 808 && size_of::<Start>() == 516);
 const _: () = assert!(
@@ -180,7 +188,7 @@ impl Law {
 }
 
 mod raw {
-    use super::{Ended, Lanes, Reading, Road, Start, State, Stepped, Weighed, Weights, Written};
+    use super::{Ended, Lanes, Loaded, Reading, Road, Start, State, Stepped, Weighed, Weights, Written};
     extern "C" {
         pub fn nobyaluk_version() -> u32;
         pub fn nobyaluk_read(record: *const u8, bytes: usize) -> Reading;
@@ -250,6 +258,7 @@ mod raw {
             list: *mut u32,
             count: usize,
         ) -> usize;
+        pub fn nobyaluk_load(seed: u32, peak: u32, list: *mut u32, count: usize) -> Loaded;
         pub fn nobyaluk_step(
             road: Road,
             state: State,
@@ -410,6 +419,11 @@ pub fn rows_into(record: &[u8], n: usize, steps: usize, list: &mut [u32]) -> usi
             list.len(),
         )
     }
+}
+
+/// Fills a list with the arrivals of a seed and a peak.
+pub fn load_into(seed: u32, peak: u32, list: &mut [u32]) -> Loaded {
+    unsafe { raw::nobyaluk_load(seed, peak, list.as_mut_ptr(), list.len()) }
 }
 
 /// One step by a row of the record's order.

@@ -1,0 +1,5 @@
+pub mod Load
+pub mod Stated
+pub mod LoadLaws
+pub mod Loop
+pub mod Theorems
