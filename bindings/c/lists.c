@@ -18,7 +18,19 @@ static void loads(void) {
     hold("25", a.number == 25 && a.last == 42 && !memcmp(list, stated, sizeof list));
 }
 
+static void wants(void) {
+    uint32_t table[3] = {9, 9, 9};
+    static const uint32_t soon[3] = {0, 0, 3}, late[3] = {0, 0, 6}, found[3] = {1, 1, 2};
+    nobyaluk_wanted_answer a = nobyaluk_wanted(4, 3, 2, soon, 3, table, 3);
+    hold("a wanted queue", a.number == 0 && a.found == 1 && !memcmp(table, found, sizeof table));
+    a = nobyaluk_wanted(4, 3, 2, late, 3, table, 3);
+    hold("none", a.number == 0 && a.found == 0 && !memcmp(table, found, sizeof table));
+    a = nobyaluk_wanted(4, 3, 2, soon, 3, table, 2);
+    hold("23", a.number == 23 && a.found == 0 && !memcmp(table, found, sizeof table));
+}
+
 int main(void) {
     loads();
+    wants();
     return wrong;
 }

@@ -1,4 +1,4 @@
-"""Loading, by numbers worked out on paper."""
+"""Loading and a wanted queue, by numbers worked out on paper."""
 import numpy as np
 import pytest
 from nobyaluk import engine
@@ -18,3 +18,9 @@ def test_a_stated_load():
     assert np.concatenate([first, second]).tolist() == arrivals.tolist() and end == last
     assert engine.load(42, 7, 0)[1] == 42
     assert refusal(engine.load, 42, 1_000_001, 3) == (25, 0)
+
+
+def test_a_wanted_queue():
+    assert engine.wanted(4, 3, 2, [0, 0, 3]).tolist() == [1, 1, 2]
+    assert engine.wanted(4, 3, 2, [0, 0, 6]) is None
+    assert refusal(engine.wanted, 4, 3, 2, []) == (23, 0)

@@ -148,6 +148,14 @@ pub struct Loaded {
     pub last: u64,
 }
 
+/// What the search for releases answers; found is 1 or 0, and 0 with number 0 where no table keeps the queue.
+#[repr(C)]
+#[derive(Clone, Copy, Debug, PartialEq, Eq)]
+pub struct Wanted {
+    pub number: u64,
+    pub found: u64,
+}
+
 const _: () =
     assert!(size_of::<Road>() == 1040 && size_of::<State>() == 808 && size_of::<Start>() == 516);
 const _: () = assert!(
@@ -188,7 +196,7 @@ impl Law {
 }
 
 mod raw {
-    use super::{Ended, Lanes, Loaded, Reading, Road, Start, State, Stepped, Weighed, Weights, Written};
+    use super::{Ended, Lanes, Loaded, Reading, Road, Start, State, Stepped, Wanted, Weighed, Weights, Written};
     extern "C" {
         pub fn nobyaluk_version() -> u32;
         pub fn nobyaluk_read(record: *const u8, bytes: usize) -> Reading;
@@ -259,6 +267,15 @@ mod raw {
             count: usize,
         ) -> usize;
         pub fn nobyaluk_load(seed: u32, peak: u32, list: *mut u32, count: usize) -> Loaded;
+        pub fn nobyaluk_wanted(
+            start: u32,
+            ceiling: u32,
+            rate: u32,
+            arrivals: *const u32,
+            arrivals_count: usize,
+            table: *mut u32,
+            table_count: usize,
+        ) -> Wanted;
         pub fn nobyaluk_step(
             road: Road,
             state: State,
@@ -424,6 +441,27 @@ pub fn rows_into(record: &[u8], n: usize, steps: usize, list: &mut [u32]) -> usi
 /// Fills a list with the arrivals of a seed and a peak.
 pub fn load_into(seed: u32, peak: u32, list: &mut [u32]) -> Loaded {
     unsafe { raw::nobyaluk_load(seed, peak, list.as_mut_ptr(), list.len()) }
+}
+
+/// Fills a table with the releases that keep a wanted queue, where any do: the least running sum after every step.
+pub fn wanted_into(
+    start: u32,
+    ceiling: u32,
+    rate: u32,
+    arrivals: &[u32],
+    table: &mut [u32],
+) -> Wanted {
+    unsafe {
+        raw::nobyaluk_wanted(
+            start,
+            ceiling,
+            rate,
+            arrivals.as_ptr(),
+            arrivals.len(),
+            table.as_mut_ptr(),
+            table.len(),
+        )
+    }
 }
 
 /// One step by a row of the record's order.

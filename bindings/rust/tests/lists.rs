@@ -1,5 +1,5 @@
-//! Loading, by numbers worked out on paper.
-use nobyaluk::load_into;
+//! Loading and a wanted queue, by numbers worked out on paper.
+use nobyaluk::{load_into, wanted_into};
 
 #[test]
 fn a_stated_load() {
@@ -15,4 +15,15 @@ fn a_stated_load() {
     assert_eq!(load_into(42, 7, &mut []).last, 42);
     let refused = load_into(42, 1_000_001, &mut list);
     assert_eq!((refused.number, refused.last, list), (25, 42, parts));
+}
+
+#[test]
+fn a_wanted_queue() {
+    let mut table = [9; 3];
+    let found = wanted_into(4, 3, 2, &[0, 0, 3], &mut table);
+    assert_eq!((found.number, found.found, table), (0, 1, [1, 1, 2]));
+    let none = wanted_into(4, 3, 2, &[0, 0, 6], &mut table);
+    assert_eq!((none.number, none.found, table), (0, 0, [1, 1, 2]));
+    let refused = wanted_into(4, 3, 1_000_001, &[0, 0, 3], &mut table);
+    assert_eq!((refused.number, refused.found, table), (23, 0, [1, 1, 2]));
 }

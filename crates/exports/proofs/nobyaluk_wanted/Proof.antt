@@ -1,0 +1,79 @@
+-- `exports::nobyaluk_wanted` meets its contract: in each case of the answer. Assumes nothing.
+use mathlib.Core.Path.{_≡_, refl, sym, ap, _∙_}
+use Rattle.road.specs.declared.Wanted.{Wanted}
+use Rattle.wanted.specs.Wanted.{WantedAnswer, wantedAnswer}
+use Rattle.exports.specs.Answers.{wantedFor}
+use borrow.Author.Needs.{needs}
+use Rattle.exports.proofs.nobyaluk_wanted.Statement.{statement}
+use Rattle.exports.proofs.nobyaluk_wanted.Tie as tie
+
+-- what the case that was met says
+case : {given met : Wanted} {a : WantedAnswer} → given ≡ met → wantedAnswer given ≡ a → wantedFor (wantedAnswer met) ≡ wantedFor a
+case e h = ap wantedFor (sym (ap wantedAnswer e) ∙ h)
+
+-- places of the code: the search, from where its answer is looked at, and where the case is known, from the refusal's number
+abbrev to-wanted : tie.After-slice-known2 → tie.After-wanted
+to-wanted c = c .before .before
+
+abbrev to-case : tie.After-number → tie.After-a
+to-case c = c .before .before
+
+wanted-requires : tie.Need-wanted-requires
+wanted-requires c κs = search needs
+
+enum-known-a : tie.Need-enum-known-a
+enum-known-a c = search needs
+
+number-requires : tie.Need-number-requires
+number-requires c κs = search needs
+
+cast-t12 : tie.Need-cast-t12
+cast-t12 c = search needs
+
+enum-told : tie.Need-enum-told
+enum-told c = search needs
+
+enum-told-2 : tie.Need-enum-told-2
+enum-told-2 c = search needs
+
+same-length : tie.Need-same-length
+same-length c = search needs
+
+returns : tie.Need-returns
+returns c =
+    let m = to-case c in
+    let e = to-wanted (m .before .before) .wanted .ensures in
+    (rw (c .number .ensures) (case (m .a .given .1) (e .0)), e .1)
+
+same-length-2 : tie.Need-same-length-2
+same-length-2 c = search needs
+
+returns-2 : tie.Need-returns-2
+returns-2 c =
+    let e = to-wanted (c .before .before) .wanted .ensures in
+    (case (c .enum-told .given .1) (e .0), e .1)
+
+same-length-3 : tie.Need-same-length-3
+same-length-3 c = search needs
+
+returns-3 : tie.Need-returns-3
+returns-3 c =
+    let e = to-wanted (c .before .before) .wanted .ensures in
+    (case (c .enum-told2 .given .1) (e .0), e .1)
+
+pub nobyaluk-wanted-spec : {M : Type 1} → statement M
+nobyaluk-wanted-spec =
+    tie.close
+    (tie.spec
+    wanted-requires
+    enum-known-a
+    number-requires
+    cast-t12
+    enum-told
+    enum-told-2
+    same-length
+    returns
+    same-length-2
+    returns-2
+    same-length-3
+    returns-3)

@@ -1,0 +1,109 @@
+-- Theorem across a wanted queue and running: where a table that obeys is a ramp's releases, and the ramp has that start queue and these arrivals, the
+-- queue is the one that the table keeps, after every step and whatever the outflows, and 9 never comes of that ramp. Assumes nothing.
+use mathlib.Core.Path.{_≡_, refl, sym, ap, _∙_}
+use mathlib.Core.Bool.{Bool, true, false, cond}
+use mathlib.Core.List.{List}
+use Prim.Native.Nat.{ℕ, zero, suc, _+_, _≤_, _<_}
+use native.Mathlib.Omega.{arith}
+use lib.Dec.{leb, eqb}
+use lib.ListN.{length}
+use borrow.Author.Tests.{le-leb, eqb-true, eqb-false}
+use Rattle.numbers.specs.Lists.{at}
+use Rattle.numbers.specs.First.{unless, firstFault}
+use Rattle.road.specs.declared.State.{State}
+use Rattle.road.specs.Study.{Study, roadAt}
+use Rattle.model.specs.Places.{arrivalsAt, releaseAt, mostReleaseAt, supplyAt}
+use Rattle.model.specs.Move.{nextOf}
+use Rattle.model.specs.MoveLaws.{next-queue}
+use Rattle.model.specs.Rules.{Sized}
+use Rattle.model.specs.Runs.{scheduleAfter, engineAfter, outflowsAt}
+use Rattle.model.specs.Step.{Fault, fault, lowestOf, releaseFault, releaseFaultAt}
+use Rattle.model.specs.RunsLaws.{StudyOk, schedule-sized, engine-schedule}
+use Rattle.schedules.specs.Schedules.{runSays, firstStep, EndAnswer, runEnd}
+use Rattle.schedules.specs.SchedulesLaws.{step-within, end-all, end-fault}
+use Rattle.wanted.specs.Wanted.{queueAfter, Obeys}
+
+-- the ramp of the cell at i has this start queue, these arrivals and this table's releases
+pub record Follows (a : Study) (i start : ℕ) (arrivals table : List ℕ) : Type 0 where
+  pub cell : i < a .road .n
+  pub steps : length arrivals ≡ a .steps
+  pub queue : at (a .start .queue) i ≡ start
+  pub comes : (k : ℕ) → k < a .steps → arrivalsAt (a .rows k) i ≡ at arrivals k
+  pub goes : (k : ℕ) → k < a .steps → releaseAt (a .rows k) i ≡ at table k
+
+-- the lowest fault, told as 9 at place i + 1, is that of the cell at i
+nine-there : (f : ℕ → ℕ) (n i : ℕ) → lowestOf f n 1 .number ≡ 9 → lowestOf f n 1 .place ≡ i + 1 → f i ≡ 9
+unfolding lowestOf
+nine-there f n i e p = go (eqb (firstFault f n) n) e p
+  where
+    there : Bool → Fault
+    there b = cond b (fault 0 0) (fault (f (firstFault f n)) (firstFault f n + 1))
+
+    go : (b : Bool) → there b .number ≡ 9 → there b .place ≡ i + 1 → f i ≡ 9
+    go true x y = absurd (omega arith)
+    go false x y = let z : firstFault f n ≡ i = omega arith in sym (ap f z) ∙ x
+
+fits-no-nine : (release most supply : ℕ) → release ≤ most → releaseFault release most supply ≡ 9 → ⊥
+fits-no-nine release most supply h = rw (le-leb release most h) (go (leb release supply))
+  where
+    go : (b : Bool) → unless {A = ℕ} b 10 0 ≡ 9 → ⊥
+    go true e = omega arith
+    go false e = omega arith
+
+module _ (a : Study) (ok : StudyOk a) (i start ceiling rate : ℕ) (arrivals table : List ℕ) (follows : Follows a i start arrivals table)
+    (obeys : Obeys start ceiling rate arrivals table) where
+  -- the queue that the table keeps, in the run's own states and in those of every schedule
+  pub queue-kept : (ys : ℕ → List ℕ) (k : ℕ) → k ≤ a .steps → at (scheduleAfter a ys k .queue) i ≡ queueAfter start arrivals table k
+  unfolding scheduleAfter queueAfter
+  queue-kept ys zero l = follows .queue
+  queue-kept ys (suc k) l =
+      let r = roadAt a k in
+      let s = scheduleAfter a ys k in
+      let z : Sized (a .road) s = schedule-sized a ys ok k in
+      let n : r .n ≡ a .road .n = ok .roads k .n in
+      let sized : Sized r s =
+      record { held = omega (arith, z .held); queue = omega (arith, z .queue); cumulative = omega (arith, z .cumulative) } in
+      omega (
+        arith,
+        next-queue r s (a .rows k) (ys k) sized i (omega (arith, follows .cell)),
+        queue-kept ys k (omega arith),
+        follows .comes k l,
+        follows .goes k l,
+      )
+
+  -- so it stays at or under the ceiling after every step
+  pub ceiling-kept : (ys : ℕ → List ℕ) (k : ℕ) → k < a .steps → at (scheduleAfter a ys (suc k) .queue) i ≤ ceiling
+  ceiling-kept ys k l = omega (arith, queue-kept ys (suc k) l, obeys .under k (omega (arith, follows .steps)))
+
+  -- each release is at most queue plus arrivals
+  pub release-fits : (ys : ℕ → List ℕ) (k : ℕ) → k < a .steps → releaseAt (a .rows k) i ≤ mostReleaseAt (scheduleAfter a ys k) (a .rows k) i
+  unfolding mostReleaseAt
+  release-fits ys k l =
+      omega (
+        arith,
+        queue-kept ys k (omega arith),
+        follows .comes k l,
+        follows .goes k l,
+        obeys .there k (omega (arith, follows .steps)),
+      )
+
+  -- running never says 9 of that ramp
+  no-nine-in : (k : ℕ) → k < a .steps → releaseFaultAt (roadAt a k) (engineAfter a k) (a .rows k) i ≡ 9 → ⊥
+  no-nine-in k l =
+      fits-no-nine (releaseAt (a .rows k) i) (mostReleaseAt (engineAfter a k) (a .rows k) i) (supplyAt (roadAt a k) (engineAfter a k) i)
+      (rw (engine-schedule a k) (release-fits (outflowsAt a) k l))
+
+  pub never-nine : runEnd a .number ≡ 9 → runEnd a .place ≡ i + 1 → ⊥
+  never-nine = go (eqb (firstStep (runSays a) (a .steps)) (a .steps)) refl
+    where
+      go : (b : Bool) → eqb (firstStep (runSays a) (a .steps)) (a .steps) ≡ b → runEnd a .number ≡ 9 → runEnd a .place ≡ i + 1 → ⊥
+      go true e n p =
+          let z = ap (λ (x : EndAnswer). x .number) (end-all a (runSays a) (engineAfter a) (eqb-true _ _ e)) in
+          omega arith
+      go false e n p =
+          let k = firstStep (runSays a) (a .steps) in
+          let l : k < a .steps = omega (arith, step-within (runSays a) (a .steps), eqb-false k (a .steps) e) in
+          let end = end-fault a (runSays a) (engineAfter a) l in
+          no-nine-in k l
+          (nine-there (releaseFaultAt (roadAt a k) (engineAfter a k) (a .rows k)) (roadAt a k .n) i
+          (sym (ap (λ (x : EndAnswer). x .number) end) ∙ n) (sym (ap (λ (x : EndAnswer). x .place) end) ∙ p))

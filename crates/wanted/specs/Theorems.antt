@@ -1,0 +1,125 @@
+-- The theorems of releases for a wanted queue: the table found is the one whose running sum is least after every step; none and 23 come exactly
+-- where they should, and leave the lent table as it was. Assumes nothing.
+use mathlib.Core.Path.{_≡_, refl, sym, ap, _∙_}
+use mathlib.Core.Bool.{Bool, true, false, cond}
+use mathlib.Core.List.{List}
+use Prim.Native.Nat.{ℕ, suc, _≤_, _<_}
+use native.Mathlib.Omega.{arith}
+use lib.ListN.{length}
+use lib.Seq.{ext-getD}
+use Rattle.numbers.specs.Lists.{at}
+use Rattle.numbers.specs.First.{unless}
+use Rattle.rows.specs.SumLaws.{sum-more}
+use Rattle.wanted.specs.Wanted.{Asked, Obeys, runningSum, askedOk, possibleOf, tableOf, WantedAnswer, answer, wantedOf, tableAfter}
+use Rattle.wanted.specs.WantedLaws.{asked-limits, limits-asked, obeyed-possible, table-obeys, table-least}
+
+-- a table that obeys, and whose running sum after every step is at most that of each table that obeys
+pub record Least (start ceiling rate : ℕ) (arrivals table : List ℕ) : Type 0 where
+  pub obeys : Obeys start ceiling rate arrivals table
+  pub least : (other : List ℕ) → Obeys start ceiling rate arrivals other → (k : ℕ) → k ≤ length arrivals → runningSum table k ≤ runningSum other k
+
+-- 1: there is only one such table
+module _ (start ceiling rate : ℕ) (arrivals : List ℕ) {one other : List ℕ} where
+  pub least-unique : Least start ceiling rate arrivals one → Least start ceiling rate arrivals other → one ≡ other
+  least-unique h g =
+      let same : length one ≡ length other = h .obeys .steps ∙ sym (g .obeys .steps) in
+      ext-getD 0 one other same (λ k l. each k (omega (arith, h .obeys .steps)))
+    where
+      sums-agree : (k : ℕ) → k ≤ length arrivals → runningSum one k ≡ runningSum other k
+      sums-agree k l = omega (arith, h .least other (g .obeys) k l, g .least one (h .obeys) k l)
+
+      each : (k : ℕ) → k < length arrivals → at one k ≡ at other k
+      each k l =
+          omega (
+            arith,
+            sums-agree k (omega arith),
+            sums-agree (suc k) l,
+            sum-more k one (omega (arith, h .obeys .steps)),
+            sum-more k other (omega (arith, g .obeys .steps)),
+          )
+
+-- the three ends, with what each leaves of the lent table
+pub data Ends (start ceiling rate : ℕ) (arrivals table : List ℕ) : WantedAnswer → List ℕ → Type 0 where
+  refused : (Asked start ceiling rate arrivals (length table) → ⊥) → Ends start ceiling rate arrivals table (answer 23 false) table
+  none : Asked start ceiling rate arrivals (length table) → ((other : List ℕ) → Obeys start ceiling rate arrivals other → ⊥)
+      → Ends start ceiling rate arrivals table (answer 0 false) table
+  found : Asked start ceiling rate arrivals (length table) → {filled : List ℕ} → Least start ceiling rate arrivals filled
+      → Ends start ceiling rate arrivals table (answer 0 true) filled
+
+never : {b : Bool} → b ≡ true → b ≡ false → ⊥
+never h k = let z : _≡_ {A = ℕ} 0 1 = cc in omega arith
+
+-- 2: every answer is one of them
+module _ (start ceiling rate : ℕ) (arrivals table : List ℕ) where
+  abbrev saying : Bool → Bool → WantedAnswer
+  saying a p = unless a (answer 23 false) (unless p (answer 0 false) (answer 0 true))
+
+  pub ends : Ends start ceiling rate arrivals table (wantedOf start ceiling rate arrivals (length table)) (tableAfter start ceiling rate arrivals table)
+  unfolding wantedOf tableAfter
+  ends = go (askedOk start ceiling rate arrivals (length table)) (possibleOf start ceiling rate arrivals) refl refl
+    where
+      go : (a p : Bool) → askedOk start ceiling rate arrivals (length table) ≡ a → possibleOf start ceiling rate arrivals ≡ p
+          → Ends start ceiling rate arrivals table (saying a p) (cond (saying a p .found) (tableOf start ceiling rate arrivals) table)
+      go false p e f = refused (λ asked. never (limits-asked start ceiling rate arrivals (length table) asked) e)
+      go true false e f =
+          none (asked-limits start ceiling rate arrivals (length table) e) (λ other o. never (obeyed-possible start ceiling rate arrivals other o) f)
+      go true true e f =
+          found (asked-limits start ceiling rate arrivals (length table) e)
+          (record { obeys = table-obeys start ceiling rate arrivals f; least = table-least start ceiling rate arrivals })
+
+-- so each comes exactly where it should
+module _ {start ceiling rate : ℕ} {arrivals table : List ℕ} where
+  refused-not : {a : WantedAnswer} {left : List ℕ} → Ends start ceiling rate arrivals table a left → a .number ≡ 23
+      → Asked start ceiling rate arrivals (length table) → ⊥
+  refused-not (Ends.refused h) e asked = h asked
+  refused-not (Ends.none q h) e asked = omega arith
+  refused-not (Ends.found q h) e asked = omega arith
+
+  not-refused : {a : WantedAnswer} {left : List ℕ} → Ends start ceiling rate arrivals table a left
+      → (Asked start ceiling rate arrivals (length table) → ⊥) → (a ≡ answer 23 false) × (left ≡ table)
+  not-refused (Ends.refused h) n = (refl, refl)
+  not-refused (Ends.none q h) n = absurd (n q)
+  not-refused (Ends.found q h) n = absurd (n q)
+
+  none-not : {a : WantedAnswer} {left : List ℕ} → Ends start ceiling rate arrivals table a left → a ≡ answer 0 false
+      → (other : List ℕ) → Obeys start ceiling rate arrivals other → ⊥
+  none-not (Ends.refused h) e other o = let z = ap (λ (x : WantedAnswer). x .number) e in omega arith
+  none-not (Ends.none q h) e other o = h other o
+  none-not (Ends.found q h) e other o = never {b = true} refl (ap (λ (x : WantedAnswer). x .found) e)
+
+  not-none : {a : WantedAnswer} {left : List ℕ} → Ends start ceiling rate arrivals table a left → Asked start ceiling rate arrivals (length table)
+      → ((other : List ℕ) → Obeys start ceiling rate arrivals other → ⊥) → (a ≡ answer 0 false) × (left ≡ table)
+  not-none (Ends.refused h) q n = absurd (h q)
+  not-none (Ends.none p h) q n = (refl, refl)
+  not-none (Ends.found p h) q n = absurd (n _ (h .obeys))
+
+  found-is : {a : WantedAnswer} {left : List ℕ} → Ends start ceiling rate arrivals table a left → a .found ≡ true → Least start ceiling rate arrivals left
+  found-is (Ends.refused h) e = absurd (never e refl)
+  found-is (Ends.none q h) e = absurd (never e refl)
+  found-is (Ends.found q h) e = h
+
+module _ (start ceiling rate : ℕ) (arrivals table : List ℕ) where
+  abbrev says : WantedAnswer
+  says = wantedOf start ceiling rate arrivals (length table)
+
+  abbrev left : List ℕ
+  left = tableAfter start ceiling rate arrivals table
+
+  -- 3: the table found obeys, and is the least after every step of all that do
+  pub found-least : says .found ≡ true → Least start ceiling rate arrivals left
+  found-least = found-is (ends start ceiling rate arrivals table)
+
+  -- 4: none exactly where, within the limits, no table obeys; the lent table is unchanged
+  pub none-only : says ≡ answer 0 false → (other : List ℕ) → Obeys start ceiling rate arrivals other → ⊥
+  none-only = none-not (ends start ceiling rate arrivals table)
+
+  pub none-if : Asked start ceiling rate arrivals (length table) → ((other : List ℕ) → Obeys start ceiling rate arrivals other → ⊥)
+      → (says ≡ answer 0 false) × (left ≡ table)
+  none-if = not-none (ends start ceiling rate arrivals table)
+
+  -- 5: 23 exactly where a limit is passed; the lent table is unchanged
+  pub refused-only : says .number ≡ 23 → Asked start ceiling rate arrivals (length table) → ⊥
+  refused-only = refused-not (ends start ceiling rate arrivals table)
+
+  pub refused-if : (Asked start ceiling rate arrivals (length table) → ⊥) → (says ≡ answer 23 false) × (left ≡ table)
+  refused-if = not-refused (ends start ceiling rate arrivals table)
