@@ -29,8 +29,29 @@ static void wants(void) {
     hold("23", a.number == 23 && a.found == 0 && !memcmp(table, found, sizeof table));
 }
 
+static void grants(void) {
+    uint32_t given[3] = {8, 8, 8};
+    static const uint32_t guarantees[3] = {2, 3, 1}, wishes[3] = {7, 1, 9}, fair[3] = {7, 1, 2};
+    hold("a street", nobyaluk_grant(10, guarantees, 3, wishes, 3, given, 3) == 0 && !memcmp(given, fair, sizeof given));
+    hold("24", nobyaluk_grant(5, guarantees, 3, wishes, 3, given, 3) == 24 && !memcmp(given, fair, sizeof given));
+}
+
+static void puts_release(void) {
+    static uint8_t record[NOBYALUK_BYTES];
+    uint32_t rows[15];
+    size_t bytes = fread(record, 1, sizeof record, stdin);
+    nobyaluk_released a = nobyaluk_put(record, bytes, 0, 3, 7);
+    hold("5", a.number == 5 && a.place == 3);
+    a = nobyaluk_put(record, bytes, 3, 2, 7);
+    hold("6", a.number == 6 && a.place == 3);
+    a = nobyaluk_put(record, bytes, 1, 2, 7);
+    hold("a release put", a.number == 0 && nobyaluk_rows(record, bytes, 2, 3, rows, 15) == 15 && rows[9] == 7 && rows[8] == 500 && rows[14] == 300);
+}
+
 int main(void) {
     loads();
     wants();
+    grants();
+    puts_release();
     return wrong;
 }

@@ -31,7 +31,7 @@ pub fn records() -> Vec<Named> {
     list
 }
 
-/// The record that a case takes, if it takes one, and what filling makes of it.
+/// The record that a case takes, if it takes one, and what filling or putting makes of it.
 fn records_of(case: Case) -> Vec<Vec<u8>> {
     match case {
         Case::Read { record } | Case::Run { record, .. } | Case::Judge { record, .. } => {
@@ -48,11 +48,15 @@ fn records_of(case: Case) -> Vec<Vec<u8>> {
             vec![input.record, filled]
         }
         Case::Weigh(input) => vec![input.record],
+        Case::Put(input) => vec![input.record_after()],
         Case::Step(_)
         | Case::Write(_)
         | Case::Row { .. }
         | Case::Rows { .. }
         | Case::Leaf(_)
+        | Case::Load(_)
+        | Case::Wanted(_)
+        | Case::Grant(_)
         | Case::Capacity { .. }
         | Case::Present(_) => vec![],
     }

@@ -2,11 +2,14 @@
 
 use crate::freeway::{Ended, Freeway, Laws, Row, Told};
 use reference::answer::Answer;
+use reference::load::Loaded;
 use reference::meter::Law;
 use reference::model::{Road, Start, State};
+use reference::put::Put;
 use reference::record::Reading;
 use reference::step::{Lanes, Stepped};
 use reference::trials::case::LawInput;
+use reference::wanted::{Asked, Wanted};
 use reference::weigh::Weights;
 use reference::write::Written;
 
@@ -235,5 +238,41 @@ impl Freeway for Engine {
 
     fn open_capacity(&self, capacity: u32, built: u8, open: u8) -> u32 {
         nobyaluk::open_capacity(capacity, built, open)
+    }
+
+    fn load(&self, seed: u32, peak: u32, list: &mut [u32]) -> Loaded {
+        let loaded = nobyaluk::load_into(seed, peak, list);
+        Loaded {
+            number: refusal(loaded.number),
+            last: u32::try_from(loaded.last).expect("the last number has 32 bits"),
+        }
+    }
+
+    fn wanted(&self, asked: Asked, table: &mut [u32]) -> Wanted {
+        let Asked {
+            start,
+            ceiling,
+            rate,
+            arrivals,
+        } = asked;
+        let wanted = nobyaluk::wanted_into(start, ceiling, rate, arrivals, table);
+        match (wanted.number, wanted.found) {
+            (23, 0) => Wanted::Refused,
+            (0, 0) => Wanted::NoTable,
+            (0, 1) => Wanted::Found,
+            other => panic!("{other:?} is no answer of a search"),
+        }
+    }
+
+    fn grant(&self, limit: u32, guarantees: &[u32], wishes: &[u32], grants: &mut [u32]) -> u32 {
+        refusal(nobyaluk::grant_into(limit, guarantees, wishes, grants))
+    }
+
+    fn put(&self, record: &mut [u8], step: usize, cell: usize, release: u32) -> Put {
+        let released = nobyaluk::put_into(record, step, cell, release);
+        Put {
+            number: refusal(released.number),
+            place: released.place as usize,
+        }
     }
 }

@@ -2,10 +2,14 @@
 
 use crate::freeway::{Ended, Freeway, Laws, Row, Told};
 use reference::answer::Answer;
+use reference::load::{self, Loaded};
 use reference::model::{self, Road, Start, State};
+use reference::put::{self, Put};
 use reference::record::{self, Reading};
 use reference::step::{self, Lanes, Stepped};
+use reference::street;
 use reference::trials::case::LawInput;
+use reference::wanted::{self, Asked, Wanted};
 use reference::weigh::{self, Weights};
 use reference::write::{self, Written};
 use reference::{fill, judge, lanes, meter, run};
@@ -128,5 +132,21 @@ impl Freeway for Reference {
 
     fn open_capacity(&self, capacity: u32, built: u8, open: u8) -> u32 {
         lanes::open_capacity(capacity, built, open)
+    }
+
+    fn load(&self, seed: u32, peak: u32, list: &mut [u32]) -> Loaded {
+        load::load(seed, peak, list)
+    }
+
+    fn wanted(&self, asked: Asked, table: &mut [u32]) -> Wanted {
+        wanted::wanted(asked, table)
+    }
+
+    fn grant(&self, limit: u32, guarantees: &[u32], wishes: &[u32], grants: &mut [u32]) -> u32 {
+        street::grant(limit, guarantees, wishes, grants)
+    }
+
+    fn put(&self, record: &mut [u8], step: usize, cell: usize, release: u32) -> Put {
+        put::put(record, step, cell, release)
     }
 }

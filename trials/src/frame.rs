@@ -52,6 +52,21 @@
 //! 'P'  weighted present
 //!      a road (1,040 bytes), a state (804 bytes)
 //!      weights (129 bytes)
+//! 'D'  arrivals from a seed and a peak
+//!      u32 seed, u32 peak
+//!      u32 L, the lent list's length
+//! 'Q'  releases for a wanted queue
+//!      u32 start, u32 ceiling, u32 rate
+//!      u32 K, K u32 of arrivals
+//!      u32 L, the lent table's length
+//! 'A'  the grants of a street
+//!      u32 limit
+//!      u32 K, K u32 of guarantees
+//!      u32 K, K u32 of wishes
+//!      u32 L, the lent list's length
+//! 'E'  a release put into a record
+//!      u64 step, u64 cell, u32 release
+//!      u32 B, B bytes of a record
 //!
 //! road     u32 n, u32 gate capacity, 64 x (u16 v, w, b, ramp mark), 64 x (u32 J, C),
 //!          u32 version (0 to 255), u32 seconds (0 to 65,535)
@@ -70,7 +85,7 @@
 //!
 //! Counts are within these limits: B at most 65,540; L of 'U', 'F' and 'G', Y
 //! and Z at most 9,000; K of 'S' at most 200; K of 'W' and L of 'T' at most
-//! 16,512; L of 'W' at most 65,600.
+//! 16,512; L of 'W' at most 65,600. Those of 'D', 'Q' and 'A' are at most 9,000.
 
 use reference::model::{Road, Start, State};
 use reference::step::Lanes;
@@ -78,6 +93,10 @@ use reference::trials::case::{
     Case, FillInput, LawInput, LeafInput, PresentInput, StepInput, WeighInput, WriteInput,
     MAX_LANES, MAX_LIST, MAX_RECORD, MAX_ROW, MAX_ROWS, MAX_TARGET,
 };
+use reference::trials::loads::LoadInput;
+use reference::trials::puts::PutInput;
+use reference::trials::streets::GrantInput;
+use reference::trials::wanted_queues::WantedInput;
 use reference::weigh::Weights;
 
 /// Puts the frame of a case after what is there.
@@ -177,6 +196,10 @@ pub fn encode(case: &Case, out: &mut Vec<u8>) {
             put_state(out, &input.state);
             put_weights(out, &input.weights);
         }
+        Case::Load(input) => put_load(out, input),
+        Case::Wanted(input) => put_wanted(out, input),
+        Case::Grant(input) => put_grant(out, input),
+        Case::Put(input) => put_put(out, input),
     }
 }
 
@@ -244,6 +267,38 @@ fn put_start(out: &mut Vec<u8>, start: &Start) {
         put(out, start.held[i]);
         put(out, start.queue[i]);
     }
+}
+
+fn put_load(out: &mut Vec<u8>, input: &LoadInput) {
+    out.push(b'D');
+    put(out, input.seed);
+    put(out, input.peak);
+    put(out, input.length as u32);
+}
+
+fn put_wanted(out: &mut Vec<u8>, input: &WantedInput) {
+    out.push(b'Q');
+    for number in [input.start, input.ceiling, input.rate] {
+        put(out, number);
+    }
+    put_numbers(out, &input.arrivals);
+    put(out, input.length as u32);
+}
+
+fn put_grant(out: &mut Vec<u8>, input: &GrantInput) {
+    out.push(b'A');
+    put(out, input.limit);
+    put_numbers(out, &input.guarantees);
+    put_numbers(out, &input.wishes);
+    put(out, input.length as u32);
+}
+
+fn put_put(out: &mut Vec<u8>, input: &PutInput) {
+    out.push(b'E');
+    out.extend(input.step.to_be_bytes());
+    out.extend(input.cell.to_be_bytes());
+    put(out, input.release);
+    put_bytes(out, &input.record);
 }
 
 /// The cases of all frames. The error names the frame, counted from 0.
@@ -336,6 +391,10 @@ impl<'a> Reader<'a> {
                 state: self.state()?,
                 weights: self.weights()?,
             }))),
+            b'D' => Ok(Case::Load(self.load()?)),
+            b'Q' => Ok(Case::Wanted(self.wanted()?)),
+            b'A' => Ok(Case::Grant(self.grant()?)),
+            b'E' => Ok(Case::Put(self.put()?)),
             kind => Err(format!("{kind} is not a kind of frame")),
         }
     }
@@ -468,5 +527,41 @@ impl<'a> Reader<'a> {
             start.queue[i] = self.u32(what)?;
         }
         Ok(start)
+    }
+
+    fn load(&mut self) -> Result<LoadInput, String> {
+        Ok(LoadInput {
+            seed: self.u32("the seed")?,
+            peak: self.u32("the peak")?,
+            length: self.count("the list's length", MAX_LIST)?,
+        })
+    }
+
+    fn wanted(&mut self) -> Result<WantedInput, String> {
+        Ok(WantedInput {
+            start: self.u32("the start")?,
+            ceiling: self.u32("the ceiling")?,
+            rate: self.u32("the rate")?,
+            arrivals: self.numbers("the arrivals", MAX_LIST)?,
+            length: self.count("the table's length", MAX_LIST)?,
+        })
+    }
+
+    fn grant(&mut self) -> Result<GrantInput, String> {
+        Ok(GrantInput {
+            limit: self.u32("the limit")?,
+            guarantees: self.numbers("the guarantees", MAX_LIST)?,
+            wishes: self.numbers("the wishes", MAX_LIST)?,
+            length: self.count("the list's length", MAX_LIST)?,
+        })
+    }
+
+    fn put(&mut self) -> Result<PutInput, String> {
+        Ok(PutInput {
+            step: self.u64("the step")?,
+            cell: self.u64("the cell")?,
+            release: self.u32("the release")?,
+            record: self.record()?,
+        })
     }
 }

@@ -1,10 +1,13 @@
 //! The operations that both implementations have, in the reference's own types.
 
 use reference::answer::Answer;
+use reference::load::Loaded;
 use reference::model::{Road, Start, State};
+use reference::put::Put;
 use reference::record::Reading;
 use reference::step::{Lanes, Stepped};
 use reference::trials::case::LawInput;
+use reference::wanted::{Asked, Wanted};
 use reference::weigh::Weights;
 use reference::write::Written;
 
@@ -67,4 +70,8 @@ pub trait Freeway {
     fn supply(&self, wave: u16, capacity: u32, jam: u32, held: u32) -> u32;
     fn outflow(&self, share: u16, cumulative: u32, room: u32, demand: u32) -> u32;
     fn open_capacity(&self, capacity: u32, built: u8, open: u8) -> u32;
+    fn load(&self, seed: u32, peak: u32, list: &mut [u32]) -> Loaded;
+    fn wanted(&self, asked: Asked, table: &mut [u32]) -> Wanted;
+    fn grant(&self, limit: u32, guarantees: &[u32], wishes: &[u32], grants: &mut [u32]) -> u32;
+    fn put(&self, record: &mut [u8], step: usize, cell: usize, release: u32) -> Put;
 }

@@ -20,6 +20,8 @@ mod freeway;
 mod lent;
 mod options;
 mod show;
+#[cfg(test)]
+mod street;
 mod tally;
 #[cfg(test)]
 mod tests;

@@ -5,6 +5,10 @@ use reference::model::Road;
 use reference::trials::case::{
     Case, FillInput, LeafInput, PresentInput, StepInput, WeighInput, WriteInput,
 };
+use reference::trials::loads::LoadInput;
+use reference::trials::puts::PutInput;
+use reference::trials::streets::GrantInput;
+use reference::trials::wanted_queues::WantedInput;
 use reference::weigh::Weights;
 use std::fmt::Display;
 
@@ -23,6 +27,10 @@ pub fn kind(case: &Case) -> &'static str {
         Case::Rows { .. } => "rows",
         Case::Weigh(_) => "run-weighted",
         Case::Present(_) => "weighted",
+        Case::Load(_) => "load",
+        Case::Wanted(_) => "wanted",
+        Case::Grant(_) => "grant",
+        Case::Put(_) => "put",
     }
 }
 
@@ -67,6 +75,10 @@ pub fn case(case: &Case) -> String {
         } => format!("n {n}, T {steps}, list of {length} numbers\n{}", hex(bytes)),
         Case::Weigh(input) => weigh_text(input),
         Case::Present(input) => present_text(input),
+        Case::Load(input) => load_text(input),
+        Case::Wanted(input) => wanted_text(input),
+        Case::Grant(input) => grant_text(input),
+        Case::Put(input) => put_text(input),
     }
 }
 
@@ -227,4 +239,44 @@ fn leaf_text(input: &LeafInput) -> String {
         input.held,
         input.cap
     )
+}
+
+fn load_text(input: &LoadInput) -> String {
+    let LoadInput { seed, peak, length } = input;
+    format!("seed {seed}, peak {peak}, list of {length} numbers\n")
+}
+
+fn wanted_text(input: &WantedInput) -> String {
+    let WantedInput {
+        start,
+        ceiling,
+        rate,
+        arrivals,
+        length,
+    } = input;
+    let asked =
+        format!("start {start}, ceiling {ceiling}, rate {rate}, table of {length} numbers\n");
+    asked + &table("arrivals", arrivals, 16)
+}
+
+fn grant_text(input: &GrantInput) -> String {
+    let GrantInput {
+        limit,
+        guarantees,
+        wishes,
+        length,
+    } = input;
+    let asked = format!("limit {limit}, list of {length} numbers\n");
+    asked + &table("guarantees", guarantees, 16) + &table("wishes", wishes, 16)
+}
+
+fn put_text(input: &PutInput) -> String {
+    let PutInput {
+        step,
+        cell,
+        release,
+        record,
+    } = input;
+    let asked = format!("step {step}, cell {cell}, release {release}\n");
+    asked + &record_text(record)
 }

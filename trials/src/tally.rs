@@ -35,7 +35,7 @@ impl Tally {
     pub fn table(&self) -> String {
         let mut lines: BTreeMap<&str, String> = BTreeMap::new();
         for ((kind, number), count) in &self.seen {
-            let line = lines.entry(kind).or_insert(format!("{kind:8}"));
+            let line = lines.entry(kind).or_insert(format!("{kind:12}"));
             line.push_str(&format!(" {number}: {count}"));
         }
         lines.into_values().map(|line| line + "\n").collect()

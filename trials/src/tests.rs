@@ -25,7 +25,7 @@ fn samples() -> Vec<Case> {
             found.push(case);
         }
     }
-    assert_eq!(found.len(), 12);
+    assert_eq!(found.len(), 16);
     found
 }
 

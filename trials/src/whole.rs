@@ -3,12 +3,19 @@
 
 use crate::freeway::{Ended, Freeway, Told};
 use crate::lent::{self, Lent};
+use reference::load::Loaded;
 use reference::model::{Road, State};
+use reference::put::Put;
 use reference::record::Reading;
 use reference::step::Stepped;
 use reference::trials::case::{
     Case, FillInput, LeafInput, PresentInput, StepInput, WeighInput, WriteInput,
 };
+use reference::trials::loads::LoadInput;
+use reference::trials::puts::PutInput;
+use reference::trials::streets::GrantInput;
+use reference::trials::wanted_queues::WantedInput;
+use reference::wanted::Wanted;
 use reference::write::Written;
 use std::fmt;
 
@@ -231,6 +238,10 @@ pub fn answer(freeway: &impl Freeway, case: &Case) -> Whole {
             } = &**input;
             whole.put("weighted", [freeway.weighted(road, state, weights)]);
         }
+        Case::Load(input) => load(freeway, input, &mut whole),
+        Case::Wanted(input) => wanted(freeway, input, &mut whole),
+        Case::Grant(input) => grant(freeway, input, &mut whole),
+        Case::Put(input) => put(freeway, input, &mut whole),
     }
     whole
 }
@@ -347,6 +358,48 @@ fn leaf(freeway: &impl Freeway, input: &LeafInput, whole: &mut Whole) {
     let wish = freeway.wish(&input.law, input.last, input.entered, input.held);
     whole.put("wish, as bits", [bits_of(wish)]);
     whole.put("release", [freeway.release(wish, input.cap)]);
+}
+
+fn load(freeway: &impl Freeway, input: &LoadInput, whole: &mut Whole) {
+    let mut list = lent::numbers(input.length);
+    let Loaded { number, last } = freeway.load(input.seed, input.peak, list.list());
+    whole.put("number", [number]);
+    whole.put("last", [last]);
+    whole.put_lent("arrivals", list);
+}
+
+fn wanted(freeway: &impl Freeway, input: &WantedInput, whole: &mut Whole) {
+    let mut table = lent::numbers(input.length);
+    let (number, found) = match freeway.wanted(input.asked(), table.list()) {
+        Wanted::Refused => (23_u32, false),
+        Wanted::NoTable => (0, false),
+        Wanted::Found => (0, true),
+    };
+    whole.put("number", [number]);
+    whole.put("found", [found]);
+    whole.put_lent("releases", table);
+}
+
+fn grant(freeway: &impl Freeway, input: &GrantInput, whole: &mut Whole) {
+    let mut grants = lent::numbers(input.length);
+    let GrantInput {
+        limit,
+        guarantees,
+        wishes,
+        ..
+    } = input;
+    let number = freeway.grant(*limit, guarantees, wishes, grants.list());
+    whole.put("number", [number]);
+    whole.put_lent("grants", grants);
+}
+
+fn put(freeway: &impl Freeway, input: &PutInput, whole: &mut Whole) {
+    let mut record = lent::given(&input.record);
+    let (step, cell) = (input.step as usize, input.cell as usize);
+    let Put { number, place } = freeway.put(record.list(), step, cell, input.release);
+    whole.put("number", [number]);
+    whole.put_size("place", place);
+    whole.put_lent("record", record);
 }
 
 /// The bits of a float; those of all that aren't numbers are the same.

@@ -1,4 +1,4 @@
-"""Loading and a wanted queue, by numbers worked out on paper."""
+"""Loading, a wanted queue, a street and putting a release, by numbers worked out on paper."""
 import numpy as np
 import pytest
 from nobyaluk import engine
@@ -24,3 +24,18 @@ def test_a_wanted_queue():
     assert engine.wanted(4, 3, 2, [0, 0, 3]).tolist() == [1, 1, 2]
     assert engine.wanted(4, 3, 2, [0, 0, 6]) is None
     assert refusal(engine.wanted, 4, 3, 2, []) == (23, 0)
+
+
+def test_a_street():
+    assert engine.grant(10, [2, 3, 1], [7, 1, 9]).tolist() == [7, 1, 2]
+    assert refusal(engine.grant, 5, [2, 3, 1], [7, 1, 9]) == (24, 0)
+
+
+def test_a_release_put(examples):
+    old = engine.read((examples / "printed-run.rec").read_bytes())
+    assert [refusal(engine.put, old, step, cell, release) for step, cell, release in
+            [(0, 0, 7), (0, 1, 7), (0, 3, 7), (3, 2, 7), (1, 2, 1_000_001)]] == [(5, 0), (5, 1), (5, 3), (6, 3), (6, 1)]
+    new = engine.put(old, 1, 2, 7)
+    assert new.rows[1].tolist() == [1000, 0, 0, 500, 7]
+    assert [i for i in range(3) if new.rows[i].tolist() != old.rows[i].tolist()] == [1]
+    assert refusal(engine.run, engine.put(old, 1, 2, 2201)) == (9, 2)  # 1,700 wait after step 0 and 500 arrive

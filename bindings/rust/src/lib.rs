@@ -30,6 +30,8 @@ pub const VERSION: u32 = 1;
 pub const CELLS: usize = 64;
 pub const STEPS: usize = 1_440;
 pub const BYTES: usize = 65_536;
+/// The most ramps that share a street.
+pub const RAMPS: usize = 8;
 /// The most numbers that a table of T rows of n + 1 outflows can have.
 pub const MOST_OUTFLOWS: usize = 8_799;
 
@@ -156,6 +158,14 @@ pub struct Wanted {
     pub found: u64,
 }
 
+/// What putting a release answers.
+#[repr(C)]
+#[derive(Clone, Copy, Debug, PartialEq, Eq)]
+pub struct Released {
+    pub number: u64,
+    pub place: u64,
+}
+
 const _: () =
     assert!(size_of::<Road>() == 1040 && size_of::<State>() == 808 && size_of::<Start>() == 516);
 const _: () = assert!(
@@ -196,7 +206,10 @@ impl Law {
 }
 
 mod raw {
-    use super::{Ended, Lanes, Loaded, Reading, Road, Start, State, Stepped, Wanted, Weighed, Weights, Written};
+    use super::{
+        Ended, Lanes, Loaded, Reading, Released, Road, Start, State, Stepped, Wanted, Weighed,
+        Weights, Written,
+    };
     extern "C" {
         pub fn nobyaluk_version() -> u32;
         pub fn nobyaluk_read(record: *const u8, bytes: usize) -> Reading;
@@ -276,6 +289,22 @@ mod raw {
             table: *mut u32,
             table_count: usize,
         ) -> Wanted;
+        pub fn nobyaluk_grant(
+            limit: u32,
+            guarantees: *const u32,
+            guarantees_count: usize,
+            wishes: *const u32,
+            wishes_count: usize,
+            grants: *mut u32,
+            grants_count: usize,
+        ) -> u64;
+        pub fn nobyaluk_put(
+            record: *mut u8,
+            bytes: usize,
+            step: usize,
+            cell: usize,
+            release: u32,
+        ) -> Released;
         pub fn nobyaluk_step(
             road: Road,
             state: State,
@@ -462,6 +491,26 @@ pub fn wanted_into(
             table.len(),
         )
     }
+}
+
+/// Grants the releases of a step to the ramps of a street; the refusal's number.
+pub fn grant_into(limit: u32, guarantees: &[u32], wishes: &[u32], grants: &mut [u32]) -> u64 {
+    unsafe {
+        raw::nobyaluk_grant(
+            limit,
+            guarantees.as_ptr(),
+            guarantees.len(),
+            wishes.as_ptr(),
+            wishes.len(),
+            grants.as_mut_ptr(),
+            grants.len(),
+        )
+    }
+}
+
+/// Puts a release into a record at a step, counted from 0, and a cell, counted from 1.
+pub fn put_into(record: &mut [u8], step: usize, cell: usize, release: u32) -> Released {
+    unsafe { raw::nobyaluk_put(record.as_mut_ptr(), record.len(), step, cell, release) }
 }
 
 /// One step by a row of the record's order.

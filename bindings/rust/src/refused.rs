@@ -1,5 +1,5 @@
 //! A refusal in words, and answers as results.
-use crate::{Ended, Reading, Stepped, Written};
+use crate::{Ended, Loaded, Reading, Released, Stepped, Wanted, Written};
 use std::fmt;
 
 /// The table of refusals: number, what its place is, in words, who says it.
@@ -90,6 +90,27 @@ impl Written {
     }
 }
 
+impl Loaded {
+    /// The load, or the refusal.
+    pub fn ok(self) -> Result<Self, Refused> {
+        result(self, self.number, 0, 0)
+    }
+}
+
+impl Wanted {
+    /// Found or none, or the refusal.
+    pub fn ok(self) -> Result<Self, Refused> {
+        result(self, self.number, 0, 0)
+    }
+}
+
+impl Released {
+    /// The release put, or the refusal.
+    pub fn ok(self) -> Result<Self, Refused> {
+        result(self, self.number, 0, self.place)
+    }
+}
+
 #[cfg(test)]
 mod tests {
     use super::*;
@@ -104,10 +125,10 @@ mod tests {
             }
             .to_string()
         };
-        for number in 1..=19 {
+        for number in (1..=19).chain(23..=25) {
             assert!(!said(number, 0, 0).contains("not in the table"), "{number}");
         }
-        assert_eq!(said(6, 0, 7), "refused 6: step 7: a row's number above 1,000,000, or one other than 0 for a cell without a ramp");
+        assert_eq!(said(6, 0, 7), "refused 6: step 7: a row's number above 1,000,000, or one other than 0 for a cell without a ramp; a step from T on");
         assert_eq!(
             said(10, 3, 2),
             "refused 10: step 3, cell 2: a release above its cell's supply"

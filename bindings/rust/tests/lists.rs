@@ -1,5 +1,11 @@
-//! Loading and a wanted queue, by numbers worked out on paper.
-use nobyaluk::{load_into, wanted_into};
+//! Loading, a wanted queue, a street and putting a release, by numbers worked out on paper.
+use nobyaluk::{grant_into, load_into, put_into, read, rows_into, run, wanted_into};
+use std::path::PathBuf;
+
+fn printed_run() -> Vec<u8> {
+    let folder = PathBuf::from(env!("CARGO_MANIFEST_DIR")).join("../../examples");
+    std::fs::read(folder.join("printed-run.rec")).unwrap()
+}
 
 #[test]
 fn a_stated_load() {
@@ -26,4 +32,46 @@ fn a_wanted_queue() {
     assert_eq!((none.number, none.found, table), (0, 0, [1, 1, 2]));
     let refused = wanted_into(4, 3, 1_000_001, &[0, 0, 3], &mut table);
     assert_eq!((refused.number, refused.found, table), (23, 0, [1, 1, 2]));
+}
+
+#[test]
+fn a_street() {
+    let mut grants = [8; 3];
+    assert_eq!(grant_into(10, &[2, 3, 1], &[7, 1, 9], &mut grants), 0);
+    assert_eq!(grants, [7, 1, 2]);
+    assert_eq!(grant_into(5, &[2, 3, 1], &[7, 1, 9], &mut grants), 24);
+    assert_eq!(grants, [7, 1, 2]);
+}
+
+#[test]
+fn a_release_put() {
+    let old = printed_run();
+    let mut record = old.clone();
+    let refused = [
+        (put_into(&mut record, 0, 0, 7), 5, 0),
+        (put_into(&mut record, 0, 1, 7), 5, 1),
+        (put_into(&mut record, 0, 3, 7), 5, 3),
+        (put_into(&mut record, 3, 2, 7), 6, 3),
+        (put_into(&mut record, 1, 2, 1_000_001), 6, 1),
+    ];
+    for (a, number, place) in refused {
+        assert_eq!((a.number, a.place), (number, place));
+    }
+    assert_eq!(record, old);
+    assert_eq!(put_into(&mut record, 1, 2, 7).number, 0);
+    assert_eq!(read(&record), read(&old));
+    let mut rows = [0; 15];
+    rows_into(&record, 2, 3, &mut rows);
+    assert_eq!(rows[5..10], [1000, 0, 0, 500, 7]);
+    assert_eq!(
+        record.iter().zip(&old).filter(|(a, b)| a != b).count(),
+        2,
+        "300 and 7 differ in two bytes"
+    );
+    put_into(&mut record, 1, 2, 2201);
+    assert_eq!(
+        run(&record, &[]).unwrap_err().number,
+        9,
+        "1,700 wait after step 0 and 500 arrive"
+    );
 }

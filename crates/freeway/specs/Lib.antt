@@ -1,3 +1,4 @@
 pub mod Versions
 pub mod Twice
 pub mod WantedRun
+pub mod PutRun

@@ -94,11 +94,15 @@ pub fn alter(case: &mut Case, dice: &mut Dice) {
         },
         Case::Weigh(input) => alter_weigh(input, dice),
         Case::Present(input) => alter_present(input, dice),
+        Case::Load(input) => input.alter(dice),
+        Case::Wanted(input) => input.alter(dice),
+        Case::Grant(input) => input.alter(dice),
+        Case::Put(input) => input.alter(dice),
     }
 }
 
 /// One more, one less, an edge, or anything.
-fn near(number: u32, dice: &mut Dice) -> u32 {
+pub fn near(number: u32, dice: &mut Dice) -> u32 {
     match dice.upto(5) {
         0 | 1 => number.wrapping_add(1),
         2 | 3 => number.wrapping_sub(1),
@@ -111,7 +115,8 @@ fn near_u16(number: u16, dice: &mut Dice) -> u16 {
     near(u32::from(number), dice) as u16
 }
 
-fn near_u64(number: u64, dice: &mut Dice) -> u64 {
+/// As `near`.
+pub fn near_u64(number: u64, dice: &mut Dice) -> u64 {
     match dice.upto(4) {
         0 => number.wrapping_add(1),
         1 => number.wrapping_sub(1),
@@ -129,7 +134,8 @@ fn altered_byte(byte: u8, dice: &mut Dice) -> u8 {
     }
 }
 
-fn alter_length(length: &mut usize, most: usize, dice: &mut Dice) {
+/// One more or less, some more, or fewer.
+pub fn alter_length(length: &mut usize, most: usize, dice: &mut Dice) {
     *length = match dice.upto(3) {
         0 => *length + 1,
         1 => length.saturating_sub(1),
@@ -145,7 +151,8 @@ fn place(count: usize, dice: &mut Dice) -> Option<usize> {
     Some(dice.upto(last as u64) as usize)
 }
 
-fn alter_numbers(numbers: &mut Vec<u32>, most: usize, dice: &mut Dice) {
+/// A number near what it was, or the list's length.
+pub fn alter_numbers(numbers: &mut Vec<u32>, most: usize, dice: &mut Dice) {
     if dice.one_in(8) {
         let mut length = numbers.len();
         alter_length(&mut length, most, dice);
@@ -166,7 +173,7 @@ fn alter_lanes(lanes: &mut Vec<u8>, dice: &mut Dice) {
 }
 
 /// A record's head, cells or rows changed, or its end.
-fn alter_record(bytes: &mut Vec<u8>, dice: &mut Dice) {
+pub fn alter_record(bytes: &mut Vec<u8>, dice: &mut Dice) {
     if bytes.len() < 16 {
         bytes.push(dice.bits() as u8);
         return;

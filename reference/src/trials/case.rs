@@ -1,6 +1,10 @@
 //! A case: what one operation is asked. Lists and targets are lent by the one who
 //! asks; a case says how long they are.
 
+use super::loads::LoadInput;
+use super::puts::PutInput;
+use super::streets::GrantInput;
+use super::wanted_queues::WantedInput;
 use crate::fill::Laws;
 use crate::meter::Law;
 use crate::model::{Road, Start, State};
@@ -58,6 +62,10 @@ pub enum Case {
     },
     Weigh(Box<WeighInput>),
     Present(Box<PresentInput>),
+    Load(LoadInput),
+    Wanted(WantedInput),
+    Grant(GrantInput),
+    Put(PutInput),
 }
 
 /// What stepping takes.

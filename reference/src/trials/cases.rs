@@ -4,6 +4,10 @@ use super::case::{
     Case, FillInput, LeafInput, PresentInput, StepInput, WeighInput, WriteInput, MAX_LANES,
     MAX_LIST, MAX_RECORD, MAX_ROW, MAX_ROWS, MAX_TARGET,
 };
+use super::loads::LoadInput;
+use super::puts::PutInput;
+use super::streets::GrantInput;
+use super::wanted_queues::WantedInput;
 use crate::draft::Draft;
 use crate::model::Road;
 use crate::run;
@@ -103,6 +107,27 @@ impl Cases {
 
     pub fn present(&mut self, input: &PresentInput) {
         self.list.push(Case::Present(Box::new(input.clone())));
+    }
+
+    pub fn load(&mut self, seed: u32, peak: u32, length: usize) {
+        assert!(length <= MAX_LIST);
+        self.list.push(Case::Load(LoadInput { seed, peak, length }));
+    }
+
+    pub fn wanted(&mut self, input: &WantedInput) {
+        assert!(input.arrivals.len() <= MAX_LIST && input.length <= MAX_LIST);
+        self.list.push(Case::Wanted(input.clone()));
+    }
+
+    pub fn grant(&mut self, input: &GrantInput) {
+        let counts = [input.guarantees.len(), input.wishes.len(), input.length];
+        assert!(counts.iter().all(|&count| count <= MAX_LIST));
+        self.list.push(Case::Grant(input.clone()));
+    }
+
+    pub fn put(&mut self, input: &PutInput) {
+        assert!(input.record.len() <= MAX_RECORD);
+        self.list.push(Case::Put(input.clone()));
     }
 
     /// These bytes read, run with a list of this length, and judged with a

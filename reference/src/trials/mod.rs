@@ -4,7 +4,11 @@
 pub mod case;
 pub mod cases;
 pub mod dice;
+pub mod loads;
+pub mod puts;
 pub mod source;
+pub mod streets;
+pub mod wanted_queues;
 
 mod altered;
 mod cells;
@@ -57,5 +61,12 @@ pub fn all_cases() -> Vec<Case> {
     rows::add(&mut cases, &trials);
     // Group 11: runs weighted, and weighted present.
     weights::add(&mut cases, &trials);
+    // Group 12: arrivals from a seed and a peak, refusal 25.
+    loads::add(&mut cases);
+    // Group 13: releases for a wanted queue, refusal 23.
+    wanted_queues::add(&mut cases);
+    // Group 14: the grants of a street, refusal 24, and a release put into a record.
+    streets::add(&mut cases);
+    puts::add(&mut cases, &trials);
     cases.list
 }

@@ -7,18 +7,22 @@ use super::closures;
 use super::dice::Dice;
 use super::judged;
 use super::leaves;
+use super::loads;
 use super::meters;
+use super::puts;
 use super::roads;
 use super::steps;
+use super::streets;
 use super::trial::Trial;
 use super::versions;
+use super::wanted_queues;
 use super::weights;
 use super::writes;
 use crate::model::Road;
 use crate::record;
 
 pub fn case(dice: &mut Dice) -> Case {
-    match dice.upto(36) {
+    match dice.upto(42) {
         0..=6 => run(dice),
         7..=14 => judge(dice),
         15..=18 => Case::Step(Box::new(step(dice))),
@@ -30,6 +34,10 @@ pub fn case(dice: &mut Dice) -> Case {
         30 => Case::Leaf(leaves::common(dice)),
         31..=34 => Case::Weigh(Box::new(weigh(dice))),
         35 => Case::Present(Box::new(present(dice))),
+        36 => Case::Load(loads::random(dice)),
+        37 | 38 => Case::Wanted(wanted_queues::random(dice)),
+        39 => Case::Grant(streets::random(dice)),
+        40 | 41 => Case::Put(puts::random(trial(dice).record, dice)),
         _ => Case::Capacity {
             capacity: dice.any_size(u64::from(Road::MAX_RATE)) as u32,
             built: dice.bits() as u8,

@@ -53,6 +53,10 @@ fn is_short(case: &Case) -> bool {
         Case::Row { bytes, .. } | Case::Rows { bytes, .. } => bytes.len(),
         Case::Write(input) => 4 * input.rows.len(),
         Case::Step(_) | Case::Present(_) | Case::Leaf(_) | Case::Capacity { .. } => 0,
+        Case::Load(input) => 4 * input.length,
+        Case::Wanted(input) => 4 * input.arrivals.len(),
+        Case::Grant(input) => 4 * input.wishes.len(),
+        Case::Put(input) => input.record.len(),
     };
     bytes <= MAX_BYTES
 }

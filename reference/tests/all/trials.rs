@@ -2,12 +2,15 @@
 
 use crate::support::*;
 use reference::print::printed_schedule;
+use reference::put::put;
 use reference::record::read;
+use reference::street::grant;
 use reference::text::schedule_of;
 use reference::trials::all_cases;
 use reference::trials::case::Case;
 use reference::trials::source::Source;
-use reference::{fill, judge, run, step, weigh, write};
+use reference::wanted::{wanted, Wanted};
+use reference::{fill, judge, load, run, step, weigh, write};
 use std::collections::BTreeSet;
 use std::sync::OnceLock;
 
@@ -59,6 +62,24 @@ fn answered(case: &Case) -> (&'static str, u32) {
         Case::Rows { .. } => ("rows", 0),
         Case::Leaf(_) => ("leaf", 0),
         Case::Capacity { .. } => ("capacity", 0),
+        Case::Load(x) => {
+            let mut list = vec![LENT; x.length];
+            ("load", load::load(x.seed, x.peak, &mut list).number)
+        }
+        Case::Wanted(x) => match wanted(x.asked(), &mut vec![LENT; x.length]) {
+            Wanted::Refused => ("wanted", 23),
+            Wanted::NoTable => ("wanted, none", 0),
+            Wanted::Found => ("wanted", 0),
+        },
+        Case::Grant(x) => {
+            let mut grants = vec![LENT; x.length];
+            let number = grant(x.limit, &x.guarantees, &x.wishes, &mut grants);
+            ("grant", number)
+        }
+        Case::Put(x) => {
+            let (mut record, step, cell) = (x.record.clone(), x.step as usize, x.cell as usize);
+            ("put", put(&mut record, step, cell, x.release).number)
+        }
     }
 }
 
@@ -89,7 +110,7 @@ fn the_first_cases_are_those_of_the_printed_run() {
 #[test]
 fn there_are_enough_cases_of_each_kind() {
     let cases = made();
-    assert_eq!(cases.len(), 8_815);
+    assert_eq!(cases.len(), 12_239);
     for (kind, least) in [
         ("read", 400),
         ("step", 400),
@@ -100,6 +121,11 @@ fn there_are_enough_cases_of_each_kind() {
         ("capacity", 900),
         ("run weighted", 300),
         ("weighted", 70),
+        ("load", 200),
+        ("wanted", 600),
+        ("wanted, none", 600),
+        ("grant", 800),
+        ("put", 500),
     ] {
         assert!(count(cases, kind, None) >= least, "{kind}");
     }
@@ -146,6 +172,10 @@ fn every_refusal_occurs(cases: &[Case]) {
     assert_eq!(found("write"), [0, 1, 2, 3, 4, 5, 6, 15, 19].into());
     let fill = (0..=6).chain([11]).chain(16..=19).collect();
     assert_eq!(found("fill"), fill);
+    assert_eq!(found("load"), [0, 25].into());
+    assert_eq!(found("wanted"), [0, 23].into());
+    assert_eq!(found("grant"), [0, 24].into());
+    assert_eq!(found("put"), (0..=6).chain([19]).collect());
 }
 
 #[test]

@@ -1,0 +1,75 @@
+-- Theorem across putting a release and running: the record that putting leaves is run under every table of lanes that the old one was, its run checks
+-- the release against queue and supply, and it carries demand 3 against its own rivals. Assumes nothing.
+use mathlib.Core.Path.{_≡_, refl, sym, ap, _∙_}
+use mathlib.Core.List.{List}
+use Prim.Native.Nat.{ℕ, _+_, _*_, _≤_, _<_}
+use native.Mathlib.Nat.{le-refl}
+use native.Mathlib.Omega.{arith}
+use lib.ListN.{set}
+use Rattle.numbers.specs.Lists.{at}
+use Rattle.road.specs.declared.State.{State}
+use Rattle.road.specs.Study.{Study, roadAt}
+use Rattle.fields.specs.Fields.{recordRow}
+use Rattle.fields.specs.FieldsLaws.{row-at}
+use Rattle.reading.specs.Reading.{ReadAnswer, readingOf, studyOf}
+use Rattle.model.specs.Places.{releaseAt, mostReleaseAt, supplyAt}
+use Rattle.schedules.specs.Schedules.{scheduledAt, EndAnswer, stepsMade, runningOf, listAfter}
+use Rattle.schedules.specs.Readable.{readable}
+use Rattle.schedules.specs.Demand.{Taken, Promised}
+use Rattle.schedules.specs.Whole.{promised}
+use Rattle.put.specs.Put.{puttingOf, releasedRecord}
+use Rattle.put.specs.Theorems.{Asked, Stands, puts}
+
+module _ (bytes lanes : List ℕ) (taken : Taken bytes lanes) (step cell release : ℕ) (put : puttingOf bytes step cell release .number ≡ 0) where
+  abbrev after : List ℕ
+  after = releasedRecord bytes step cell release
+
+  abbrev a : Study
+  a = studyOf (releasedRecord bytes step cell release) lanes
+
+  stands : Stands bytes (releasedRecord bytes step cell release) step cell release
+  stands = puts bytes step cell release put .1
+
+  asked : Asked bytes step cell release
+  asked = puts bytes step cell release put .0
+
+  -- it is opened as the old one was
+  pub put-taken : Taken (releasedRecord bytes step cell release) lanes
+  put-taken = record {
+    reads = ap (λ (x : ReadAnswer). x .number) (stands .reads) ∙ taken .reads;
+    opens = rw (stands .reads) (taken .opens);
+  }
+
+  -- its study has the release in its step's row, and else the old rows
+  pub put-row : studyOf (releasedRecord bytes step cell release) lanes .rows step ≡ set (studyOf bytes lanes .rows step) (2 * cell) release
+  put-row = rw (stands .reads) (stands .put .row)
+
+  pub put-rows : (k : ℕ) → (k ≡ step → ⊥) → studyOf (releasedRecord bytes step cell release) lanes .rows k ≡ studyOf bytes lanes .rows k
+  put-rows k d = rw (stands .reads) (stands .put .rows k d)
+
+  -- demand 3 holds of it: each road is compared with its own rivals
+  pub put-promised : (list : List ℕ)
+      → Promised (releasedRecord bytes step cell release) lanes (listAfter (releasedRecord bytes step cell release) lanes list)
+      (runningOf (releasedRecord bytes step cell release) lanes list)
+  put-promised list = promised (releasedRecord bytes step cell release) lanes put-taken list
+
+  -- the release stands in the row as the model counts it
+  pub put-release : (i : ℕ) → i + 1 ≡ cell → releaseAt (studyOf (releasedRecord bytes step cell release) lanes .rows step) i ≡ release
+  put-release i e =
+      let k : 2 * i + 2 ≡ 2 * cell = omega arith in
+      let n = readingOf bytes .road .n in
+      rw (stands .reads, k) (row-at after n step (2 * cell) (omega (arith, asked .ramp .within)) ∙ stands .put .number)
+
+  -- a run that makes that step has checked it: against queue plus arrivals, and against the supply
+  module _ (list : List ℕ)
+      (made : step < stepsMade (studyOf (releasedRecord bytes step cell release) lanes) (runningOf (releasedRecord bytes step cell release) lanes list)) where
+    abbrev before : State
+    before = scheduledAt a (listAfter after lanes list) step
+
+    pub put-checked : (i : ℕ) → i + 1 ≡ cell → (release ≤ mostReleaseAt before (a .rows step) i) × (release ≤ supplyAt (roadAt a step) before i)
+    put-checked i e =
+        let own = put-promised list .grounds .own (stepsMade a (runningOf after lanes list)) (le-refl _) .obeys step made .released in
+        let ok = readable after lanes (readingOf after) refl (put-taken .reads) (put-taken .opens) .ok in
+        let n : i < roadAt a step .n =
+        omega (arith, ok .roads step .n, asked .ramp .within, ap (λ (x : ReadAnswer). x .road .n) (stands .reads)) in
+        (omega (arith, put-release i e, own .queue i n), omega (arith, put-release i e, own .supply i n))

@@ -1,0 +1,4 @@
+pub mod Put
+pub mod Stated
+pub mod PutLaws
+pub mod Theorems

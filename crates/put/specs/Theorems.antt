@@ -1,0 +1,173 @@
+-- The theorems of putting a release: exactly that number changes, all else of the record and of its reading stands; each refusal comes exactly where
+-- it should, and leaves the record as it was. Assumes nothing.
+use mathlib.Core.Path.{_≡_, refl, sym, ap, _∙_}
+use mathlib.Core.Bool.{Bool, true, false}
+use mathlib.Core.Logic.{_⊎_, ⊎-elim, inl, inr}
+use mathlib.Core.List.{List}
+use Prim.Native.Nat.{ℕ, _+_, _-_, _*_, _^_, _≤_, _<_}
+use native.Mathlib.Nat.{mul-le-mul-right}
+use native.Mathlib.Omega.{arith}
+use lib.Dec.{eqb}
+use lib.ListN.{length, set, length-set}
+use lib.Seq.{getD-set-same, getD-set-other}
+use borrow.Author.Tests.{eqb-true, eqb-false, eq-eqb}
+use Rattle.numbers.specs.Lists.{at}
+use Rattle.numbers.specs.First.{unless}
+use Rattle.road.specs.declared.Road.{Road}
+use Rattle.road.specs.Road.{mostRate}
+use Rattle.fields.specs.Fields.{versionOf, rowSize, rowStart, recordRow}
+use Rattle.limits.specs.LimitsLaws.{RowOk, row-ok}
+use Rattle.reading.specs.Reading.{ReadAnswer, readingOf}
+use Rattle.reading.specs.Found.{Accepted}
+use Rattle.reading.specs.Within.{read-within, read-row}
+use Rattle.releasing.specs.Bytes.{compare}
+use Rattle.releasing.specs.ReleasesLaws.{Put, put-entry}
+use Rattle.releasing.specs.Same.{rows-replaced}
+use Rattle.put.specs.Put.{PutAnswer, answer, rampOk, ratesOk, releasedAt, puttingOf, releasedRecord}
+use Rattle.put.specs.PutLaws.{never, Ramp, ramp-facts, facts-ramp, rates-facts, facts-rates}
+
+-- what no refusal asks: the record reads, the cell is on the road and has a ramp, the step is one of its T, and the release is a rate
+pub record Asked (bytes : List ℕ) (step cell release : ℕ) : Type 0 where
+  pub reads : readingOf bytes .number ≡ 0
+  pub ramp : Ramp (readingOf bytes .road .ramp) (readingOf bytes .road .n) cell
+  pub before : step < readingOf bytes .steps
+  pub rate : release ≤ mostRate
+
+-- the record with the release put
+pub record Stands (bytes after : List ℕ) (step cell release : ℕ) : Type 0 where
+  -- exactly that number is changed: every other byte, and every other number of every row, is as it was
+  pub put : Put bytes after (readingOf bytes .road .n) step (2 * cell) release
+  -- it reads without refusal, as before: the same road, T and start
+  pub reads : readingOf after ≡ readingOf bytes
+
+-- a row within its limits stays so with the release of a ramp
+module _ (r : Road) (row : List ℕ) (h : RowOk r row) (cell x : ℕ) (ramp : Ramp (r .ramp) (r .n) cell) (l : x ≤ mostRate) where
+  other : (j : ℕ) → (2 * cell ≡ j → ⊥) → at (set row (2 * cell) x) j ≡ at row j
+  other j d = getD-set-other row (2 * cell) j x 0 (λ e. d (sym e))
+
+  release : (i : ℕ) → i < r .n → (at (set row (2 * cell) x) (2 * i + 2) ≤ mostRate) × (at (r .ramp) i ≡ 0 → at (set row (2 * cell) x) (2 * i + 2) ≡ 0)
+  release i m = ⊎-elim
+      (λ (e : i + 1 ≡ cell).
+      let k : 2 * i + 2 ≡ 2 * cell = omega arith in
+      let v : at (set row (2 * cell) x) (2 * i + 2) ≡ x = rw k (getD-set-same row (2 * cell) x 0 (omega (arith, h .numbers))) in
+      let c : cell - 1 ≡ i = omega arith in
+      (omega arith, λ z. absurd (omega (arith, ramp .mark, ap (at (r .ramp)) c))))
+      (λ (o : (i + 1 < cell) ⊎ (cell < i + 1)).
+      let d : 2 * cell ≡ 2 * i + 2 → ⊥ = λ e. ⊎-elim (λ (a : i + 1 < cell). omega arith) (λ (a : cell < i + 1). omega arith) o in
+      let v = other (2 * i + 2) d in
+      (omega (arith, h .release i m), λ z. v ∙ h .noRelease i m z))
+      (compare (i + 1) cell)
+
+  row-with : RowOk r (set row (2 * cell) x)
+  row-with = record {
+    numbers = length-set row (2 * cell) x ∙ h .numbers;
+    gate = omega (arith, other 0 (λ e. omega (arith, ramp .some)), h .gate);
+    arrivals = λ i m. omega (arith, other (2 * i + 1) (λ e. omega arith), h .arrivals i m);
+    release = λ i m. release i m .0;
+    noArrivals = λ i m z. other (2 * i + 1) (λ e. omega arith) ∙ h .noArrivals i m z;
+    noRelease = λ i m z. release i m .1 z;
+  }
+
+module _ (bytes : List ℕ) (step cell release : ℕ) (asked : Asked bytes step cell release) where
+  abbrev n : ℕ
+  n = readingOf bytes .road .n
+
+  abbrev after : List ℕ
+  after = releasedAt bytes n step cell release
+
+  accepted : Accepted bytes (readingOf bytes .steps) (readingOf bytes .road) (readingOf bytes .state)
+  accepted = read-within bytes (readingOf bytes) refl (asked .reads)
+
+  is-put : Put bytes after n step (2 * cell) release
+  is-put =
+      put-entry bytes n step (2 * cell) release (omega (arith, asked .ramp .within))
+      (read-row bytes (readingOf bytes) refl (asked .reads) step (asked .before)) (omega (arith, asked .rate))
+
+  row-within : (t : ℕ) → t < readingOf bytes .steps → RowOk (readingOf bytes .road) (recordRow after n t)
+  row-within t l = ⊎-elim
+      (λ (e : t ≡ step).
+      rw (e, is-put .row) (row-with (readingOf bytes .road) (recordRow bytes n step) (accepted .row step (asked .before)) cell release (asked .ramp) (asked .rate)))
+      (λ (o : (t < step) ⊎ (step < t)).
+      let d : t ≡ step → ⊥ = λ e. ⊎-elim (λ (a : t < step). omega arith) (λ (a : step < t). omega arith) o in
+      rw (is-put .rows t d) (accepted .row t l))
+      (compare t step)
+
+  stands : Stands bytes after step cell release
+  stands = record {
+    put = is-put;
+    reads =
+        rows-replaced bytes after (is-put .size) (asked .reads)
+        (λ b l. is-put .byte b (inl (omega (arith, mul-le-mul-right {m = 0} {n = step} (rowSize n) (omega arith)))))
+        (λ t l. row-ok (readingOf bytes .road) (recordRow after n t) (accepted .road) (row-within t l));
+  }
+
+-- the ends of putting, with what each leaves of the record
+pub data Ends (bytes : List ℕ) (step cell release : ℕ) : PutAnswer → List ℕ → Type 0 where
+  unread : (readingOf bytes .number ≡ 0 → ⊥) → Ends bytes step cell release (answer (readingOf bytes .number) (readingOf bytes .place)) bytes
+  noRamp : readingOf bytes .number ≡ 0 → (Ramp (readingOf bytes .road .ramp) (readingOf bytes .road .n) cell → ⊥)
+      → Ends bytes step cell release (answer 5 cell) bytes
+  noRate : readingOf bytes .number ≡ 0 → Ramp (readingOf bytes .road .ramp) (readingOf bytes .road .n) cell
+      → (step < readingOf bytes .steps → release ≤ mostRate → ⊥) → Ends bytes step cell release (answer 6 step) bytes
+  put : Asked bytes step cell release → {after : List ℕ} → Stands bytes after step cell release → Ends bytes step cell release (answer 0 0) after
+
+-- 1: every answer is one of them
+module _ (bytes : List ℕ) (step cell release : ℕ) where
+  abbrev r : Road
+  r = readingOf bytes .road
+
+  abbrev T : ℕ
+  T = readingOf bytes .steps
+
+  abbrev saying : Bool → Bool → Bool → PutAnswer
+  saying a b c =
+      unless a (answer (readingOf bytes .number) (readingOf bytes .place)) (unless b (answer 5 cell) (unless c (answer 6 step) (answer 0 0)))
+
+  pub ends : Ends bytes step cell release (puttingOf bytes step cell release) (releasedRecord bytes step cell release)
+  unfolding puttingOf releasedRecord
+  ends = go (eqb (readingOf bytes .number) 0) (rampOk (r .ramp) (r .n) cell) (ratesOk step T release) refl refl refl
+    where
+      go : (a b c : Bool) → eqb (readingOf bytes .number) 0 ≡ a → rampOk (r .ramp) (r .n) cell ≡ b → ratesOk step T release ≡ c
+          → Ends bytes step cell release (saying a b c) (unless (eqb (saying a b c .number) 0) bytes (releasedAt bytes (r .n) step cell release))
+      go false b c e f g = rw e (unread (eqb-false (readingOf bytes .number) 0 e))
+      go true false c e f g = noRamp (eqb-true _ 0 e) (λ h. never (facts-ramp (r .ramp) (r .n) cell h) f)
+      go true true false e f g = noRate (eqb-true _ 0 e) (ramp-facts (r .ramp) (r .n) cell f) (λ l m. never (facts-rates step T release l m) g)
+      go true true true e f g =
+          let k = rates-facts step T release g in
+          let asked : Asked bytes step cell release =
+          record { reads = eqb-true _ 0 e; ramp = ramp-facts (r .ramp) (r .n) cell f; before = k .0; rate = k .1 } in
+          put asked (stands bytes step cell release asked)
+
+-- 2: with no refusal the release stands there and nothing else is changed
+put-stands : {bytes : List ℕ} {step cell release : ℕ} {a : PutAnswer} {after : List ℕ} → Ends bytes step cell release a after → a .number ≡ 0
+    → Asked bytes step cell release × Stands bytes after step cell release
+put-stands (Ends.unread h) e = absurd (h e)
+put-stands (Ends.noRamp q h) e = absurd (omega arith)
+put-stands (Ends.noRate q p h) e = absurd (omega arith)
+put-stands (Ends.put asked s) e = (asked, s)
+
+pub puts : (bytes : List ℕ) (step cell release : ℕ) → puttingOf bytes step cell release .number ≡ 0
+    → Asked bytes step cell release × Stands bytes (releasedRecord bytes step cell release) step cell release
+puts bytes step cell release = put-stands (ends bytes step cell release)
+
+-- and there is none exactly where all that it asks holds
+asked-put : {bytes : List ℕ} {step cell release : ℕ} {a : PutAnswer} {after : List ℕ} → Ends bytes step cell release a after → Asked bytes step cell release
+    → a ≡ answer 0 0
+asked-put (Ends.unread h) q = absurd (h (q .reads))
+asked-put (Ends.noRamp z h) q = absurd (h (q .ramp))
+asked-put (Ends.noRate z p h) q = absurd (h (q .before) (q .rate))
+asked-put (Ends.put asked s) q = refl
+
+pub put-if : (bytes : List ℕ) (step cell release : ℕ) → Asked bytes step cell release → puttingOf bytes step cell release ≡ answer 0 0
+put-if bytes step cell release = asked-put (ends bytes step cell release)
+
+-- 3: a refusal leaves the record unchanged
+refused-left : {bytes : List ℕ} {step cell release : ℕ} {a : PutAnswer} {after : List ℕ} → Ends bytes step cell release a after → (a .number ≡ 0 → ⊥)
+    → after ≡ bytes
+refused-left (Ends.unread h) n = refl
+refused-left (Ends.noRamp q h) n = refl
+refused-left (Ends.noRate q p h) n = refl
+refused-left (Ends.put asked s) n = absurd (n refl)
+
+pub refused-unchanged : (bytes : List ℕ) (step cell release : ℕ) → (puttingOf bytes step cell release .number ≡ 0 → ⊥)
+    → releasedRecord bytes step cell release ≡ bytes
+refused-unchanged bytes step cell release = refused-left (ends bytes step cell release)

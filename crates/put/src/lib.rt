@@ -1,0 +1,73 @@
+// A release put into a record, for one ramp in one step.
+use road::Refusal;
+use road::Released;
+use road::Road;
+ghost use mathlib.Core.Path.{_≡_};
+ghost use Prim.Native.Nat.{_≤_};
+ghost use Rattle.road.specs.Road.{mostCells};
+ghost use Rattle.put.specs.Put.{Place, rampOk, ratesOk, putAnswer, puttingOf, releasedAt, releasedRecord};
+
+// Whether a cell is on a road of n cells and has a ramp.
+fn has_ramp(ramp: [u16; 64], n: usize, cell: usize) -> bool
+    requires { ⌜ n ≤ mostCells ⌝ }
+    ensures { λ r. ⌜ r ≡ rampOk ramp n cell ⌝ }
+{
+    if cell < 1 {
+        return false;
+    }
+    if n < cell {
+        return false;
+    }
+    ramp[cell - 1] == 1
+}
+
+// Whether a step is one of a record's and a release may be one.
+fn rates_within(step: usize, steps: usize, release: u32) -> bool
+    ensures { λ r. ⌜ r ≡ ratesOk step steps release ⌝ }
+{
+    (step < steps) & (release <= Road::RATE)
+}
+
+// Puts the release of a cell into the row of a step.
+fn put_release(bytes: &mut [u8], n: usize, step: usize, cell: usize, release: u32)
+    requires { ⌜ Place (now bytes) n step cell ⌝ }
+    ensures { λ _. ⌜ now (bytes .exit) ≡ releasedAt (now (bytes .entry)) n step cell release ⌝ }
+{
+    let start = fields::row_start(fields::version(bytes), n, step);
+    fields::put_number(bytes, start + fields::NUMBER_SIZE * (2 * cell), release);
+}
+
+// Puts a release into a record at a step and a cell: the refusals of reading, then 5, then 6.
+pub fn put(bytes: &mut [u8], step: usize, cell: usize, release: u32) -> Released
+    ensures answer { λ r. ⌜ putAnswer r ≡ puttingOf (now (bytes .entry)) step cell release ⌝ }
+    ensures bytes { λ r. ⌜ now (bytes .exit) ≡ releasedRecord (now (bytes .entry)) step cell release ⌝ }
+{
+    let a = reading::read(bytes);
+    let refusal = a.refusal;
+    if refusal.number() != 0 {
+        return Released {
+            refusal: refusal,
+            place: a.place,
+        };
+    }
+    let road = a.road;
+    let ramp = road.ramp;
+    let n = road.n;
+    if !has_ramp(ramp, n, cell) {
+        return Released {
+            refusal: Refusal::Limits,
+            place: cell,
+        };
+    }
+    if !rates_within(step, a.steps, release) {
+        return Released {
+            refusal: Refusal::Rates,
+            place: step,
+        };
+    }
+    put_release(bytes, n, step, cell, release);
+    Released {
+        refusal: Refusal::None,
+        place: 0,
+    }
+}

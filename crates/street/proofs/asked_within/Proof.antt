@@ -1,0 +1,81 @@
+-- `street::asked_within` meets its contract. Each return, by the tests on the way to it. Assumes nothing.
+use mathlib.Core.Path.{_≡_, sym, _∙_}
+use mathlib.Core.Bool.{true}
+use native.Mathlib.Omega.{arith}
+use lib.ListN.{length}
+use borrow.Author.Tests.{not-true, not-false}
+use Rattle.road.specs.Road.{mostRate}
+use Rattle.limits.specs.Within.{allWithin}
+use Rattle.street.specs.Street.{frameOk}
+use Rattle.street.specs.StreetLaws.{asked-frame, frame-ramps, asked-guarantees, asked-wishes, asked-sum}
+use borrow.Author.Needs.{needs}
+use Rattle.street.proofs.asked_within.Statement.{statement}
+use Rattle.street.proofs.asked_within.Tie as tie
+
+-- the arguments, from each place, and what the tests have shown there
+abbrev A : tie.Else1 → tie.Start
+A c = c .before .before .before .before
+
+framed : (c : tie.Else1) →
+    let a = A c .args in
+    frameOk (a .limit) (length (a .guarantees .now)) (length (a .wishes .now)) (a .places) ≡ true
+framed c = sym (c .before .frame-within .ensures) ∙ not-false _ (c .if1 .left)
+
+guaranteed : (c : tie.Else2) → allWithin (A (c .before .before) .args .guarantees .now) mostRate ≡ true
+guaranteed c = sym (c .before .all-within .ensures) ∙ not-false _ (c .if2 .left)
+
+wished : (c : tie.Else3) → allWithin (A (c .before .before .before .before) .args .wishes .now) mostRate ≡ true
+wished c = sym (c .before .all-within2 .ensures) ∙ not-false _ (c .if3 .left)
+
+frame-within-requires : tie.Need-frame-within-requires
+frame-within-requires c κs = search needs
+
+returns : tie.Need-returns
+returns c =
+    let a = c .before .before .before .before .args in
+    asked-frame (a .limit) (a .guarantees .now) (a .wishes .now) (a .places) (sym (c .before .frame-within .ensures) ∙ not-true _ (c .if1 .taken))
+
+all-within-requires : tie.Need-all-within-requires
+all-within-requires c κs = search needs
+
+returns-2 : tie.Need-returns-2
+returns-2 c =
+    let e = c .before .before in
+    let a = A e .args in
+    asked-guarantees (a .limit) (a .guarantees .now) (a .wishes .now) (a .places) (framed e) (sym (c .before .all-within .ensures) ∙ not-true _ (c .if2 .taken))
+
+all-within-requires-2 : tie.Need-all-within-requires-2
+all-within-requires-2 c κs = search needs
+
+returns-3 : tie.Need-returns-3
+returns-3 c =
+    let e = c .before .before in
+    let a = A (e .before .before) .args in
+    asked-wishes (a .limit) (a .guarantees .now) (a .wishes .now) (a .places) (framed (e .before .before)) (guaranteed e)
+    (sym (c .before .all-within2 .ensures) ∙ not-true _ (c .if3 .taken))
+
+sum-requires : tie.Need-sum-requires
+sum-requires c κs =
+    let e = c .before .before .before .before in
+    let a = A e .args in
+    omega (arith, frame-ramps (a .limit) (a .guarantees .now) (a .wishes .now) (a .places) (framed e))
+
+returns-4 : tie.Need-returns-4
+returns-4 c =
+    let w = c .before in
+    let e = w .before .before in
+    let a = A (e .before .before) .args in
+    asked-sum (a .limit) (a .guarantees .now) (a .wishes .now) (a .places) (framed (e .before .before)) (guaranteed e) (wished w) (c .sum .ensures .0)
+
+pub asked-within-spec : {M : Type 1} → statement M
+asked-within-spec =
+    tie.close
+    (tie.spec
+    frame-within-requires
+    returns
+    all-within-requires
+    returns-2
+    all-within-requires-2
+    returns-3
+    sum-requires
+    returns-4)

@@ -1,0 +1,50 @@
+-- `street::grant` meets its contract. Each return, by the test on the way to it. Assumes nothing.
+use mathlib.Core.Path.{_≡_, sym, _∙_}
+use mathlib.Core.Bool.{true}
+use lib.ListN.{length}
+use borrow.Author.Tests.{not-true, not-false}
+use Rattle.street.specs.Street.{askedOk}
+use Rattle.street.specs.StreetLaws.{asked-limits, refused-answer, refused-grants, granted-answer, granted-grants}
+use borrow.Author.Needs.{needs}
+use Rattle.street.proofs.grant.Statement.{statement}
+use Rattle.street.proofs.grant.Tie as tie
+
+-- the arguments, and what the test has shown of them
+abbrev A : tie.After-asked-within → tie.Start
+A c = c .before .before .before .before
+
+accepted : (c : tie.Else1) →
+    let a = A (c .before) .args in
+    askedOk (a .limit) (a .guarantees .now) (a .wishes .now) (length (a .grants .now)) ≡ true
+accepted c = sym (c .before .asked-within .ensures) ∙ not-false _ (c .if1 .left)
+
+asked-within-requires : tie.Need-asked-within-requires
+asked-within-requires c κs = search needs
+
+returns : tie.Need-returns
+returns c =
+    let a = A (c .before) .args in
+    let n = sym (c .before .asked-within .ensures) ∙ not-true _ (c .if1 .taken) in
+    let e = refused-answer (a .limit) (a .guarantees .now) (a .wishes .now) (a .grants .now) n in
+    (sym e, sym (refused-grants (a .limit) (a .guarantees .now) (a .wishes .now) (a .grants .now) n))
+
+share-requires : tie.Need-share-requires
+share-requires c κs =
+    let e = c .before in
+    let a = A (e .before) .args in
+    asked-limits (a .limit) (a .guarantees .now) (a .wishes .now) _ (accepted e)
+
+same-length : tie.Need-same-length
+same-length c = search needs
+
+returns-2 : tie.Need-returns-2
+returns-2 c =
+    let e = c .before .before .before .before in
+    let a = A (e .before) .args in (
+      sym (granted-answer (a .limit) (a .guarantees .now) (a .wishes .now) (a .grants .now) (accepted e)),
+      c .before .before .share .ensures ∙ sym (granted-grants (a .limit) (a .guarantees .now) (a .wishes .now) (a .grants .now) (accepted e)),
+    )
+
+pub grant-spec : {M : Type 1} → statement M
+grant-spec =
+    tie.close (tie.spec asked-within-requires returns share-requires same-length returns-2)
