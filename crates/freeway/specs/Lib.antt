@@ -2,3 +2,4 @@ pub mod Versions
 pub mod Twice
 pub mod WantedRun
 pub mod PutRun
+pub mod Promises

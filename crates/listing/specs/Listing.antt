@@ -40,6 +40,20 @@ cellLines step y s (suc i) = cellLines step y s i ++ lineOf step (suc i) (at y (
 abbrev pub linesOf : ℕ → List ℕ → State → ℕ → List ℕ
 linesOf step y s n = lineOf step 0 (at y 0) (s .«gate_queue») 0 ++ cellLines step y s n
 
+-- a state with what they show lent: the gate's queue and these columns, and otherwise as s
+abbrev pub showing : State → ℕ → List ℕ → List ℕ → State
+showing s gate held queue = record {
+  done = s .done;
+  «gate_time» = s .«gate_time»;
+  «road_time» = s .«road_time»;
+  «ramp_time» = s .«ramp_time»;
+  «gate_queue» = gate;
+  «gate_cumulative» = s .«gate_cumulative»;
+  held = held;
+  queue = queue;
+  cumulative = s .cumulative;
+}
+
 -- `total `
 abbrev pub totalWord : List ℕ
 totalWord = 116 ∷ 111 ∷ 116 ∷ 97 ∷ 108 ∷ 32 ∷ []

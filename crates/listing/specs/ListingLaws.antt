@@ -12,7 +12,7 @@ use Rattle.words.specs.Words.{blank, newline, wordOf, namedOf}
 use Rattle.words.specs.WordsLaws.{word-length, named-length, Word, Named}
 use Rattle.listing.specs.Listing.{mostLine, mostLast, mostTime, refusedWord}
 use Rattle.listing.specs.Listing.{totalWord, gateWord, roadWord, rampWord, exitsWord, secondsWord}
-use Rattle.listing.specs.Listing.{headerLine, lineOf, cellLines, linesOf, totalLine, vehicleSeconds, secondsLine, refusedLine}
+use Rattle.listing.specs.Listing.{headerLine, lineOf, cellLines, linesOf, showing, totalLine, vehicleSeconds, secondsLine, refusedLine}
 
 line-length : (step place outflow held queue : ℕ) → length (lineOf step place outflow held queue) ≤ mostLine
 unfolding lineOf
@@ -142,39 +142,39 @@ module _ {a : List ℕ} {start : ℕ} {b : List ℕ} {p : ℕ} {c : List ℕ} {q
   refused-put (Text.put h) (Word.put i) (Word.put j) (Word.put k) =
       puts-more a start _ b p _ e v h (puts-more b p _ c q _ e v i (puts-more c q _ d u _ e v j k))
 
--- when the lines of i cells are put after those before
-pub record Listed (a : List ℕ) (start step n : ℕ) (y : List ℕ) (s : State) (b : List ℕ) (end i : ℕ) : Type 0 where
+-- when the lines of i cells are put after those before, of every state that shows what is lent
+pub record Listed (a : List ℕ) (start step n : ℕ) (y : List ℕ) (gate : ℕ) (held queue b : List ℕ) (end i : ℕ) : Type 0 where
   pub within : i ≤ n
-  pub puts : Puts a start (cellLines step y s i) b end
+  pub puts : (s : State) → Puts a start (cellLines step y (showing s gate held queue) i) b end
   pub room : Room a start b end (mostLine * i)
 
-module _ {a : List ℕ} {start step n : ℕ} {y : List ℕ} {s : State} where
-  pub listed-none : Listed a start step n y s a start 0
+module _ {a : List ℕ} {start step n : ℕ} {y : List ℕ} {gate : ℕ} {held queue : List ℕ} where
+  pub listed-none : Listed a start step n y gate held queue a start 0
   unfolding cellLines
   listed-none = record {
     within = omega arith;
-    puts = (omega arith, sym (placed-none a start));
+    puts = λ s. (omega arith, sym (placed-none a start));
     room = record { end = omega arith; same = refl };
   }
 
-  module _ {b : List ℕ} {end i : ℕ} (h : Listed a start step n y s b end i) where
+  module _ {b : List ℕ} {end i : ℕ} (h : Listed a start step n y gate held queue b end i) where
     pub listed-more : {c : List ℕ} {m : ℕ} → i < n
-        → Puts b end (lineOf step (i + 1) (at y (i + 1)) (at (s .held) i) (at (s .queue) i)) c m → Listed a start step n y s c m (i + 1)
+        → Puts b end (lineOf step (i + 1) (at y (i + 1)) (at held i) (at queue i)) c m → Listed a start step n y gate held queue c m (i + 1)
     unfolding cellLines
     listed-more {c} {m} l p =
         let z = line-room b end _ _ _ _ _ c m p in
         record {
           within = omega arith;
-          puts = rw (add-one i) (puts-more a start (cellLines step y s i) b end _ c m (h .puts) (rw (add-one i) at p));
+          puts = λ s. rw (add-one i) (puts-more a start (cellLines step y (showing s gate held queue) i) b end _ c m (h .puts s) (rw (add-one i) at p));
           room = record { end = omega (arith, z .end, h .room .end); same = z .same ∙ h .room .same };
         }
 
     -- after the gate's line: what is left of the room, and the lines of the step
-    module _ (g : List ℕ) (from : ℕ) (p : Puts g from (lineOf step 0 (at y 0) (s .«gate_queue») 0) a start) where
+    module _ (g : List ℕ) (from : ℕ) (p : Puts g from (lineOf step 0 (at y 0) gate 0) a start) where
       pub listed-room : Room g from b end (mostLine + mostLine * i)
       listed-room = room-more (line-room g from _ _ _ _ _ a start p) (h .room)
 
-      pub listed-end : n ≤ i → Puts g from (linesOf step y s n) b end
-      listed-end l =
+      pub listed-end : n ≤ i → (s : State) → Puts g from (linesOf step y (showing s gate held queue) n) b end
+      listed-end l s =
           let e : i ≡ n = omega (arith, h .within) in
-          puts-more g from _ a start _ b end p (rw e at (h .puts))
+          puts-more g from _ a start _ b end p (rw e at (h .puts s))

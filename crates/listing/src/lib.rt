@@ -1,8 +1,8 @@
 // The lines of the model's listing, put into a buffer: each contract gives the bytes.
-use road::State;
 ghost use Prim.Native.Nat.{_+_, _*_, _≤_, _<_};
 ghost use lib.ListN.{length};
-ghost use Rattle.listing.specs.Listing.{mostLine, mostLast, mostTime, headerLine, lineOf, linesOf, totalLine};
+ghost use Rattle.road.specs.declared.State.{State};
+ghost use Rattle.listing.specs.Listing.{mostLine, mostLast, mostTime, headerLine, lineOf, linesOf, showing, totalLine};
 ghost use Rattle.listing.specs.Listing.{secondsLine, refusedLine};
 ghost use Rattle.rows.specs.Placed.{Puts};
 
@@ -26,30 +26,25 @@ fn line(
     words::word(buffer, to_queue, queue as u64, b'\n')
 }
 
-// All places of a step: its row of outflows and the state after it.
-pub fn lines(
+// All places of a step: its row of outflows and the state after it, of which what is shown is lent.
+pub fn lines<'a>(
     buffer: &mut [u8],
     at: usize,
     step: usize,
     n: usize,
     outflows: &[u32],
-    s: State,
+    gate_queue: u32,
+    held: &'a [u32; 64],
+    queue: &'a [u32; 64],
 ) -> usize
     requires { ⌜ (n ≤ 64) × ((n < length (now outflows)) × (at + mostLine * (n + 1) ≤ length (now buffer))) ⌝ }
-    ensures { λ r. ⌜ Puts (now (buffer .entry)) at (linesOf step (now (outflows .entry)) s n) (now (buffer .exit)) r ⌝ }
+    ensures { λ r. ⌜ ((s : State) → Puts (now (buffer .entry)) at
+        (linesOf step (now (outflows .entry)) (showing s «gate_queue» (now (held .entry)) (now (queue .entry))) n) (now (buffer .exit)) r) ⌝ }
 {
-    let mut end = line(buffer, at, step, 0, outflows[0], s.gate_queue, 0);
+    let mut end = line(buffer, at, step, 0, outflows[0], gate_queue, 0);
     let mut i = 0;
     while i < n {
-        end = line(
-            buffer,
-            end,
-            step,
-            i + 1,
-            outflows[i + 1],
-            s.held[i],
-            s.queue[i],
-        );
+        end = line(buffer, end, step, i + 1, outflows[i + 1], held[i], queue[i]);
         i += 1;
     }
     end

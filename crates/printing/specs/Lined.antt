@@ -103,6 +103,17 @@ last-length r u =
     go true = seconds-length (vehicleSeconds (totalOf u) (r .seconds))
     go false = omega arith
 
+-- a step was made, to the state v, and its lines were put
+pub record PutStep (q : Road) (u : State) (row : List ℕ) (k : ℕ) (before : List ℕ) (at : ℕ) (v : State) (after : List ℕ) (end : ℕ) : Type 0 where
+  pub state : v ≡ nextOf q u row (outflowsOf q u row)
+  pub lines : Puts before at (linesOf k (outflowsOf q u row) v (q .n)) after end
+
+-- the row that the step wrote, from what the code has of it
+pub step-put : {q : Road} {u : State} {row : List ℕ} {k : ℕ} {before : List ℕ} {at : ℕ} {v : State} {after : List ℕ} {end : ℕ} {y : List ℕ}
+    → v ≡ nextOf q u row (outflowsOf q u row) → y ≡ outflowsOf q u row → Puts before at (linesOf k y v (q .n)) after end
+    → PutStep q u row k before at v after end
+step-put ev ey p = record { state = ev; lines = rw ey at p }
+
 -- when k steps are made: their lines stand in the buffer after the header, which ends at `start`
 pub record Lined (a : Study) (before : List ℕ) (start : ℕ) (buffer : List ℕ) (u : State) (end k : ℕ) : Type 0 where
   pub ran : Ran a u k
@@ -131,16 +142,17 @@ module _ {a : Study} {before : List ℕ} {start : ℕ} where
     line-fits = omega (arith, h .room .same, h .enough)
 
     -- and after all steps for the last lines
-    pub lines-end : StudyOk a → tableSize a ≤ mostOutflows → a .road .seconds ≤ mostSeconds → a .steps ≤ k → Ending (a .road) u buffer end
-    lines-end ok m seconds l =
+    pub lines-end : StudyOk a → tableSize a ≤ mostOutflows → a .road .seconds ≤ mostSeconds → a .steps ≤ k → {v : State} → v ≡ u
+        → Ending (a .road) v buffer end
+    lines-end ok m seconds l ev =
         let e : k ≡ a .steps = all-ran (h .ran) l in
         let f : k * places a ≡ a .steps * places a = rw e in
         let z = ran-reached ok (h .ran) .state in
-        record {
+        rw ev (record {
           enough = omega (arith, h .room .end, h .room .same, h .top, h .enough, f);
           total = omega (arith, z .total, z .done);
           seconds = seconds;
-        }
+        })
 
     module _ {q : Road} {row : List ℕ} (t : RanTurn a u k q row) {f : Fault} (e : f ≡ releasesOf q u row) (z : f .number ≡ 0) where
       -- one step more is made and put
@@ -183,9 +195,10 @@ module _ {a : Study} {before start-buffer : List ℕ} {start : ℕ} {buffer : Li
 
   -- the header, the steps and the last lines, put one after the other
   pub holds-run : Puts before 0 headerLine start-buffer start → Lined a start-buffer start buffer u end k → a .steps ≤ k → tableSize a ≤ mostOutflows
-      → {after : List ℕ} {m : ℕ} → Puts buffer end (lastOf (a .road) u) after m → Holds before (printedRun a) after m
+      → {v : State} → v ≡ u → {after : List ℕ} {m : ℕ} → Puts buffer end (lastOf (a .road) v) after m → Holds before (printedRun a) after m
   unfolding printedRun
-  holds-run p h l most {after} {m} q =
+  holds-run p h l most ev {after} {m} put =
+      let q : Puts buffer end (lastOf (a .road) u) after m = rw ev at put in
       let e : ended 0 0 0 (a .road) u ≡ runEnd a = ends-ran (h .ran) l refl in
       let i : k ≡ a .steps = all-ran (h .ran) l in
       let j : k * places a ≡ a .steps * places a = rw i in

@@ -84,6 +84,6 @@ module _ (bytes lanes list : List ℕ) {x : ReadAnswer} (ex : x ≡ openingOf by
 pub all-weighted : (bytes lanes list : List ℕ) (w u : ℕ → ℕ) {e : EndAnswer} {out : List ℕ} {t : ℕ} → e ≡ runningOf bytes lanes list
     → out ≡ listAfter bytes lanes list → (Taken bytes lanes → Promised bytes lanes out e) → t ≡ weighingOf w u bytes lanes list
     → (e ≡ runningOf bytes lanes list) × ((out ≡ listAfter bytes lanes list) × ((t ≡ weighingOf w u bytes lanes list)
-    × ((Taken bytes lanes → Promised bytes lanes out e) × (Taken bytes lanes → WeightedDemand w u bytes lanes out e t))))
+    × ((Taken bytes lanes → Promised bytes lanes out e) × (Taken bytes lanes → WeightedDemand bytes lanes w u out e t))))
 all-weighted bytes lanes list w u ee eo promise et =
     (ee, (eo, (et, (promise, λ taken. rw (ee, eo, et) (weighted-demand bytes lanes taken list w u)))))

@@ -175,7 +175,7 @@ pub fn run_weighted(bytes: &[u8], table: &[u8], weights: Weights, out: &mut [u32
     ensures demand { λ e. ⌜ (Taken (now (bytes .entry)) (now (table .entry))
         → Promised (now (bytes .entry)) (now (table .entry)) (now (out .exit)) (endAnswer (e .ended))) ⌝ }
     ensures weights { λ e. ⌜ (Taken (now (bytes .entry)) (now (table .entry))
-        → WeightedDemand (at (weights .places)) (at (weights .ramps)) (now (bytes .entry)) (now (table .entry)) (now (out .exit)) (endAnswer (e .ended)) (e .weighted)) ⌝ }
+        → WeightedDemand (now (bytes .entry)) (now (table .entry)) (at (weights .places)) (at (weights .ramps)) (now (out .exit)) (endAnswer (e .ended)) (e .weighted)) ⌝ }
 {
     run_opened(bytes, table, weights, true, out)
 }

@@ -90,7 +90,7 @@ module _ (bytes lanes : List ℕ) (taken : Taken bytes lanes) (list : List ℕ) 
         rw (own k l)
         (run-weighted a a (proposedAt a zs) k (rivals-self a ok k) (λ j m. fits j (omega (arith, made))) (reach .obeys) (ok .road) w u falling)
 
-    pub weighted-demand : WeightedDemand w u bytes lanes (listAfter bytes lanes list) (runningOf bytes lanes list) (weighingOf w u bytes lanes list)
+    pub weighted-demand : WeightedDemand bytes lanes w u (listAfter bytes lanes list) (runningOf bytes lanes list) (weighingOf w u bytes lanes list)
     unfolding weighingOf
     weighted-demand =
         let m = stepsMade a (runningOf bytes lanes list) in

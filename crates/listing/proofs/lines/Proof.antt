@@ -7,10 +7,10 @@ use Rattle.listing.proofs.lines.Statement.{statement}
 use Rattle.listing.proofs.lines.Tie as tie
 
 abbrev Inv-loop : tie.InvT-loop
-Inv-loop buffer₀ at step n outflows s end₀ i₀ buffer end i = Listed buffer₀ end₀ step n outflows s buffer end i
+Inv-loop buffer₀ at step n outflows gate held queue end₀ i₀ buffer end i = Listed buffer₀ end₀ step n outflows gate held queue buffer end i
 
 abbrev μ-loop : tie.MeasureT-loop
-μ-loop buffer₀ at step n outflows s end₀ i₀ buffer end i = n - i
+μ-loop buffer₀ at step n outflows gate held queue end₀ i₀ buffer end i = n - i
 
 -- the gate's line, from the loop's place; a turn, from where its line is asked for; and the cell's line, from the turn's end
 abbrev Gate : tie.At-loop Inv-loop μ-loop → tie.After-line Inv-loop μ-loop
