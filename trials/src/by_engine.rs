@@ -3,7 +3,6 @@
 use crate::freeway::{Ended, Freeway, Laws, Row, Told};
 use reference::answer::Answer;
 use reference::load::Loaded;
-use reference::meter::Law;
 use reference::model::{Road, Start, State};
 use reference::put::Put;
 use reference::record::Reading;
@@ -77,20 +76,10 @@ fn state_for(state: State) -> nobyaluk::State {
     }
 }
 
-fn law_for(law: &LawInput) -> nobyaluk::Law {
-    match law.law() {
-        Law::Fixed { rate } => nobyaluk::Law::Fixed { rate },
-        Law::Alinea { gain, target } => nobyaluk::Law::Alinea { gain, target },
-        Law::DemandCapacity {
-            capacity,
-            critical,
-            least,
-        } => nobyaluk::Law::DemandCapacity {
-            capacity,
-            critical,
-            least,
-        },
-    }
+/// A law's kind and numbers as they stand, used or not. Kinds that no byte holds are fixed rates, as 255 is.
+fn flat(law: &LawInput) -> (u8, [f64; 3]) {
+    let kind = u8::try_from(law.kind).unwrap_or(u8::MAX);
+    (kind, law.bits.map(f64::from_bits))
 }
 
 fn weights_for(weights: &Weights) -> nobyaluk::Weights {
@@ -157,8 +146,14 @@ impl Freeway for Engine {
     }
 
     fn fill(&self, record: &mut [u8], laws: &Laws, lanes: &[u8], list: &mut [u32]) -> Ended {
-        let laws = laws.each_ref().map(law_for);
-        ended(nobyaluk::fill_into(record, &laws, lanes, list))
+        let (kinds, numbers): (Vec<u8>, Vec<[f64; 3]>) = laws.iter().map(flat).unzip();
+        ended(nobyaluk::fill_kinds_into(
+            record,
+            &kinds,
+            numbers.as_flattened(),
+            lanes,
+            list,
+        ))
     }
 
     fn step(&self, road: Road, state: State, row: &[u32], built: &Lanes, open: &Lanes) -> Stepped {
@@ -199,21 +194,17 @@ impl Freeway for Engine {
         nobyaluk::rows_into(record, n, steps, list)
     }
 
-    /// The boundary has rows only from the first on: the last of t + 1.
     fn row(&self, record: &[u8], n: usize, step: usize) -> Row {
         let mut row = [0; Road::MAX_ROW];
-        if n <= Road::MAX_CELLS && step < Road::MAX_STEPS {
-            let width = 1 + 2 * n;
-            let mut list = vec![0; (step + 1) * width];
-            let count = nobyaluk::rows_into(record, n, step + 1, &mut list);
-            assert_eq!(count, list.len(), "the rows fit the list");
-            row[..width].copy_from_slice(&list[step * width..]);
+        if let Some(numbers) = nobyaluk::row(record, n, step) {
+            row[..numbers.len()].copy_from_slice(&numbers);
         }
         row
     }
 
     fn wish(&self, law: &LawInput, last: u32, entered: u32, held: u32) -> f64 {
-        nobyaluk::wish(law_for(law), last, entered, held)
+        let (kind, numbers) = flat(law);
+        nobyaluk::wish_of_kind(kind, numbers, last, entered, held)
     }
 
     fn release(&self, wish: f64, cap: u32) -> u32 {
@@ -265,7 +256,7 @@ impl Freeway for Engine {
     }
 
     fn grant(&self, limit: u32, guarantees: &[u32], wishes: &[u32], grants: &mut [u32]) -> u32 {
-        refusal(nobyaluk::grant_into(limit, guarantees, wishes, grants))
+        refusal(nobyaluk::grant_into(limit, guarantees, wishes, grants).number)
     }
 
     fn put(&self, record: &mut [u8], step: usize, cell: usize, release: u32) -> Put {

@@ -39,3 +39,17 @@ def test_a_release_put(examples):
     assert new.rows[1].tolist() == [1000, 0, 0, 500, 7]
     assert [i for i in range(3) if new.rows[i].tolist() != old.rows[i].tolist()] == [1]
     assert refusal(engine.run, engine.put(old, 1, 2, 2201)) == (9, 2)  # 1,700 wait after step 0 and 500 arrive
+
+
+def test_stepping_names_no_step(examples):
+    """A step's answer has none; running's does."""
+    record = engine.read((examples / "printed-run.rec").read_bytes())
+    row = record.rows[0].copy()
+    row[4] = 2001  # 1,500 wait and 500 arrive
+    with pytest.raises(engine.Refused) as caught:
+        engine.step(record.road, record.start, row)
+    words = engine.MEANING[9]
+    assert str(caught.value) == f"refused 9: cell 2: {words}" and caught.value.step is None
+    with pytest.raises(engine.Refused) as caught:
+        engine.run(engine.put(record, 0, 2, 2001))
+    assert str(caught.value) == f"refused 9: step 0, cell 2: {words}" and caught.value.step == 0

@@ -1,15 +1,23 @@
 //! A refusal in words, and answers as results.
-use crate::{Ended, Loaded, Reading, Released, Stepped, Wanted, Written};
+use crate::types::{Ended, Granted, Loaded, Reading, Released, Stepped, Wanted, Weighed, Written};
 use std::fmt;
 
 /// The table of refusals: number, what its place is, in words, who says it.
 const TABLE: &str = include_str!("../../../docs/refusals.tsv");
 
-/// A refusal by its number, with step and place (0 where none is named).
+/// A refusal by its number, with what the table says its place is.
+///
+/// ```
+/// let refused = nobyaluk::run(b"no record", &[]).unwrap_err();
+/// assert_eq!(refused.number, 1);
+/// assert!(refused.words().starts_with("fewer than 16 bytes"));
+/// ```
 #[derive(Clone, Copy, Debug, PartialEq, Eq)]
 pub struct Refused {
     pub number: u64,
-    pub step: u64,
+    /// The step that was refused; none where the answer has no step, as in stepping.
+    pub step: Option<u64>,
+    /// A cell, a place (0 is the gate) or, for 6, a step; 0 where none is named.
     pub place: u64,
 }
 
@@ -38,11 +46,14 @@ impl fmt::Display for Refused {
         write!(f, "refused {}: ", self.number)?;
         match self.row().map_or("none", |row| row[0]) {
             "none" => {}
-            "step" => write!(f, "step {}: ", self.place)?,
-            "place" => write!(f, "place {}: ", self.place)?,
-            "cell" => write!(f, "cell {}: ", self.place)?,
-            "step and cell" => write!(f, "step {}, cell {}: ", self.step, self.place)?,
-            _ => write!(f, "step {}, place {}: ", self.step, self.place)?,
+            one @ ("step" | "place" | "cell") => write!(f, "{one} {}: ", self.place)?,
+            both => {
+                if let Some(step) = self.step {
+                    write!(f, "step {step}, ")?;
+                }
+                let place = both.strip_prefix("step and ").unwrap_or(both);
+                write!(f, "{place} {}: ", self.place)?;
+            }
         }
         f.write_str(self.words())
     }
@@ -51,7 +62,7 @@ impl fmt::Display for Refused {
 impl std::error::Error for Refused {}
 
 /// The answer, or its refusal.
-fn result<T>(answer: T, number: u64, step: u64, place: u64) -> Result<T, Refused> {
+fn result<T>(answer: T, number: u64, step: Option<u64>, place: u64) -> Result<T, Refused> {
     if number == 0 {
         return Ok(answer);
     }
@@ -65,49 +76,63 @@ fn result<T>(answer: T, number: u64, step: u64, place: u64) -> Result<T, Refused
 impl Reading {
     /// What was read, or the refusal.
     pub fn ok(self) -> Result<Self, Refused> {
-        result(self, self.number, 0, self.place)
+        result(self, self.number, None, self.place)
     }
 }
 
 impl Ended {
     /// The end without a refusal, or the refusal; after 9, 10, 13 and 14 the answer itself has the state before.
     pub fn ok(self) -> Result<Self, Refused> {
-        result(self, self.number, self.step, self.place)
+        result(self, self.number, Some(self.step), self.place)
+    }
+}
+
+impl Weighed {
+    /// The weighted run without a refusal, or the refusal.
+    pub fn ok(self) -> Result<Self, Refused> {
+        self.ended.ok().map(|_| self)
     }
 }
 
 impl Stepped {
-    /// The step, or the refusal.
+    /// The step, or the refusal; it names no step, for stepping has none.
     pub fn ok(self) -> Result<Self, Refused> {
-        result(self, self.number, 0, self.place)
+        result(self, self.number, None, self.place)
     }
 }
 
 impl Written {
     /// What was written, or the refusal.
     pub fn ok(self) -> Result<Self, Refused> {
-        result(self, self.number, 0, self.place)
+        result(self, self.number, None, self.place)
     }
 }
 
 impl Loaded {
     /// The load, or the refusal.
     pub fn ok(self) -> Result<Self, Refused> {
-        result(self, self.number, 0, 0)
+        result(self, self.number, None, 0)
     }
 }
 
 impl Wanted {
     /// Found or none, or the refusal.
     pub fn ok(self) -> Result<Self, Refused> {
-        result(self, self.number, 0, 0)
+        result(self, self.number, None, 0)
+    }
+}
+
+impl Granted {
+    /// The grants, or the refusal.
+    pub fn ok(self) -> Result<Self, Refused> {
+        result(self, self.number, None, 0)
     }
 }
 
 impl Released {
     /// The release put, or the refusal.
     pub fn ok(self) -> Result<Self, Refused> {
-        result(self, self.number, 0, self.place)
+        result(self, self.number, None, self.place)
     }
 }
 
@@ -125,15 +150,23 @@ mod tests {
             }
             .to_string()
         };
-        for number in (1..=19).chain(23..=25) {
-            assert!(!said(number, 0, 0).contains("not in the table"), "{number}");
+        let numbers = TABLE.lines().skip(1).map(|line| line.split('\t').next());
+        for number in numbers.map(|number| number.unwrap().parse().unwrap()) {
+            let words = said(number, None, 0);
+            assert!(!words.contains("not in the table"), "{number}");
+            assert!(number == 6 || !words.contains("step 0"), "{words}");
         }
-        assert_eq!(said(6, 0, 7), "refused 6: step 7: a row's number above 1,000,000, or one other than 0 for a cell without a ramp; a step from T on");
+        assert_eq!(said(6, None, 7), "refused 6: step 7: a row's number above 1,000,000, or one other than 0 for a cell without a ramp; a step from T on");
+        let supply = "a release above its cell's supply";
         assert_eq!(
-            said(10, 3, 2),
-            "refused 10: step 3, cell 2: a release above its cell's supply"
+            said(10, Some(3), 2),
+            format!("refused 10: step 3, cell 2: {supply}")
         );
-        assert_eq!(said(2, 0, 0), "refused 2: a version other than 1 or 2");
-        assert_eq!(said(99, 0, 0), "refused 99: not in the table of refusals");
+        assert_eq!(said(10, None, 2), format!("refused 10: cell 2: {supply}"));
+        assert_eq!(said(2, None, 0), "refused 2: a version other than 1 or 2");
+        assert_eq!(
+            said(99, None, 0),
+            "refused 99: not in the table of refusals"
+        );
     }
 }

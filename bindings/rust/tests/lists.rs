@@ -1,5 +1,8 @@
 //! Loading, a wanted queue, a street and putting a release, by numbers worked out on paper.
-use nobyaluk::{grant_into, load_into, put_into, read, rows_into, run, wanted_into};
+use nobyaluk::{
+    fill_kinds_into, grant_into, load_into, put, put_into, read, row, rows, rows_into, run,
+    wanted_into, wish, wish_of_kind, Law,
+};
 use std::path::PathBuf;
 
 fn printed_run() -> Vec<u8> {
@@ -37,9 +40,12 @@ fn a_wanted_queue() {
 #[test]
 fn a_street() {
     let mut grants = [8; 3];
-    assert_eq!(grant_into(10, &[2, 3, 1], &[7, 1, 9], &mut grants), 0);
+    assert!(grant_into(10, &[2, 3, 1], &[7, 1, 9], &mut grants)
+        .ok()
+        .is_ok());
     assert_eq!(grants, [7, 1, 2]);
-    assert_eq!(grant_into(5, &[2, 3, 1], &[7, 1, 9], &mut grants), 24);
+    let refused = grant_into(5, &[2, 3, 1], &[7, 1, 9], &mut grants).ok();
+    assert_eq!(refused.unwrap_err().number, 24);
     assert_eq!(grants, [7, 1, 2]);
 }
 
@@ -68,10 +74,62 @@ fn a_release_put() {
         2,
         "300 and 7 differ in two bytes"
     );
-    put_into(&mut record, 1, 2, 2201);
+    put(&mut record, 1, 2, 2201).unwrap();
     assert_eq!(
         run(&record, &[]).unwrap_err().number,
         9,
         "1,700 wait after step 0 and 500 arrive"
     );
+}
+
+/// Kinds from 3 on are fixed rates; numbers that a law doesn't use may be anything; past the ends of both lists stands rate 0.
+#[test]
+fn kinds_of_laws() {
+    let old = printed_run();
+    let filled = |kinds: &[u8], numbers: &[f64]| {
+        let (mut record, mut list) = (old.clone(), [0; 9]);
+        let ended = fill_kinds_into(&mut record, kinds, numbers, &[], &mut list);
+        (ended, record, list)
+    };
+    let by_rate = filled(&[0, 0], &[0.0, 0.0, 0.0, 300.0, 0.0, 0.0]);
+    assert_eq!(by_rate.0.number, 0);
+    assert_eq!(by_rate.1, old, "its releases are 300");
+    for kind in 3..=255 {
+        let unused = [f64::NAN, 0.0, 0.0, 300.0, f64::NAN, f64::INFINITY];
+        assert_eq!(filled(&[kind, kind], &unused), by_rate, "{kind}");
+        assert_eq!(wish_of_kind(kind, [12.5, f64::NAN, 0.0], 5, 6, 7), 12.5);
+    }
+    let none = filled(&[0, 0], &[0.0; 6]);
+    for (kinds, numbers) in [
+        (&[][..], &[][..]),
+        (&[0], &[7.0, 7.0]),
+        (&[1, 1], &[]),
+        (&[0; 70], &[0.0; 6]),
+    ] {
+        assert_eq!(filled(kinds, numbers), none);
+    }
+    let alone = Law::Alinea {
+        gain: 0.5,
+        target: 4_400.0,
+    };
+    assert_eq!(
+        wish_of_kind(1, [0.5, 4_400.0, f64::NAN], 9, 6, 4_000),
+        209.0
+    );
+    assert_eq!(wish(alone, 9, 6, 4_000), 209.0);
+}
+
+/// One row is the last of the rows up to it, also of bytes that are no record.
+#[test]
+fn one_row() {
+    let record = printed_run();
+    let all = rows(&record).unwrap();
+    for step in 0..3 {
+        assert_eq!(row(&record, 2, step).unwrap(), all[5 * step..5 * step + 5]);
+    }
+    assert_eq!(row(&record, 2, 3), Some(vec![0; 5]), "past the last byte");
+    assert_eq!(row(&[], 64, 1_439), Some(vec![0; 129]));
+    assert_eq!((row(&record, 65, 0), row(&record, 2, 1_440)), (None, None));
+    assert_eq!(row(&record, usize::MAX, usize::MAX), None);
+    assert_eq!(rows(&record[1..]).unwrap_err().number, 1);
 }

@@ -182,7 +182,7 @@ fn demand_capacity(cases: &mut Cases) {
 pub fn any_bits(dice: &mut Dice) -> LeafInput {
     LeafInput {
         law: LawInput {
-            kind: dice.upto(2) as u32,
+            kind: dice.upto(3) as u32,
             bits: [dice.bits(), dice.bits(), dice.bits()],
         },
         last: dice.any_size(u64::from(u32::MAX)) as u32,

@@ -1,0 +1,294 @@
+//! The engine's operations as the boundary has them: on lent lists, each with the engine's own answer.
+
+// Every `unsafe` below passes pointers and counts of slices that live through the call; what is written is borrowed mutably.
+use crate::raw;
+use crate::types::{
+    Ended, Granted, Lanes, Law, Loaded, Reading, Released, Road, Start, State, Stepped, Wanted,
+    Weighed, Weights, Written,
+};
+
+/// The linked library's [`VERSION`](crate::VERSION).
+pub fn version() -> u32 {
+    unsafe { raw::nobyaluk_version() }
+}
+
+/// Reads a record.
+#[must_use = "it may be a refusal: `ok()`"]
+pub fn read(record: &[u8]) -> Reading {
+    unsafe { raw::nobyaluk_read(record.as_ptr(), record.len()) }
+}
+
+/// Runs a record under a table of lanes (empty: all open) into a lent list: the engine's own shape.
+#[must_use = "it may be a refusal: `ok()`"]
+pub fn run_into(record: &[u8], lanes: &[u8], list: &mut [u32]) -> Ended {
+    unsafe {
+        raw::nobyaluk_run(
+            record.as_ptr(),
+            record.len(),
+            lanes.as_ptr(),
+            lanes.len(),
+            list.as_mut_ptr(),
+            list.len(),
+        )
+    }
+}
+
+/// Runs so with weights of waiting.
+///
+/// ```
+/// use nobyaluk::{run_weighted_into, Weights};
+/// let record = std::fs::read("../../examples/printed-run.rec")?;
+/// let weighed = run_weighted_into(&record, &[], Weights::EVEN, &mut [0; 9]).ok()?;
+/// assert_eq!((weighed.weighted, weighed.ended.total), (33_098, 33_098));
+/// let refused = run_weighted_into(&record, &[], Weights::EVEN, &mut [0; 8]).ok().unwrap_err();
+/// assert_eq!(refused.to_string(), "refused 11: the lent list is shorter than T × (n + 1)");
+/// # Ok::<(), Box<dyn std::error::Error>>(())
+/// ```
+#[must_use = "it may be a refusal: `ok()`"]
+pub fn run_weighted_into(
+    record: &[u8],
+    lanes: &[u8],
+    weights: Weights,
+    list: &mut [u32],
+) -> Weighed {
+    unsafe {
+        raw::nobyaluk_run_weighted(
+            record.as_ptr(),
+            record.len(),
+            lanes.as_ptr(),
+            lanes.len(),
+            weights,
+            list.as_mut_ptr(),
+            list.len(),
+        )
+    }
+}
+
+/// Judges a schedule, a row of n + 1 outflows a step, gate first.
+#[must_use = "it may be a refusal: `ok()`"]
+pub fn judge(record: &[u8], lanes: &[u8], schedule: &[u32]) -> Ended {
+    unsafe {
+        raw::nobyaluk_judge(
+            record.as_ptr(),
+            record.len(),
+            lanes.as_ptr(),
+            lanes.len(),
+            schedule.as_ptr(),
+            schedule.len(),
+        )
+    }
+}
+
+/// Judges a schedule and writes, after each step made, what each place holds and what waits at each ramp.
+#[must_use = "it may be a refusal: `ok()`"]
+pub fn history_into(
+    record: &[u8],
+    lanes: &[u8],
+    schedule: &[u32],
+    held: &mut [u32],
+    queue: &mut [u32],
+) -> Ended {
+    unsafe {
+        raw::nobyaluk_history(
+            record.as_ptr(),
+            record.len(),
+            lanes.as_ptr(),
+            lanes.len(),
+            schedule.as_ptr(),
+            schedule.len(),
+            held.as_mut_ptr(),
+            held.len(),
+            queue.as_mut_ptr(),
+            queue.len(),
+        )
+    }
+}
+
+/// Fills the record's releases by a law for each cell, and runs it.
+#[must_use = "it may be a refusal: `ok()`"]
+pub fn fill_into(record: &mut [u8], laws: &[Law], lanes: &[u8], list: &mut [u32]) -> Ended {
+    let (kinds, numbers): (Vec<u8>, Vec<[f64; 3]>) = laws.iter().map(|law| law.flat()).unzip();
+    fill_kinds_into(record, &kinds, numbers.as_flattened(), lanes, list)
+}
+
+/// Fills so by the kinds of the laws and their numbers in a list of threes. Kind 1 is ALINEA, 2 demand-capacity, every other
+/// one a fixed rate; numbers that a law doesn't use are not looked at, and past the ends of both lists stands a rate of 0.
+#[must_use = "it may be a refusal: `ok()`"]
+pub fn fill_kinds_into(
+    record: &mut [u8],
+    kinds: &[u8],
+    numbers: &[f64],
+    lanes: &[u8],
+    list: &mut [u32],
+) -> Ended {
+    unsafe {
+        raw::nobyaluk_fill(
+            record.as_mut_ptr(),
+            record.len(),
+            kinds.as_ptr(),
+            kinds.len(),
+            numbers.as_ptr(),
+            numbers.len(),
+            lanes.as_ptr(),
+            lanes.len(),
+            list.as_mut_ptr(),
+            list.len(),
+        )
+    }
+}
+
+/// Writes the record of a road, a start and its rows to the front of a target.
+#[must_use = "it may be a refusal: `ok()`"]
+pub fn write_into(
+    road: Road,
+    steps: usize,
+    start: Start,
+    rows: &[u32],
+    target: &mut [u8],
+) -> Written {
+    unsafe {
+        raw::nobyaluk_write(
+            road,
+            steps,
+            start,
+            rows.as_ptr(),
+            rows.len(),
+            target.as_mut_ptr(),
+            target.len(),
+        )
+    }
+}
+
+/// The rows of a record's first steps, for a road of n cells, and how many numbers they have; 0, with nothing written, where
+/// the list is too short, n above 64 or steps above 1,440.
+pub fn rows_into(record: &[u8], n: usize, steps: usize, list: &mut [u32]) -> usize {
+    unsafe {
+        raw::nobyaluk_rows(
+            record.as_ptr(),
+            record.len(),
+            n,
+            steps,
+            list.as_mut_ptr(),
+            list.len(),
+        )
+    }
+}
+
+/// Fills a list with the arrivals of a seed and a peak.
+#[must_use = "it may be a refusal: `ok()`"]
+pub fn load_into(seed: u32, peak: u32, list: &mut [u32]) -> Loaded {
+    unsafe { raw::nobyaluk_load(seed, peak, list.as_mut_ptr(), list.len()) }
+}
+
+/// Fills a table with the releases that keep a wanted queue, where any do: the least running sum after every step.
+#[must_use = "it may be a refusal: `ok()`"]
+pub fn wanted_into(
+    start: u32,
+    ceiling: u32,
+    rate: u32,
+    arrivals: &[u32],
+    table: &mut [u32],
+) -> Wanted {
+    unsafe {
+        raw::nobyaluk_wanted(
+            start,
+            ceiling,
+            rate,
+            arrivals.as_ptr(),
+            arrivals.len(),
+            table.as_mut_ptr(),
+            table.len(),
+        )
+    }
+}
+
+/// Grants the releases of a step to the ramps of a street.
+///
+/// ```
+/// let mut grants = [0; 2];
+/// nobyaluk::grant_into(10, &[2, 3], &[7, 9], &mut grants).ok()?;
+/// assert_eq!(grants, [7, 3]);
+/// let refused = nobyaluk::grant_into(4, &[2, 3], &[7, 9], &mut grants).ok().unwrap_err();
+/// assert_eq!((refused.number, grants), (24, [7, 3]));
+/// # Ok::<(), nobyaluk::Refused>(())
+/// ```
+#[must_use = "it may be a refusal: `ok()`"]
+pub fn grant_into(limit: u32, guarantees: &[u32], wishes: &[u32], grants: &mut [u32]) -> Granted {
+    unsafe {
+        raw::nobyaluk_grant(
+            limit,
+            guarantees.as_ptr(),
+            guarantees.len(),
+            wishes.as_ptr(),
+            wishes.len(),
+            grants.as_mut_ptr(),
+            grants.len(),
+        )
+    }
+}
+
+/// Puts a release into a record at a step, counted from 0, and a cell, counted from 1.
+#[must_use = "it may be a refusal: `ok()`"]
+pub fn put_into(record: &mut [u8], step: usize, cell: usize, release: u32) -> Released {
+    unsafe { raw::nobyaluk_put(record.as_mut_ptr(), record.len(), step, cell, release) }
+}
+
+/// One step by a row of the record's order. A refusal names its cell, and no step: the state has only how many are done.
+///
+/// ```
+/// use nobyaluk::{read, rows, step, Lanes};
+/// let record = std::fs::read("../../examples/printed-run.rec")?;
+/// let start = read(&record).ok()?;
+/// let mut row = rows(&record)?[..5].to_vec();
+/// assert_eq!(step(start.road, start.state, &row, Lanes::OPEN).ok()?.state.done, 1);
+/// row[4] = 2_001; // 1,500 wait and 500 arrive
+/// let refused = step(start.road, start.state, &row, Lanes::OPEN).ok().unwrap_err();
+/// assert_eq!(refused.to_string(), "refused 9: cell 2: a release above its ramp's queue and this step's arrivals there together");
+/// # Ok::<(), Box<dyn std::error::Error>>(())
+/// ```
+#[must_use = "it may be a refusal: `ok()`"]
+pub fn step(road: Road, state: State, row: &[u32], lanes: Lanes) -> Stepped {
+    unsafe { raw::nobyaluk_step(road, state, row.as_ptr(), row.len(), lanes) }
+}
+
+/// What is present in any road and state, each place and ramp queue times its weight.
+pub fn weighted(road: Road, state: State, weights: Weights) -> u64 {
+    unsafe { raw::nobyaluk_weighted(road, state, weights) }
+}
+
+/// What a cell can send in a step.
+pub fn demand(speed: u16, capacity: u32, held: u32) -> u32 {
+    unsafe { raw::nobyaluk_demand(speed, capacity, held) }
+}
+
+/// What a cell can take in a step.
+pub fn supply(wave: u16, capacity: u32, jam: u32, held: u32) -> u32 {
+    unsafe { raw::nobyaluk_supply(wave, capacity, jam, held) }
+}
+
+/// The greatest outflow within the demand whose onward part fits the room.
+pub fn outflow(share: u16, cumulative: u32, room: u32, demand: u32) -> u32 {
+    unsafe { raw::nobyaluk_outflow(share, cumulative, room, demand) }
+}
+
+/// What the open lanes leave of a capacity; each set bit is a lane.
+pub fn open_capacity(capacity: u32, built: u8, usable: u8) -> u32 {
+    unsafe { raw::nobyaluk_open_capacity(capacity, built, usable) }
+}
+
+/// What a law wishes to release, after the last step's release and its entry from upstream, with so much held.
+pub fn wish(law: Law, last: u32, entered: u32, held: u32) -> f64 {
+    let (kind, numbers) = law.flat();
+    wish_of_kind(kind, numbers, last, entered, held)
+}
+
+/// The same by the law's kind and its three numbers, as [`fill_kinds_into`] takes them.
+pub fn wish_of_kind(kind: u8, numbers: [f64; 3], last: u32, entered: u32, held: u32) -> f64 {
+    let [first, second, third] = numbers;
+    unsafe { raw::nobyaluk_wish(kind, first, second, third, last, entered, held) }
+}
+
+/// The greatest whole number up to the cap that is not above a wish.
+pub fn release(wish: f64, cap: u32) -> u32 {
+    unsafe { raw::nobyaluk_release(wish, cap) }
+}

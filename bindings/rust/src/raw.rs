@@ -1,0 +1,124 @@
+//! The functions of the archive, as bindings/c/nobyaluk.h has them.
+
+use crate::types::{
+    Ended, Granted, Lanes, Loaded, Reading, Released, Road, Start, State, Stepped, Wanted, Weighed,
+    Weights, Written,
+};
+extern "C" {
+    pub fn nobyaluk_version() -> u32;
+    pub fn nobyaluk_read(record: *const u8, bytes: usize) -> Reading;
+    pub fn nobyaluk_run(
+        record: *const u8,
+        bytes: usize,
+        lanes: *const u8,
+        lanes_count: usize,
+        list: *mut u32,
+        count: usize,
+    ) -> Ended;
+    pub fn nobyaluk_run_weighted(
+        record: *const u8,
+        bytes: usize,
+        lanes: *const u8,
+        lanes_count: usize,
+        weights: Weights,
+        list: *mut u32,
+        count: usize,
+    ) -> Weighed;
+    pub fn nobyaluk_judge(
+        record: *const u8,
+        bytes: usize,
+        lanes: *const u8,
+        lanes_count: usize,
+        schedule: *const u32,
+        count: usize,
+    ) -> Ended;
+    pub fn nobyaluk_history(
+        record: *const u8,
+        bytes: usize,
+        lanes: *const u8,
+        lanes_count: usize,
+        schedule: *const u32,
+        count: usize,
+        held: *mut u32,
+        held_count: usize,
+        queue: *mut u32,
+        queue_count: usize,
+    ) -> Ended;
+    pub fn nobyaluk_fill(
+        record: *mut u8,
+        bytes: usize,
+        kinds: *const u8,
+        kinds_count: usize,
+        numbers: *const f64,
+        numbers_count: usize,
+        lanes: *const u8,
+        lanes_count: usize,
+        list: *mut u32,
+        count: usize,
+    ) -> Ended;
+    pub fn nobyaluk_write(
+        road: Road,
+        steps: usize,
+        start: Start,
+        rows: *const u32,
+        count: usize,
+        target: *mut u8,
+        bytes: usize,
+    ) -> Written;
+    pub fn nobyaluk_rows(
+        record: *const u8,
+        bytes: usize,
+        n: usize,
+        steps: usize,
+        list: *mut u32,
+        count: usize,
+    ) -> usize;
+    pub fn nobyaluk_load(seed: u32, peak: u32, list: *mut u32, count: usize) -> Loaded;
+    pub fn nobyaluk_wanted(
+        start: u32,
+        ceiling: u32,
+        rate: u32,
+        arrivals: *const u32,
+        arrivals_count: usize,
+        table: *mut u32,
+        table_count: usize,
+    ) -> Wanted;
+    pub fn nobyaluk_grant(
+        limit: u32,
+        guarantees: *const u32,
+        guarantees_count: usize,
+        wishes: *const u32,
+        wishes_count: usize,
+        grants: *mut u32,
+        grants_count: usize,
+    ) -> Granted;
+    pub fn nobyaluk_put(
+        record: *mut u8,
+        bytes: usize,
+        step: usize,
+        cell: usize,
+        release: u32,
+    ) -> Released;
+    pub fn nobyaluk_step(
+        road: Road,
+        state: State,
+        row: *const u32,
+        numbers: usize,
+        lanes: Lanes,
+    ) -> Stepped;
+    pub fn nobyaluk_weighted(road: Road, state: State, weights: Weights) -> u64;
+    pub fn nobyaluk_demand(speed: u16, capacity: u32, held: u32) -> u32;
+    pub fn nobyaluk_supply(wave: u16, capacity: u32, jam: u32, held: u32) -> u32;
+    pub fn nobyaluk_outflow(share: u16, cumulative: u32, room: u32, demand: u32) -> u32;
+    pub fn nobyaluk_open_capacity(capacity: u32, built: u8, usable: u8) -> u32;
+    pub fn nobyaluk_wish(
+        kind: u8,
+        first: f64,
+        second: f64,
+        third: f64,
+        last: u32,
+        entered: u32,
+        held: u32,
+    ) -> f64;
+    pub fn nobyaluk_release(wish: f64, cap: u32) -> u32;
+}
