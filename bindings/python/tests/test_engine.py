@@ -1,0 +1,263 @@
+"""Every operation of the boundary through Python, by numbers worked out on paper (docs/MODEL.md, docs/BY-HAND.md)."""
+import math
+import pickle
+import re
+import threading
+import time
+
+import nobyaluk
+import numpy as np
+import pytest
+from hypothesis import given, settings
+from hypothesis import strategies as st
+from nobyaluk import engine
+from nobyaluk.summary import broken
+
+
+def refusal(call, *arguments):
+    with pytest.raises(engine.Refused) as caught:
+        call(*arguments)
+    return caught.value.number, caught.value.step, caught.value.place
+
+
+@pytest.fixture(scope="module")
+def printed(examples):
+    return engine.read((examples / "printed-run.rec").read_bytes())
+
+
+def test_the_printed_run(printed):
+    run = nobyaluk.run(printed)
+    assert run.outflow.tolist() == [[1500, 934, 1000], [1358, 933, 1000], [1252, 934, 1000]]
+    assert run.held.tolist() == [[2500, 2566, 4000], [2142, 2991, 4000], [1890, 3309, 4000]]
+    assert run.queue.tolist() == [[0, 0, 1700], [0, 0, 1900], [0, 0, 2100]]
+    assert (run.total, run.gate, run.road, run.ramp, run.exits) == (33098, 6532, 20866, 5700, 3701)
+    assert nobyaluk.listing(run).splitlines()[-1] == "total 33098 gate 6532 road 20866 ramp 5700 exits 3701"
+
+
+def test_the_starred_edges():
+    assert (engine.demand(500, 2000, 2566), engine.demand(500, 2000, 2567), engine.demand(1000, 9999, 2001)) == (1283, 1283, 2001)
+    assert (engine.supply(250, 2000, 8000, 2566), engine.supply(250, 2000, 8000, 8000)) == (1358, 0)
+    assert (engine.outflow(750, 934, 700, 1283), engine.outflow(750, 0, 0, 7), engine.outflow(0, 5, 0, 7)) == (933, 1, 7)
+    assert engine.open_capacity(1000, 0b111, 0b110) == 666
+
+
+def test_read_edit_write(printed):
+    assert printed.rows.tolist() == [[1000, 0, 0, 500, 300]] * 3
+    assert engine.write(printed.road, printed.begin, printed.rows).data == printed.data
+    assert printed.column("jam").tolist() == [8000, 8000] and printed.column("held").tolist() == [2000, 4000]
+
+
+def test_judge_and_history(printed):
+    zeros = np.zeros((3, 3), np.uint32)
+    judged = engine.judge(printed, zeros)
+    assert (judged.total, judged.exits) == (40500, 0)
+    held, queue = engine.history(printed, zeros)
+    assert held.tolist() == judged.held.tolist() and queue[:, 2].tolist() == [1700, 1900, 2100]
+    worse = engine.run(printed).outflow.copy()
+    worse[1, 1] = 934
+    assert refusal(engine.judge, printed, worse) == refusal(engine.history, printed, worse) == (14, 1, 1)
+    assert refusal(engine.judge, printed, zeros[:2]) == (12, 0, 0)
+
+
+def test_steps_are_the_run(printed):
+    state = printed.start
+    for row in printed.rows:
+        state = engine.step(printed.road, state, row)
+    assert state.done == 3 and (state.gate_time, state.road_time, state.ramp_time) == (6532, 20866, 5700)
+    assert refusal(engine.step, printed.road, state, printed.rows[0][:3])[0] == 7
+
+
+def test_weights(printed):
+    run = engine.run_weighted(printed, [2, 1, 1], [1, 1])
+    assert run.weighted == run.total + run.gate and run.total == 33098
+    assert engine.weighted(printed.road, printed.start, [1, 1, 1], [1, 1]) == 3000 + 2000 + 4000 + 1500
+    for places, ramps in (([1, 1], [1, 1]), ([1, 1, 1], [256, 1]), ([-1, 1, 1], [1, 1])):
+        with pytest.raises(ValueError):
+            engine.run_weighted(printed, places, ramps)
+
+
+def test_laws(printed):
+    assert engine.wish(("fixed", 300.5), 0, 0, 0) == 300.5
+    assert engine.wish(("alinea", 0.5, 4000.0), 300, 0, 3000) == 800.0
+    assert engine.wish(("demand-capacity", 1000.0, 4000.0, 100.0), 0, 700, 4000) == 300.0
+    assert engine.wish(("demand-capacity", 1000.0, 4000.0, 100.0), 0, 700, 4001) == 100.0
+    assert [engine.release(x, 500) for x in (300.9, -1.0, math.nan, math.inf)] == [300, 0, 0, 500]
+    filled = engine.fill(printed, {2: ("fixed", 250.7)})
+    assert filled.record.rows[:, 4].tolist() == [250, 250, 250]
+    assert engine.run(filled.record).total == filled.total
+    assert refusal(engine.fill, printed, {2: ("fixed", math.inf)}) == (16, 0, 2)
+    with pytest.raises(ValueError, match="one of fixed, alinea, demand-capacity"):
+        engine.fill(printed, {2: ("open",)})
+
+
+def test_lanes(printed):
+    table = bytes([7, 7, 7, 7, 7, 6, 7, 7])
+    assert engine.run(printed, table).outflow[1, 2] == engine.open_capacity(1000, 7, 6) == 666
+    assert refusal(engine.run, printed, b"\1") == (17, 0, 0)
+    assert refusal(engine.run, printed, bytes([1, 0] + [1, 0] * 3)) == (18, 0, 2)
+
+
+def test_a_stated_load():
+    arrivals, last = nobyaluk.stated_load(0, 1000, 10)
+    assert arrivals.tolist() == [236, 278, 820, 668, 384, 622, 344, 640, 508, 582] and last == 2498801434
+    first, half = engine.load(0, 1000, 4)
+    second, end = engine.load(half, 1000, 6)
+    assert np.concatenate([first, second]).tolist() == arrivals.tolist() and end == last
+    assert engine.load(42, 7, 0)[1] == 42
+    assert refusal(engine.load, 42, 1_000_001, 3) == (25, 0, 0)
+
+
+def test_a_wanted_queue():
+    assert engine.wanted(4, 3, 2, [0, 0, 3]).tolist() == [1, 1, 2]
+    assert engine.wanted(4, 3, 2, [0, 0, 6]) is None
+    assert refusal(engine.wanted, 4, 3, 2, []) == (23, 0, 0)
+
+
+def test_a_street():
+    assert engine.grant(10, [2, 3, 1], [7, 1, 9]).tolist() == [7, 1, 2]
+    assert refusal(engine.grant, 5, [2, 3, 1], [7, 1, 9]) == (24, 0, 0)
+
+
+def test_a_release_put(printed):
+    assert [refusal(engine.put, printed, step, cell, release)[::2] for step, cell, release in
+            [(0, 0, 7), (0, 1, 7), (0, 3, 7), (3, 2, 7), (1, 2, 1_000_001)]] == [(5, 0), (5, 1), (5, 3), (6, 3), (6, 1)]
+    new = engine.put(printed, 1, 2, 7)
+    assert new.rows[1].tolist() == [1000, 0, 0, 500, 7] and new.rows[[0, 2]].tolist() == printed.rows[[0, 2]].tolist()
+    assert refusal(engine.run, engine.put(printed, 1, 2, 2201)) == (9, 1, 2)  # 1,700 wait after step 0 and 500 arrive
+
+
+def test_refusals_have_words(examples):
+    numbers = list(engine.MEANING)
+    assert numbers == sorted(numbers) and {*range(1, 20), 23, 24, 25} <= set(numbers) <= {*range(1, 27)}
+    for path in examples.glob("refused-*.rec"):
+        with pytest.raises(engine.Refused) as caught:
+            engine.run(path.read_bytes())
+        e = caught.value
+        assert e.number == int(path.name.split("-")[1]) and str(e).endswith(": " + e.words) and e.words == engine.MEANING[e.number]
+        again = pickle.loads(pickle.dumps(e))
+        assert (again.number, again.step, again.place, again.line) == (e.number, e.step, e.place, e.line)
+
+
+def test_what_is_no_number_of_its_kind():
+    for call in (lambda: engine.demand(-1, 0, 0), lambda: engine.load(1 << 32, 1, 1), lambda: engine.wanted(0, 0, 0, [-1]), lambda: engine.grant(1, [1.5], [1])):
+        with pytest.raises((ValueError, TypeError)):
+            call()
+
+
+def test_a_record_travels(printed):
+    again = pickle.loads(pickle.dumps(printed))
+    assert again.data == printed.data and again.rows.tolist() == printed.rows.tolist()
+    run = pickle.loads(pickle.dumps(engine.run(printed)))
+    assert run.total == 33098 and run.held.tolist() == engine.run(printed).held.tolist()
+
+
+def test_the_lock_is_given_up(examples):
+    """While calls of the engine last, another thread of Python goes on."""
+    record = engine.read((examples / "rocade-sud.rec").read_bytes())
+    ticks, stop = 0, threading.Event()
+
+    def tick():
+        nonlocal ticks
+        while not stop.is_set():
+            ticks += 1
+            time.sleep(0)
+
+    other = threading.Thread(target=tick)
+    other.start()
+    data, out = record.data, np.empty(engine.MOST_OUTFLOWS, np.uint32)
+    before, calls = ticks, 0
+    while calls < 300:
+        engine._run(data, len(data), b"", 0, *engine._lent(out))
+        calls += 1
+    during = ticks - before
+    stop.set()
+    other.join()
+    assert during >= 100  # with the lock held it would go on once in 5 ms, some 5 times
+
+
+def test_everything_is_told(root):
+    """Every function of the C header is called by the package; every public name has its words."""
+    header = (root / "bindings/c/nobyaluk.h").read_text()
+    source = (root / "bindings/python/nobyaluk/engine.py").read_text()
+    for name in set(re.findall(r"^\w+ nobyaluk_(\w+)\(", header, re.M)):
+        assert f'_function("{name}"' in source, name
+    for name in nobyaluk.__all__:
+        assert getattr(nobyaluk, name).__doc__, name
+
+
+@settings(max_examples=60, deadline=None)
+@given(st.data())
+def test_no_schedule_beats_the_run(data):
+    """Demand 3, tried: no random schedule that judging accepts is ahead of the run."""
+    n, steps = data.draw(st.integers(1, 5)), 6
+    r, s = engine.Road(n=n, version=1, gate_capacity=data.draw(st.integers(0, 5000))), engine.Start(data.draw(st.integers(0, 9000)))
+    for i in range(n):
+        r.jam[i] = data.draw(st.integers(0, 20000))
+        r.speed[i], r.wave[i], r.capacity[i] = (data.draw(st.integers(0, x)) for x in (1000, 1000, 9000))
+        r.share[i] = data.draw(st.integers(0, 1000)) if i < n - 1 else 0
+        s.held[i] = data.draw(st.integers(0, r.jam[i]))
+    rows = np.zeros((steps, 1 + 2 * n), np.uint32)
+    rows[:, 0] = data.draw(st.lists(st.integers(0, 4000), min_size=steps, max_size=steps))
+    record = engine.write(r, s, rows)
+    run = engine.run(record)
+    assert engine.judge(record, run.outflow).total == run.total
+    zs = accepted(record, [[data.draw(st.integers(0, 1000)) for _ in range(n + 1)] for _ in range(steps)])
+    other = engine.judge(record, zs)
+    assert other.total >= run.total and other.ramp == run.ramp
+    assert (np.cumsum(zs, 0) <= np.cumsum(run.outflow.astype(np.int64), 0)).all()
+    wild = data.draw(st.lists(st.integers(0, 9000), min_size=zs.size, max_size=zs.size))
+    try:
+        assert engine.judge(record, wild).total >= run.total
+    except engine.Refused as e:
+        assert e.number in (13, 14)
+
+
+def accepted(record, thousandths):
+    """A schedule that judging accepts: each outflow is these thousandths of the run's, less wherever a rule would break."""
+    n, zs = record.road.n, engine.run(record).outflow * np.array(thousandths) // 1000
+    while True:
+        try:
+            engine.judge(record, zs)
+            return zs
+        except engine.Refused as e:
+            zs[e.step, e.place] = int(broken(record, zs, b"", e).split()[-1].rstrip(";"))
+
+
+@settings(max_examples=300, deadline=None)
+@given(st.binary(max_size=300))
+def test_any_bytes_are_answered(data):
+    try:
+        engine.run(data)
+    except engine.Refused as e:
+        assert 1 <= e.number <= 19
+
+
+@settings(max_examples=200, deadline=None)
+@given(st.integers(0, 123), st.integers(0, 255))
+def test_any_damage_is_answered(printed_bytes, at, value):
+    data = bytearray(printed_bytes)
+    data[at] = value
+    try:
+        run = engine.run(bytes(data))
+        assert engine.judge(run.record, run.outflow).total == run.total
+    except engine.Refused as e:
+        assert e.words
+
+
+@pytest.fixture(scope="module")
+def printed_bytes(examples):
+    return (examples / "printed-run.rec").read_bytes()
+
+
+def test_stepping_names_no_step(printed):
+    """A step's answer has none; running's does."""
+    record = printed
+    row = record.rows[0].copy()
+    row[4] = 2001  # 1,500 wait and 500 arrive
+    with pytest.raises(engine.Refused) as caught:
+        engine.step(record.road, record.start, row)
+    words = engine.MEANING[9]
+    assert str(caught.value) == f"refused 9: cell 2: {words}" and caught.value.step is None
+    with pytest.raises(engine.Refused) as caught:
+        engine.run(engine.put(record, 0, 2, 2001))
+    assert str(caught.value) == f"refused 9: step 0, cell 2: {words}" and caught.value.step == 0
