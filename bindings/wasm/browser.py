@@ -177,6 +177,9 @@ def verdicts(page):
     page.open(study="rocade", law="alinea")
     assert "Together it is a gain" in page.text("verdict") and "at the ramps (+" in page.text("verdict")
     page.open(study="rocade", law="fixed", **{f"ramp-{c}": 630 for c in RAMPS["rocade"]})
+    page["open-box"].click()
+    page.until(lambda: "times its critical" in page["map-open"].get_attribute("aria-label"), "the picture with open meters")
+    assert page["map-open"].get_attribute("aria-label") != page["map"].get_attribute("aria-label")
     assert "Together it is a loss" in page.text("verdict") and "would call it a gain" in page.text("verdict"), page.text("verdict")
 
 

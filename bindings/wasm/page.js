@@ -35,7 +35,10 @@ function show(run, open, ms) {
   $("verdict").textContent = verdictOf(run, open);
   showRamps(run, open);
   showWeighed(run, open);
-  drawMap(run); drawQueues(run); drawSystem(run, open); drawCurves(run);
+  drawMap(run, $("map"));
+  $("open-box").hidden = !study.ramps.length;
+  if ($("open-box").open) drawMap(open, $("map-open"));
+  drawQueues(run); drawSystem(run, open); drawCurves(run);
   $("took").textContent = t("took", { steps: study.steps, n: study.road.n, ms: say(ms, 1) });
   $("lanes").hidden = !closed();
   $("last-says").textContent = t(closed() ? "take.works" : "take.check");
@@ -157,6 +160,7 @@ for (const id of ["load", "works", "cell", "law", "gain", ...WEIGHTS]) on(id, "i
 on("from", "input", () => { $("to").value = Math.max(value("to"), value("from") + 1); update(); });
 on("to", "input", () => { $("from").value = Math.min(value("from"), value("to") - 1); update(); });
 on("all", "input", () => { for (const c of study.ramps) $(`ramp-${c}`).value = $("all").value; update(); });
+on("open-box", "toggle", update);
 on("file", "change", () => { if ($("file").files[0]) take($("file").files[0]); });
 on("skip", "click", () => (mode === "study" ? $("results") : $("grid").querySelector("input"))?.focus());
 for (const m of ["study", "exercise"]) on(`mode-${m}`, "click", () => turn(m));

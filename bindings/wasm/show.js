@@ -38,12 +38,12 @@ function showTotals(run, open) {
 
 // The time spent at each ramp, and its longest queue.
 function showRamps(run, open) {
-  const w = study.road.n + 1, longest = (x, cell) => { let most = 0; for (let k = 0; k < study.steps; k++) most = Math.max(most, x.queue[k * w + cell]); return most / 1000; };
+  const w = study.road.n + 1, longest = (cell) => Math.max(...over(study.start.queue[cell - 1], (k) => run.queue[k * w + cell]));
   $("ramps-box").hidden = !study.ramps.length;
   const head = [t("ramps.table"), t("these"), t("allopen"), t("change"), t("ramps.longest")];
   $("ramp-table").replaceChildren(...table(head, study.ramps.map((cell, j) => {
     const a = hours(run.ramps[j]), b = hours(open.ramps[j]);
-    return [t("ramp", { cell }), say(a), say(b), signed(a - b), say(longest(run, cell), digits())];
+    return [t("ramp", { cell }), say(a), say(b), signed(a - b), say(longest(cell), digits())];
   })).children);
 }
 
@@ -76,17 +76,17 @@ function showWeighed(run, open) {
   $("weighed-promise").textContent = t(places.every((x, i) => !i || x <= places[i - 1]) ? "weighed.promise" : "weighed.none");
 }
 
-// Density over place and time.
-function drawMap(run) {
+// Density over place and time, on a canvas.
+function drawMap(run, canvas) {
   const { road, edges, steps, inKm } = study, n = road.n, every = edges[n] > 6 ? 2 : 1;
   const ratio = (k, i) => run.held[k * (n + 1) + i + 1] / Math.max(1, critical(i) || road.jam[i]);
   const marks = road.ramp.map((mark, i) => (mark ? `▸${i + 1} ` : "") + (i < n - 1 && road.share[i] < 1000 ? "◂" : ""));
   const ticks = inKm ? Array.from({ length: Math.floor(edges[n] / every) + 1 }, (_, i) => [i * every, say(i * every, 0)])
     : road.ramp.flatMap((_, i) => (n < 24 || i % 4 === 0 ? [[i + 0.5, String(i + 1)]] : []));
-  spaceTime($("map"), { steps, edges, ratio, marks, ticks, works: closed(), time: timeOf(), label: t(inKm ? "axis.km" : "axis.cells") });
+  spaceTime(canvas, { steps, edges, ratio, marks, ticks, works: closed(), time: timeOf(), label: t(inKm ? "axis.km" : "axis.cells") });
   let top = { x: 0, cell: 1, k: 0 };
   for (let k = 0; k < steps; k++) for (let i = 0; i < n; i++) if (ratio(k, i) > top.x) top = { x: ratio(k, i), cell: i + 1, k };
-  $("map").setAttribute("aria-label", t("map.alt", { cell: top.cell, x: say(top.x, 2), when: when(top.k) }));
+  canvas.setAttribute("aria-label", t("map.alt", { cell: top.cell, x: say(top.x, 2), when: when(top.k) }));
 }
 // Vehicles at the start and after each step.
 const over = (first, of) => [first / 1000, ...Array.from({ length: study.steps }, (_, k) => of(k) / 1000)];

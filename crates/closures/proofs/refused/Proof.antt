@@ -17,23 +17,14 @@ A c = c .before .before
 abbrev Right : tie.After-first-in-table → tie.Else2
 Right c = c .before
 
-made-requires : tie.Need-made-requires
-made-requires c κs = search needs
-
 returns : tie.Need-returns
 returns c =
     let t = c .before in
     let a = t .before .before .args in
     c .made .ensures ∙ sym (table-empty (a .table .now) (a .n) (a .steps) (omega arith))
 
-add-if2 : tie.Need-add-if2
-add-if2 c = search needs
-
 mul-if2 : tie.Need-mul-if2
 mul-if2 c = let p = A c .pre in omega (arith, mul-le-mul (p .0) (p .1))
-
-made-requires-2 : tie.Need-made-requires-2
-made-requires-2 c κs = search needs
 
 returns-2 : tie.Need-returns-2
 returns-2 c =
@@ -41,17 +32,11 @@ returns-2 c =
     let a = A (t .before) .args in
     c .made2 .ensures ∙ sym (table-size (a .table .now) (a .n) (a .steps) (t .before .if1 .left) (t .if2 .taken))
 
-first-in-table-requires : tie.Need-first-in-table-requires
-first-in-table-requires c κs = search needs
-
 add-made : tie.Need-add-made
 add-made c =
     let t = c .before in
     let a = A (Right t .before) in
     omega (arith, t .first-in-table .ensures, first (tableAt (a .args .table .now) (a .args .n) (a .args .steps)) (a .args .n) .within, a .pre .0)
-
-made-requires-3 : tie.Need-made-requires-3
-made-requires-3 c κs = search needs
 
 returns-3 : tie.Need-returns-3
 returns-3 c =
@@ -59,9 +44,6 @@ returns-3 c =
     let k = Right (t .before) in
     let a = A (k .before) .args in
     fault-cell (a .table .now) (a .n) (a .steps) (k .before .if1 .left) (omega arith) (t .before .first-in-table .ensures) (t .if3 .taken) (c .made3 .ensures)
-
-made-requires-4 : tie.Need-made-requires-4
-made-requires-4 c κs = search needs
 
 returns-4 : tie.Need-returns-4
 returns-4 c =
@@ -75,15 +57,5 @@ pub refused-spec : {M : Type 1} → statement M
 refused-spec =
     tie.close
     (tie.spec
-    made-requires
-    returns
-    add-if2
-    mul-if2
-    made-requires-2
-    returns-2
-    first-in-table-requires
-    add-made
-    made-requires-3
-    returns-3
-    made-requires-4
-    returns-4)
+    (λ c κs. search needs) returns (λ c. search needs) mul-if2 (λ c κs. search needs) returns-2 (λ c κs. search needs) add-made
+    (λ c κs. search needs) returns-3 (λ c κs. search needs) returns-4)

@@ -3,11 +3,8 @@ use borrow.Author.Needs.{needs}
 use Rattle.counts.proofs.at_ramps.Statement.{statement}
 use Rattle.counts.proofs.at_ramps.Tie as tie
 
-of-cells-requires : tie.Need-of-cells-requires
-of-cells-requires c κs = search needs
-
 returns : tie.Need-returns
 returns c = c .of-cells .ensures
 
 pub at-ramps-spec : {M : Type 1} → statement M
-at-ramps-spec = tie.close (tie.spec of-cells-requires returns)
+at-ramps-spec = tie.close (tie.spec (λ c κs. search needs) returns)

@@ -21,35 +21,8 @@ A c = c .before .before
 abbrev Turn : tie.After-exit Inv-loop μ-loop → tie.In-loop Inv-loop μ-loop
 Turn c = c .before .before .before
 
-cells-requires : tie.Need-cells-requires Inv-loop μ-loop
-cells-requires c κs = search needs
-
 loop-holds : tie.Need-loop-holds Inv-loop μ-loop
 loop-holds c = exited-none (c .cells .ensures)
-
-mul-exit : tie.Need-mul-exit Inv-loop μ-loop
-mul-exit c = search needs
-
-element-copy-out-exit : tie.Need-element-copy-out-exit Inv-loop μ-loop
-element-copy-out-exit c = search needs
-
-mul-exit-2 : tie.Need-mul-exit-2 Inv-loop μ-loop
-mul-exit-2 c = search needs
-
-element-copy-out-exit-2 : tie.Need-element-copy-out-exit-2 Inv-loop μ-loop
-element-copy-out-exit-2 c = search needs
-
-exit-requires : tie.Need-exit-requires Inv-loop μ-loop
-exit-requires c κs = search needs
-
-add-sum : tie.Need-add-sum Inv-loop μ-loop
-add-sum c = search needs
-
-add-i : tie.Need-add-i Inv-loop μ-loop
-add-i c = search needs
-
-loop-less : tie.Need-loop-less Inv-loop μ-loop
-loop-less c = search needs
 
 loop-again : tie.Need-loop-again Inv-loop μ-loop
 loop-again c = let t = Turn c in exited-more (t .before .loop .inv) (t .loop-test .taken) (c .exit .ensures)
@@ -63,17 +36,5 @@ pub exits-spec : {M : Type 1} → statement M
 exits-spec =
     tie.close
     (tie.spec
-    Inv-loop
-    μ-loop
-    cells-requires
-    loop-holds
-    mul-exit
-    element-copy-out-exit
-    mul-exit-2
-    element-copy-out-exit-2
-    exit-requires
-    add-sum
-    add-i
-    loop-less
-    loop-again
-    returns)
+    Inv-loop μ-loop (λ c κs. search needs) loop-holds (λ c. search needs) (λ c. search needs) (λ c. search needs) (λ c. search needs)
+    (λ c κs. search needs) (λ c. search needs) (λ c. search needs) (λ c. search needs) loop-again returns)

@@ -16,9 +16,6 @@ long a = search needs
 part : (c : tie.After-cells) → let a = c .before .args in Part (a .t1) (a .n) (c .cells .result)
 part c = record { long = long (c .before); cells = c .cells .ensures }
 
-cells-requires : tie.Need-cells-requires
-cells-requires c κs = search needs
-
 array-share-prefix-counts : tie.Need-array-share-prefix-counts
 array-share-prefix-counts c = omega (arith, part c)
 
@@ -32,4 +29,4 @@ returns : tie.Need-returns
 returns c = let s = part-sum (part (c .before .before)) (c .sum .ensures) in (s .is, s .fits)
 
 pub of-cells-spec : {M : Type 1} → statement M
-of-cells-spec = tie.close (tie.spec cells-requires array-share-prefix-counts slice-aggregate-sum sum-requires returns)
+of-cells-spec = tie.close (tie.spec (λ c κs. search needs) array-share-prefix-counts slice-aggregate-sum sum-requires returns)

@@ -4,21 +4,6 @@ use borrow.Author.Needs.{needs}
 use Rattle.exports.proofs.nobyaluk_load.Statement.{statement}
 use Rattle.exports.proofs.nobyaluk_load.Tie as tie
 
-load-requires : tie.Need-load-requires
-load-requires c κs = search needs
-
-number-requires : tie.Need-number-requires
-number-requires c κs = search needs
-
-cast-t9 : tie.Need-cast-t9
-cast-t9 c = search needs
-
-cast-t10 : tie.Need-cast-t10
-cast-t10 c = search needs
-
-same-length : tie.Need-same-length
-same-length c = search needs
-
 returns : tie.Need-returns
 returns c =
     let n = c .before in
@@ -27,4 +12,4 @@ returns c =
 
 pub nobyaluk-load-spec : {M : Type 1} → statement M
 nobyaluk-load-spec =
-    tie.close (tie.spec load-requires number-requires cast-t9 cast-t10 same-length returns)
+    tie.close (tie.spec (λ c κs. search needs) (λ c κs. search needs) (λ c. search needs) (λ c. search needs) (λ c. search needs) returns)

@@ -5,19 +5,10 @@ use borrow.Author.Needs.{needs}
 use Rattle.exports.proofs.nobyaluk_run_weighted.Statement.{statement}
 use Rattle.exports.proofs.nobyaluk_run_weighted.Tie as tie
 
-run-weighted-requires : tie.Need-run-weighted-requires
-run-weighted-requires c κs = search needs
-
-ended-requires : tie.Need-ended-requires
-ended-requires c κs = search needs
-
-same-length : tie.Need-same-length
-same-length c = search needs
-
 returns : tie.Need-returns
 returns c =
     let e = c .before .before .before .before .run-weighted .ensures in
     (rw (c .ended .ensures ∙ ap endedFor (e .0), e .1 .1 .0) refl, (e .1 .0, λ h. rw (e .0) at (e .1 .1 .1 .1 h)))
 
 pub nobyaluk-run-weighted-spec : {M : Type 1} → statement M
-nobyaluk-run-weighted-spec = tie.close (tie.spec run-weighted-requires ended-requires same-length returns)
+nobyaluk-run-weighted-spec = tie.close (tie.spec (λ c κs. search needs) (λ c κs. search needs) (λ c. search needs) returns)

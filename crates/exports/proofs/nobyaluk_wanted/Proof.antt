@@ -18,26 +18,8 @@ to-wanted c = c .before .before
 abbrev to-case : tie.After-number → tie.After-a
 to-case c = c .before .before
 
-wanted-requires : tie.Need-wanted-requires
-wanted-requires c κs = search needs
-
-enum-known-a : tie.Need-enum-known-a
-enum-known-a c = search needs
-
-number-requires : tie.Need-number-requires
-number-requires c κs = search needs
-
-cast-t12 : tie.Need-cast-t12
-cast-t12 c = search needs
-
 enum-told : tie.Need-enum-told
 enum-told c = search needs
-
-enum-told-2 : tie.Need-enum-told-2
-enum-told-2 c = search needs
-
-same-length : tie.Need-same-length
-same-length c = search needs
 
 returns : tie.Need-returns
 returns c =
@@ -45,16 +27,10 @@ returns c =
     let e = to-wanted (m .before .before) .wanted .ensures in
     (rw (c .number .ensures) (case (m .a .given .1) (e .0)), e .1)
 
-same-length-2 : tie.Need-same-length-2
-same-length-2 c = search needs
-
 returns-2 : tie.Need-returns-2
 returns-2 c =
     let e = to-wanted (c .before .before) .wanted .ensures in
     (case (c .enum-told .given .1) (e .0), e .1)
-
-same-length-3 : tie.Need-same-length-3
-same-length-3 c = search needs
 
 returns-3 : tie.Need-returns-3
 returns-3 c =
@@ -65,15 +41,5 @@ pub nobyaluk-wanted-spec : {M : Type 1} → statement M
 nobyaluk-wanted-spec =
     tie.close
     (tie.spec
-    wanted-requires
-    enum-known-a
-    number-requires
-    cast-t12
-    enum-told
-    enum-told-2
-    same-length
-    returns
-    same-length-2
-    returns-2
-    same-length-3
-    returns-3)
+    (λ c κs. search needs) (λ c. search needs) (λ c κs. search needs) (λ c. search needs) enum-told (λ c. search needs) (λ c. search needs)
+    returns (λ c. search needs) returns-2 (λ c. search needs) returns-3)

@@ -7,15 +7,6 @@ use borrow.Author.Needs.{needs}
 use Rattle.fields.proofs.put_byte.Statement.{statement}
 use Rattle.fields.proofs.put_byte.Tie as tie
 
-slice-write-target : tie.Need-slice-write-target
-slice-write-target c = search needs
-
-add-result : tie.Need-add-result
-add-result c = search needs
-
-same-length : tie.Need-same-length
-same-length c = search needs
-
 returns : tie.Need-returns
 returns c =
     let a = c .args in
@@ -23,4 +14,4 @@ returns c =
     stored (a .target .now) (a .at) 1 (a .x) _ (one-byte (a .target .now) (a .at) (a .x) h)
 
 pub put-byte-spec : {M : Type 1} → statement M
-put-byte-spec = tie.close (tie.spec slice-write-target add-result same-length returns)
+put-byte-spec = tie.close (tie.spec (λ c. search needs) (λ c. search needs) (λ c. search needs) returns)

@@ -7,26 +7,8 @@ use borrow.Author.Needs.{needs}
 use Rattle.fields.proofs.put_short.Statement.{statement}
 use Rattle.fields.proofs.put_short.Tie as tie
 
-cast-target : tie.Need-cast-target
-cast-target c = search needs
-
-slice-write-target : tie.Need-slice-write-target
-slice-write-target c = search needs
-
-cast-target-2 : tie.Need-cast-target-2
-cast-target-2 c = search needs
-
-add-target : tie.Need-add-target
-add-target c = search needs
-
 slice-write-target-2 : tie.Need-slice-write-target-2
 slice-write-target-2 c = simp length-set (omega arith)
-
-add-result : tie.Need-add-result
-add-result c = search needs
-
-same-length : tie.Need-same-length
-same-length c = search needs
 
 returns : tie.Need-returns
 returns c =
@@ -37,11 +19,5 @@ pub put-short-spec : {M : Type 1} → statement M
 put-short-spec =
     tie.close
     (tie.spec
-    cast-target
-    slice-write-target
-    cast-target-2
-    add-target
-    slice-write-target-2
-    add-result
-    same-length
+    (λ c. search needs) (λ c. search needs) (λ c. search needs) (λ c. search needs) slice-write-target-2 (λ c. search needs) (λ c. search needs)
     returns)

@@ -16,9 +16,6 @@ Inv-loop bytes n t r₀ start k₀ r k = (k ≤ 1 + 2 * n) × (r ≡ fillOf (ent
 abbrev μ-loop : tie.MeasureT-loop
 μ-loop bytes n t r₀ start k₀ r k = 1 + 2 * n - k
 
-version-requires : tie.Need-version-requires Inv-loop μ-loop
-version-requires c κs = search needs
-
 -- the arguments, from the version and from the row's start, and this start
 abbrev A : tie.After-version Inv-loop μ-loop → tie.Start Inv-loop μ-loop
 A c = c .before .before
@@ -44,32 +41,11 @@ loop-holds : tie.Need-loop-holds Inv-loop μ-loop
 unfolding fillOf
 loop-holds c = (omega arith, refl)
 
-mul-loop : tie.Need-mul-loop Inv-loop μ-loop
-mul-loop c = search needs
-
-add-loop : tie.Need-add-loop Inv-loop μ-loop
-add-loop c = search needs
-
-mul-number : tie.Need-mul-number Inv-loop μ-loop
-mul-number c = search needs
-
 add-number : tie.Need-add-number Inv-loop μ-loop
 add-number c = let s = c .before .before in omega (arith, start s, Args s .pre .0 .row)
 
 number-requires : tie.Need-number-requires Inv-loop μ-loop
 number-requires c κs = let s = c .before .before in (omega arith, omega (arith, start s, Args s .pre .0 .row))
-
-mul-r : tie.Need-mul-r Inv-loop μ-loop
-mul-r c = search needs
-
-element-write-r : tie.Need-element-write-r Inv-loop μ-loop
-element-write-r c = search needs
-
-add-k : tie.Need-add-k Inv-loop μ-loop
-add-k c = search needs
-
-loop-less : tie.Need-loop-less Inv-loop μ-loop
-loop-less c = search needs
 
 loop-again : tie.Need-loop-again Inv-loop μ-loop
 loop-again c =
@@ -94,19 +70,5 @@ pub read-row-spec : {M : Type 1} → statement M
 read-row-spec =
     tie.close
     (tie.spec
-    Inv-loop
-    μ-loop
-    version-requires
-    row-start-requires
-    loop-holds
-    mul-loop
-    add-loop
-    mul-number
-    add-number
-    number-requires
-    mul-r
-    element-write-r
-    add-k
-    loop-less
-    loop-again
-    returns)
+    Inv-loop μ-loop (λ c κs. search needs) row-start-requires loop-holds (λ c. search needs) (λ c. search needs) (λ c. search needs) add-number
+    number-requires (λ c. search needs) (λ c. search needs) (λ c. search needs) (λ c. search needs) loop-again returns)

@@ -18,12 +18,6 @@ size c = c .seconds-size .ensures ∙ ap secondsSize (c .before .version .ensure
 few : (c : tie.After-seconds-size) → c .seconds-size .result ≤ shortSize
 few c = omega (arith, size c, seconds-most (versionOf (A c .args .bytes .now)))
 
-version-requires : tie.Need-version-requires
-version-requires c κs = search needs
-
-seconds-size-requires : tie.Need-seconds-size-requires
-seconds-size-requires c κs = search needs
-
 number-requires : tie.Need-number-requires
 number-requires c κs = (omega (arith, few c), omega (arith, size c, A c .pre))
 
@@ -35,4 +29,4 @@ returns c = let e = c .before in c .number .ensures .0 ∙ ap (numberOf (A e .ar
 
 pub seconds-spec : {M : Type 1} → statement M
 seconds-spec =
-    tie.close (tie.spec version-requires seconds-size-requires number-requires cast-result returns)
+    tie.close (tie.spec (λ c κs. search needs) (λ c κs. search needs) number-requires cast-result returns)

@@ -65,18 +65,6 @@ held c =
     let r = to-read p in
     readable (A r .args .bytes .now) (A r .args .table .now) _ (r .read .ensures) (read-well p) (sym (number-of (t .refused .ensures)) ∙ opens c)
 
-read-requires : tie.Need-read-requires
-read-requires c κs = search needs
-
-number-requires : tie.Need-number-requires
-number-requires c κs = search needs
-
-without-state-requires : tie.Need-without-state-requires
-without-state-requires c κs = search needs
-
-same-length : tie.Need-same-length
-same-length c = search needs
-
 returns : tie.Need-returns
 returns c =
     let t = c .before in
@@ -84,15 +72,6 @@ returns c =
     let a = A r .args in
     promise-refused (a .laws) (a .bytes .now) (a .table .now) (a .out .now) (r .read .ensures) (λ z. t .if1 .taken (t .before .number .ensures ∙ z))
     (ap endAnswer (c .without-state .ensures))
-
-law-fault-requires : tie.Need-law-fault-requires
-law-fault-requires c κs = search needs
-
-without-state-requires-2 : tie.Need-without-state-requires-2
-without-state-requires-2 c κs = search needs
-
-same-length-2 : tie.Need-same-length-2
-same-length-2 c = search needs
 
 returns-2 : tie.Need-returns-2
 returns-2 c =
@@ -104,15 +83,6 @@ returns-2 c =
 
 refused-requires : tie.Need-refused-requires
 refused-requires c κs = cells (to-passed (c .before .before))
-
-number-requires-2 : tie.Need-number-requires-2
-number-requires-2 c κs = search needs
-
-without-state-requires-3 : tie.Need-without-state-requires-3
-without-state-requires-3 c κs = search needs
-
-same-length-3 : tie.Need-same-length-3
-same-length-3 c = search needs
 
 returns-3 : tie.Need-returns-3
 returns-3 c =
@@ -130,12 +100,6 @@ add-if4 c = omega (arith, held c .ok .road .cells)
 mul-if4 : tie.Need-mul-if4
 mul-if4 c = omega (arith, held c .outflows)
 
-without-state-requires-4 : tie.Need-without-state-requires-4
-without-state-requires-4 c κs = search needs
-
-same-length-4 : tie.Need-same-length-4
-same-length-4 c = search needs
-
 returns-4 : tie.Need-returns-4
 returns-4 c =
     let k = c .before .before in
@@ -148,15 +112,6 @@ returns-4 c =
 
 fill-rows-requires : tie.Need-fill-rows-requires
 fill-rows-requires c κs = record { readable = held (c .before .before .before); rows = λ k. refl; long = omega arith }
-
-complete-requires : tie.Need-complete-requires
-complete-requires c κs = search needs
-
-same-length-5 : tie.Need-same-length-5
-same-length-5 c = search needs
-
-same-length-6 : tie.Need-same-length-6
-same-length-6 c = search needs
 
 returns-5 : tie.Need-returns-5
 returns-5 c =
@@ -174,27 +129,7 @@ pub fill-spec : {M : Type 1} → statement M
 fill-spec =
     tie.close
     (tie.spec
-    read-requires
-    number-requires
-    without-state-requires
-    same-length
-    returns
-    law-fault-requires
-    without-state-requires-2
-    same-length-2
-    returns-2
-    refused-requires
-    number-requires-2
-    without-state-requires-3
-    same-length-3
-    returns-3
-    add-if4
-    mul-if4
-    without-state-requires-4
-    same-length-4
-    returns-4
-    fill-rows-requires
-    complete-requires
-    same-length-5
-    same-length-6
-    returns-5)
+    (λ c κs. search needs) (λ c κs. search needs) (λ c κs. search needs) (λ c. search needs) returns (λ c κs. search needs)
+    (λ c κs. search needs) (λ c. search needs) returns-2 refused-requires (λ c κs. search needs) (λ c κs. search needs) (λ c. search needs)
+    returns-3 add-if4 mul-if4 (λ c κs. search needs) (λ c. search needs) returns-4 fill-rows-requires (λ c κs. search needs) (λ c. search needs)
+    (λ c. search needs) returns-5)

@@ -58,32 +58,14 @@ given c =
       puts = c .put-releases .ensures;
     }
 
-mul-numbers : tie.Need-mul-numbers
-mul-numbers c = search needs
-
-add-numbers : tie.Need-add-numbers
-add-numbers c = search needs
-
-row-requires : tie.Need-row-requires
-row-requires c κs = search needs
-
-array-share-prefix-row : tie.Need-array-share-prefix-row
-array-share-prefix-row c = search needs
-
 slice-aggregate-releases : tie.Need-slice-aggregate-releases
 slice-aggregate-releases c = sym (numbers (c .before))
 
 releases-requires : tie.Need-releases-requires
 releases-requires c κs = (cells (A (c .before)), numbers (c .before))
 
-put-releases-requires : tie.Need-put-releases-requires
-put-releases-requires c κs = search needs
-
 row-requires-2 : tie.Need-row-requires-2
 row-requires-2 c κs = given-held (given (when-put (c .before)))
-
-array-share-prefix-filled : tie.Need-array-share-prefix-filled
-array-share-prefix-filled c = search needs
 
 slice-aggregate-next : tie.Need-slice-aggregate-next
 slice-aggregate-next c = sym (again (c .before))
@@ -92,12 +74,6 @@ next-requires : tie.Need-next-requires
 next-requires c κs =
     let d = c .before .before in
     (given-steps (given (to-put d)) (d .row3 .ensures) (Args d .pre .step), Args d .pre .places)
-
-same-length : tie.Need-same-length
-same-length c = search needs
-
-same-length-2 : tie.Need-same-length-2
-same-length-2 c = search needs
 
 returns : tie.Need-returns
 returns c =
@@ -110,17 +86,5 @@ pub fill-row-spec : {M : Type 1} → statement M
 fill-row-spec =
     tie.close
     (tie.spec
-    mul-numbers
-    add-numbers
-    row-requires
-    array-share-prefix-row
-    slice-aggregate-releases
-    releases-requires
-    put-releases-requires
-    row-requires-2
-    array-share-prefix-filled
-    slice-aggregate-next
-    next-requires
-    same-length
-    same-length-2
-    returns)
+    (λ c. search needs) (λ c. search needs) (λ c κs. search needs) (λ c. search needs) slice-aggregate-releases releases-requires
+    (λ c κs. search needs) row-requires-2 (λ c. search needs) slice-aggregate-next next-requires (λ c. search needs) (λ c. search needs) returns)

@@ -73,12 +73,6 @@ part c = row-fits (A (c .before) .pre) (inv (c .before)) (c .loop-test .taken)
 small : (c : tie.In-loop Inv-loop μ-loop) → c .before .loop .to + places (Of (A (c .before))) ≤ mostOutflows
 small c = let s = A (c .before) in row-ends-by (s .pre) (inv (c .before)) mostOutflows (s .pre .readable .outflows) (c .loop-test .taken)
 
-add-places : tie.Need-add-places Inv-loop μ-loop
-add-places c = search needs
-
-unmetered-requires : tie.Need-unmetered-requires Inv-loop μ-loop
-unmetered-requires c κs = search needs
-
 loop-holds : tie.Need-loop-holds Inv-loop μ-loop
 loop-holds c =
     let e = ap (λ (x : Metered). x .state) (c .unmetered .ensures) in
@@ -102,12 +96,6 @@ add-end c = omega (arith, small (c .before))
 mul-fill-row : tie.Need-mul-fill-row Inv-loop μ-loop
 mul-fill-row c = omega (arith, small (c .before .before))
 
-sub-fill-row : tie.Need-sub-fill-row Inv-loop μ-loop
-sub-fill-row c = search needs
-
-part-fill-row-start : tie.Need-part-fill-row-start Inv-loop μ-loop
-part-fill-row-start c = search needs
-
 part-fill-row-end : tie.Need-part-fill-row-end Inv-loop μ-loop
 part-fill-row-end c = part (c .before .before)
 
@@ -118,12 +106,6 @@ fill-row-requires c κs =
     let s = A (t .before) in
     let l = t .before .loop in
     fills (s .pre) (inv (t .before)) (t .loop-test .taken) (turned-road (turned j)) (part-length (l .out) (l .to) (places (Of s)) (part t))
-
-add-k : tie.Need-add-k Inv-loop μ-loop
-add-k c = search needs
-
-loop-less : tie.Need-loop-less Inv-loop μ-loop
-loop-less c = search needs
 
 loop-again : tie.Need-loop-again Inv-loop μ-loop
 loop-again c =
@@ -153,21 +135,5 @@ pub fill-rows-spec : {M : Type 1} → statement M
 fill-rows-spec =
     tie.close
     (tie.spec
-    Inv-loop
-    μ-loop
-    add-places
-    unmetered-requires
-    loop-holds
-    step-capacities-requires
-    add-end
-    mul-fill-row
-    sub-fill-row
-    part-fill-row-start
-    part-fill-row-end
-    fill-row-requires
-    add-k
-    loop-less
-    loop-again
-    same-length
-    same-length-2
-    returns)
+    Inv-loop μ-loop (λ c. search needs) (λ c κs. search needs) loop-holds step-capacities-requires add-end mul-fill-row (λ c. search needs)
+    (λ c. search needs) part-fill-row-end fill-row-requires (λ c. search needs) (λ c. search needs) loop-again same-length same-length-2 returns)

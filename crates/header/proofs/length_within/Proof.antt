@@ -24,26 +24,11 @@ header c = c .header-size .ensures ∙ ap (λ (v : ℕ). headerSize v) (c .befor
 returns : tie.Need-returns
 returns c = length-short (A c .args .bytes .now) (omega arith)
 
-version-requires : tie.Need-version-requires
-version-requires c κs = search needs
-
-header-size-requires : tie.Need-header-size-requires
-header-size-requires c κs = search needs
-
 returns-2 : tie.Need-returns-2
 returns-2 c = let h = c .before in length-short (B h .args .bytes .now) (omega (arith, header h))
 
 returns-3 : tie.Need-returns-3
 returns-3 c = let h = Size (c .before) in length-long (B h .args .bytes .now) (omega (arith, header h)) (omega arith)
-
-number-requires : tie.Need-number-requires
-number-requires c κs = search needs
-
-cast-result : tie.Need-cast-result
-cast-result c = search needs
-
-sub-result : tie.Need-sub-result
-sub-result c = search needs
 
 returns-4 : tie.Need-returns-4
 returns-4 c =
@@ -54,12 +39,5 @@ pub length-within-spec : {M : Type 1} → statement M
 length-within-spec =
     tie.close
     (tie.spec
-    returns
-    version-requires
-    header-size-requires
-    returns-2
-    returns-3
-    number-requires
-    cast-result
-    sub-result
+    returns (λ c κs. search needs) (λ c κs. search needs) returns-2 returns-3 (λ c κs. search needs) (λ c. search needs) (λ c. search needs)
     returns-4)

@@ -44,9 +44,6 @@ found c =
     let a = A l in
     cell-found (a .args .table .now) (a .args .n) (l .loop .k) (a .args .i) (l .loop .at) (a .pre .1) (l .loop .inv .0) (c .lanes-ok .ensures)
 
-shared-slice-read-built : tie.Need-shared-slice-read-built Inv-loop μ-loop
-shared-slice-read-built c = search needs
-
 loop-holds : tie.Need-loop-holds Inv-loop μ-loop
 loop-holds c = (omega arith, passed-none)
 
@@ -56,19 +53,10 @@ add-at c = omega (arith, within c)
 shared-slice-read-lanes-ok : tie.Need-shared-slice-read-lanes-ok Inv-loop μ-loop
 shared-slice-read-lanes-ok c = omega (arith, within (c .before))
 
-lanes-ok-requires : tie.Need-lanes-ok-requires Inv-loop μ-loop
-lanes-ok-requires c κs = search needs
-
 returns : tie.Need-returns Inv-loop μ-loop
 returns c =
     let t = c .before in
     passed-fails (to-loop t .loop .inv .1) (t .before .before .loop-test .taken) (found t) (not-true _ (c .if1 .taken))
-
-add-k : tie.Need-add-k Inv-loop μ-loop
-add-k c = search needs
-
-loop-less : tie.Need-loop-less Inv-loop μ-loop
-loop-less c = search needs
 
 loop-again : tie.Need-loop-again Inv-loop μ-loop
 loop-again c =
@@ -85,15 +73,5 @@ pub cell-in-table-spec : {M : Type 1} → statement M
 cell-in-table-spec =
     tie.close
     (tie.spec
-    Inv-loop
-    μ-loop
-    shared-slice-read-built
-    loop-holds
-    add-at
-    shared-slice-read-lanes-ok
-    lanes-ok-requires
-    returns
-    add-k
-    loop-less
-    loop-again
-    returns-2)
+    Inv-loop μ-loop (λ c. search needs) loop-holds add-at shared-slice-read-lanes-ok (λ c κs. search needs) returns (λ c. search needs)
+    (λ c. search needs) loop-again returns-2)

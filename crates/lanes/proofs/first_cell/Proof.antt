@@ -16,23 +16,8 @@ abbrev μ-loop : tie.MeasureT-loop
 loop-holds : tie.Need-loop-holds Inv-loop μ-loop
 loop-holds c = passed-none
 
-array-read-lanes-ok : tie.Need-array-read-lanes-ok Inv-loop μ-loop
-array-read-lanes-ok c = search needs
-
-array-read-lanes-ok-2 : tie.Need-array-read-lanes-ok-2 Inv-loop μ-loop
-array-read-lanes-ok-2 c = search needs
-
-lanes-ok-requires : tie.Need-lanes-ok-requires Inv-loop μ-loop
-lanes-ok-requires c κs = search needs
-
 returns : tie.Need-returns Inv-loop μ-loop
 returns c = let t = c .before in passed-stop (t .before .before .loop .inv) (t .before .loop-test .taken) (t .lanes-ok .ensures) (not-true _ (c .if1 .taken))
-
-add-i : tie.Need-add-i Inv-loop μ-loop
-add-i c = search needs
-
-loop-less : tie.Need-loop-less Inv-loop μ-loop
-loop-less c = search needs
 
 loop-again : tie.Need-loop-again Inv-loop μ-loop
 loop-again c = let t = c .before in passed-more (t .before .before .loop .inv) (t .before .loop-test .taken) (t .lanes-ok .ensures) (not-false _ (c .if1 .left))
@@ -44,14 +29,5 @@ pub first-cell-spec : {M : Type 1} → statement M
 first-cell-spec =
     tie.close
     (tie.spec
-    Inv-loop
-    μ-loop
-    loop-holds
-    array-read-lanes-ok
-    array-read-lanes-ok-2
-    lanes-ok-requires
-    returns
-    add-i
-    loop-less
-    loop-again
-    returns-2)
+    Inv-loop μ-loop loop-holds (λ c. search needs) (λ c. search needs) (λ c κs. search needs) returns (λ c. search needs) (λ c. search needs)
+    loop-again returns-2)

@@ -16,17 +16,8 @@ abbrev μ-loop : tie.MeasureT-loop
 loop-holds : tie.Need-loop-holds Inv-loop μ-loop
 loop-holds c = passed-none
 
-cell-in-table-requires : tie.Need-cell-in-table-requires Inv-loop μ-loop
-cell-in-table-requires c κs = search needs
-
 returns : tie.Need-returns Inv-loop μ-loop
 returns c = let t = c .before in passed-stop (t .before .before .loop .inv) (t .before .loop-test .taken) (t .cell-in-table .ensures) (not-true _ (c .if1 .taken))
-
-add-i : tie.Need-add-i Inv-loop μ-loop
-add-i c = search needs
-
-loop-less : tie.Need-loop-less Inv-loop μ-loop
-loop-less c = search needs
 
 loop-again : tie.Need-loop-again Inv-loop μ-loop
 loop-again c = let t = c .before in passed-more (t .before .before .loop .inv) (t .before .loop-test .taken) (t .cell-in-table .ensures) (not-false _ (c .if1 .left))
@@ -38,12 +29,4 @@ pub first-in-table-spec : {M : Type 1} → statement M
 first-in-table-spec =
     tie.close
     (tie.spec
-    Inv-loop
-    μ-loop
-    loop-holds
-    cell-in-table-requires
-    returns
-    add-i
-    loop-less
-    loop-again
-    returns-2)
+    Inv-loop μ-loop loop-holds (λ c κs. search needs) returns (λ c. search needs) (λ c. search needs) loop-again returns-2)

@@ -7,29 +7,14 @@ use borrow.Author.Needs.{needs}
 use Rattle.lanes.proofs.open_capacity.Statement.{statement}
 use Rattle.lanes.proofs.open_capacity.Tie as tie
 
-count-requires : tie.Need-count-requires
-count-requires c κs = search needs
-
 returns : tie.Need-returns
 returns c = open-empty (c .before .before .args .capacity) _ _ (sym (c .before .count .ensures .0) ∙ omega arith)
-
-count-requires-2 : tie.Need-count-requires-2
-count-requires-2 c κs = search needs
 
 mul-left : tie.Need-mul-left
 mul-left c = omega (arith, mul-le-mul-left (c .before .before .before .args .capacity) (c .count2 .ensures .1))
 
-div-left : tie.Need-div-left
-div-left c = search needs
-
-cast-if2 : tie.Need-cast-if2
-cast-if2 c = search needs
-
 returns-2 : tie.Need-returns-2
 returns-2 c = open-most _ _ _ (c .before .before .before .count .ensures .0) (c .before .count2 .ensures .0) (omega arith)
-
-cast-result : tie.Need-cast-result
-cast-result c = search needs
 
 returns-3 : tie.Need-returns-3
 returns-3 c = open-fits _ _ _ (c .before .before .before .count .ensures .0) (c .before .count2 .ensures .0) (omega arith)
@@ -38,12 +23,5 @@ pub open-capacity-spec : {M : Type 1} → statement M
 open-capacity-spec =
     tie.close
     (tie.spec
-    count-requires
-    returns
-    count-requires-2
-    mul-left
-    div-left
-    cast-if2
-    returns-2
-    cast-result
+    (λ c κs. search needs) returns (λ c κs. search needs) mul-left (λ c. search needs) (λ c. search needs) returns-2 (λ c. search needs)
     returns-3)

@@ -13,26 +13,8 @@ use Rattle.lanes.proofs.step_capacities.Tie as tie
 abbrev A : tie.After-open-capacities-arg2 → tie.Start
 A c = c .before .before .before
 
-add-from : tie.Need-add-from
-add-from c = search needs
-
-mul-from : tie.Need-mul-from
-mul-from c = search needs
-
-add-end : tie.Need-add-end
-add-end c = search needs
-
 slice-aggregate-open-capacities : tie.Need-slice-aggregate-open-capacities
 slice-aggregate-open-capacities c = sym (length-take-le _ _ (search needs))
-
-sub-open-capacities : tie.Need-sub-open-capacities
-sub-open-capacities c = search needs
-
-part-open-capacities-start : tie.Need-part-open-capacities-start
-part-open-capacities-start c = search needs
-
-part-open-capacities-end : tie.Need-part-open-capacities-end
-part-open-capacities-end c = search needs
 
 open-capacities-requires : tie.Need-open-capacities-requires
 open-capacities-requires c κs =
@@ -48,12 +30,5 @@ pub step-capacities-spec : {M : Type 1} → statement M
 step-capacities-spec =
     tie.close
     (tie.spec
-    add-from
-    mul-from
-    add-end
-    slice-aggregate-open-capacities
-    sub-open-capacities
-    part-open-capacities-start
-    part-open-capacities-end
-    open-capacities-requires
-    returns)
+    (λ c. search needs) (λ c. search needs) (λ c. search needs) slice-aggregate-open-capacities (λ c. search needs) (λ c. search needs)
+    (λ c. search needs) open-capacities-requires returns)

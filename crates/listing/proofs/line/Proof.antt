@@ -23,9 +23,6 @@ Held c = c .before .before .before
 abbrev Queue : tie.After-slice-known6 → tie.After-word5
 Queue c = c .before .before
 
-word-requires : tie.Need-word-requires
-word-requires c κs = search needs
-
 word-requires-2 : tie.Need-word-requires-2
 word-requires-2 c κs = let z = word-room (Word.put (Step c .word .ensures)) in omega (arith, z .end, z .same)
 
@@ -50,9 +47,6 @@ word-requires-5 c κs =
     let four = room-more three (word-room (Word.put (Held c .word4 .ensures))) in
     omega (arith, four .end, four .same)
 
-same-length : tie.Need-same-length
-same-length c = search needs
-
 returns : tie.Need-returns
 returns c =
     let held = Held (Queue c .before) in
@@ -70,10 +64,4 @@ pub line-spec : {M : Type 1} → statement M
 line-spec =
     tie.close
     (tie.spec
-    word-requires
-    word-requires-2
-    word-requires-3
-    word-requires-4
-    word-requires-5
-    same-length
-    returns)
+    (λ c κs. search needs) word-requires-2 word-requires-3 word-requires-4 word-requires-5 (λ c. search needs) returns)

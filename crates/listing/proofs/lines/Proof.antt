@@ -22,38 +22,8 @@ Turn c = c .before .before .before .before
 abbrev Cell : tie.After-slice-known3 Inv-loop μ-loop → tie.After-line2 Inv-loop μ-loop
 Cell c = c .before .before
 
-shared-slice-read-line : tie.Need-shared-slice-read-line Inv-loop μ-loop
-shared-slice-read-line c = search needs
-
-line-requires : tie.Need-line-requires Inv-loop μ-loop
-line-requires c κs = search needs
-
 loop-holds : tie.Need-loop-holds Inv-loop μ-loop
 loop-holds c = listed-none
-
-add-line : tie.Need-add-line Inv-loop μ-loop
-add-line c = search needs
-
-add-line-2 : tie.Need-add-line-2 Inv-loop μ-loop
-add-line-2 c = search needs
-
-mul-line : tie.Need-mul-line Inv-loop μ-loop
-mul-line c = search needs
-
-shared-slice-read-line-2 : tie.Need-shared-slice-read-line-2 Inv-loop μ-loop
-shared-slice-read-line-2 c = search needs
-
-mul-line-2 : tie.Need-mul-line-2 Inv-loop μ-loop
-mul-line-2 c = search needs
-
-element-copy-out-line : tie.Need-element-copy-out-line Inv-loop μ-loop
-element-copy-out-line c = search needs
-
-mul-line-3 : tie.Need-mul-line-3 Inv-loop μ-loop
-mul-line-3 c = search needs
-
-element-copy-out-line-2 : tie.Need-element-copy-out-line-2 Inv-loop μ-loop
-element-copy-out-line-2 c = search needs
 
 line-requires-2 : tie.Need-line-requires-2 Inv-loop μ-loop
 line-requires-2 c κs =
@@ -61,17 +31,8 @@ line-requires-2 c κs =
     let z = listed-room (l .loop .inv) _ _ (Gate l .line .ensures) in
     omega (arith, z .end, z .same)
 
-add-i : tie.Need-add-i Inv-loop μ-loop
-add-i c = search needs
-
-loop-less : tie.Need-loop-less Inv-loop μ-loop
-loop-less c = search needs
-
 loop-again : tie.Need-loop-again Inv-loop μ-loop
 loop-again c = let t = Turn (Cell c .before) in listed-more (t .before .loop .inv) (t .loop-test .taken) (Cell c .line2 .ensures)
-
-same-length : tie.Need-same-length Inv-loop μ-loop
-same-length c = search needs
 
 returns : tie.Need-returns Inv-loop μ-loop
 returns c = listed-end (c .before .loop .inv) _ _ (Gate (c .before) .line .ensures) (search needs)
@@ -80,22 +41,6 @@ pub lines-spec : {M : Type 1} → statement M
 lines-spec =
     tie.close
     (tie.spec
-    Inv-loop
-    μ-loop
-    shared-slice-read-line
-    line-requires
-    loop-holds
-    add-line
-    add-line-2
-    mul-line
-    shared-slice-read-line-2
-    mul-line-2
-    element-copy-out-line
-    mul-line-3
-    element-copy-out-line-2
-    line-requires-2
-    add-i
-    loop-less
-    loop-again
-    same-length
-    returns)
+    Inv-loop μ-loop (λ c. search needs) (λ c κs. search needs) loop-holds (λ c. search needs) (λ c. search needs) (λ c. search needs)
+    (λ c. search needs) (λ c. search needs) (λ c. search needs) (λ c. search needs) (λ c. search needs) line-requires-2 (λ c. search needs)
+    (λ c. search needs) loop-again (λ c. search needs) returns)

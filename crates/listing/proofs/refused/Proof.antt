@@ -20,15 +20,6 @@ Step c = c .before .before .before
 abbrev Place : tie.After-slice-known5 → tie.After-word3
 Place c = c .before .before
 
-slice-aggregate-put : tie.Need-slice-aggregate-put
-slice-aggregate-put c = search needs
-
-put-requires : tie.Need-put-requires
-put-requires c κs = search needs
-
-word-requires : tie.Need-word-requires
-word-requires c κs = search needs
-
 word-requires-2 : tie.Need-word-requires-2
 word-requires-2 c κs =
     let two = named-room (Text.put (Name (Number c .before) .put .ensures)) (Word.put (Number c .word .ensures)) in
@@ -40,9 +31,6 @@ word-requires-3 c κs =
     let two = named-room (Text.put (Name (number .before) .put .ensures)) (Word.put (number .word .ensures)) in
     let three = room-more two (word-room (Word.put (Step c .word2 .ensures))) in
     omega (arith, three .end, three .same)
-
-same-length : tie.Need-same-length
-same-length c = search needs
 
 returns : tie.Need-returns
 returns c =
@@ -59,10 +47,4 @@ pub refused-spec : {M : Type 1} → statement M
 refused-spec =
     tie.close
     (tie.spec
-    slice-aggregate-put
-    put-requires
-    word-requires
-    word-requires-2
-    word-requires-3
-    same-length
-    returns)
+    (λ c. search needs) (λ c κs. search needs) (λ c κs. search needs) word-requires-2 word-requires-3 (λ c. search needs) returns)

@@ -18,12 +18,6 @@ returns c =
     let a = Refused c .args in
     (sym (refused-answer (a .seed) (a .peak) (c .if1 .taken) _), sym (refused-list (a .seed) (a .peak) (c .if1 .taken) (a .list .now)))
 
-fill-requires : tie.Need-fill-requires
-fill-requires c κs = search needs
-
-same-length : tie.Need-same-length
-same-length c = search needs
-
 returns-2 : tie.Need-returns-2
 returns-2 c =
     let e = c .before .before .before .before in
@@ -32,4 +26,4 @@ returns-2 c =
     (ap (loaded 0) (filled .0) ∙ sym (loaded-answer (a .seed) (a .peak) (e .if1 .left) _), filled .1 ∙ sym (loaded-list (a .seed) (a .peak) (e .if1 .left) (a .list .now)))
 
 pub load-spec : {M : Type 1} → statement M
-load-spec = tie.close (tie.spec returns fill-requires same-length returns-2)
+load-spec = tie.close (tie.spec returns (λ c κs. search needs) (λ c. search needs) returns-2)

@@ -44,35 +44,11 @@ returns c =
     let marks : length (A l .args .t2) ≡ mostCells = search needs in
     passed-past (l .loop .inv) (omega (arith, marks, c .if1 .taken))
 
-mul-law : tie.Need-mul-law Inv-loop μ-loop
-mul-law c = search needs
-
-array-copy-out-law : tie.Need-array-copy-out-law Inv-loop μ-loop
-array-copy-out-law c = search needs
-
-mul-if2 : tie.Need-mul-if2 Inv-loop μ-loop
-mul-if2 c = search needs
-
-array-read-if2 : tie.Need-array-read-if2 Inv-loop μ-loop
-array-read-if2 c = search needs
-
-law-finite-requires : tie.Need-law-finite-requires Inv-loop μ-loop
-law-finite-requires c κs = search needs
-
-add-result : tie.Need-add-result Inv-loop μ-loop
-add-result c = search needs
-
 returns-2 : tie.Need-returns-2 Inv-loop μ-loop
 returns-2 c =
     let cell = c .before in
     let t = Turn cell in
     passed-stop (t .before .loop .inv) (t .loop-test .taken) (found cell ∙ not-true (Passes cell) (c .if2 .taken))
-
-add-i : tie.Need-add-i Inv-loop μ-loop
-add-i c = search needs
-
-loop-less : tie.Need-loop-less Inv-loop μ-loop
-loop-less c = search needs
 
 loop-again : tie.Need-loop-again Inv-loop μ-loop
 loop-again c =
@@ -87,18 +63,5 @@ pub law-fault-spec : {M : Type 1} → statement M
 law-fault-spec =
     tie.close
     (tie.spec
-    Inv-loop
-    μ-loop
-    loop-holds
-    returns
-    mul-law
-    array-copy-out-law
-    mul-if2
-    array-read-if2
-    law-finite-requires
-    add-result
-    returns-2
-    add-i
-    loop-less
-    loop-again
-    returns-3)
+    Inv-loop μ-loop loop-holds returns (λ c. search needs) (λ c. search needs) (λ c. search needs) (λ c. search needs) (λ c κs. search needs)
+    (λ c. search needs) returns-2 (λ c. search needs) (λ c. search needs) loop-again returns-3)

@@ -15,33 +15,6 @@ Alinea c = c .before .before .before
 abbrev DemandCapacity : tie.After-is-finite6 → tie.After-law3
 DemandCapacity c = c .before .before .before .before
 
-enum-known-law : tie.Need-enum-known-law
-enum-known-law c = search needs
-
-is-finite-requires : tie.Need-is-finite-requires
-is-finite-requires c κs = search needs
-
-enum-known-law-2 : tie.Need-enum-known-law-2
-enum-known-law-2 c = search needs
-
-is-finite-requires-2 : tie.Need-is-finite-requires-2
-is-finite-requires-2 c κs = search needs
-
-is-finite-requires-3 : tie.Need-is-finite-requires-3
-is-finite-requires-3 c κs = search needs
-
-enum-known-law-3 : tie.Need-enum-known-law-3
-enum-known-law-3 c = search needs
-
-is-finite-requires-4 : tie.Need-is-finite-requires-4
-is-finite-requires-4 c κs = search needs
-
-is-finite-requires-5 : tie.Need-is-finite-requires-5
-is-finite-requires-5 c κs = search needs
-
-is-finite-requires-6 : tie.Need-is-finite-requires-6
-is-finite-requires-6 c κs = search needs
-
 returns : tie.Need-returns
 unfolding lawFinite
 returns c = rw (Fixed c .law .given .1) (c .is-finite .ensures)
@@ -61,15 +34,5 @@ pub law-finite-spec : {M : Type 1} → statement M
 law-finite-spec =
     tie.close
     (tie.spec
-    enum-known-law
-    is-finite-requires
-    enum-known-law-2
-    is-finite-requires-2
-    is-finite-requires-3
-    enum-known-law-3
-    is-finite-requires-4
-    is-finite-requires-5
-    is-finite-requires-6
-    returns
-    returns-2
-    returns-3)
+    (λ c. search needs) (λ c κs. search needs) (λ c. search needs) (λ c κs. search needs) (λ c κs. search needs) (λ c. search needs)
+    (λ c κs. search needs) (λ c κs. search needs) (λ c κs. search needs) returns returns-2 returns-3)

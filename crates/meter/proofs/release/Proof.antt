@@ -28,9 +28,6 @@ sub-middle c = omega arith
 sub-middle-2 : tie.Need-sub-middle-2 Inv-loop μ-loop
 sub-middle-2 c = omega arith
 
-int-to-float-if1 : tie.Need-int-to-float-if1 Inv-loop μ-loop
-int-to-float-if1 c = search needs
-
 loop-less : tie.Need-loop-less Inv-loop μ-loop
 loop-less c = omega arith
 
@@ -53,15 +50,4 @@ pub release-spec : {M : Type 1} → statement M
 release-spec =
     tie.close
     (tie.spec
-    Inv-loop
-    μ-loop
-    loop-holds
-    sub-middle
-    sub-middle-2
-    int-to-float-if1
-    loop-less
-    loop-again
-    sub-high
-    loop-less-2
-    loop-again-2
-    returns)
+    Inv-loop μ-loop loop-holds sub-middle sub-middle-2 (λ c. search needs) loop-less loop-again sub-high loop-less-2 loop-again-2 returns)

@@ -15,21 +15,6 @@ Alinea c = c .before .before
 abbrev DemandCapacity : tie.After-wish2 → tie.After-law3
 DemandCapacity c = c .before .before
 
-enum-known-law : tie.Need-enum-known-law
-enum-known-law c = search needs
-
-enum-known-law-2 : tie.Need-enum-known-law-2
-enum-known-law-2 c = search needs
-
-wish-requires : tie.Need-wish-requires
-wish-requires c κs = search needs
-
-enum-known-law-3 : tie.Need-enum-known-law-3
-enum-known-law-3 c = search needs
-
-wish-requires-2 : tie.Need-wish-requires-2
-wish-requires-2 c κs = search needs
-
 returns : tie.Need-returns
 unfolding wishOf
 returns c = rw (Fixed c .law .given .1) refl
@@ -46,11 +31,4 @@ pub wish-spec : {M : Type 1} → statement M
 wish-spec =
     tie.close
     (tie.spec
-    enum-known-law
-    enum-known-law-2
-    wish-requires
-    enum-known-law-3
-    wish-requires-2
-    returns
-    returns-2
-    returns-3)
+    (λ c. search needs) (λ c. search needs) (λ c κs. search needs) (λ c. search needs) (λ c κs. search needs) returns returns-2 returns-3)

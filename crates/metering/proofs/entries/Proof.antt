@@ -22,43 +22,10 @@ Turn c = c .before .before
 loop-holds : tie.Need-loop-holds Inv-loop μ-loop
 loop-holds c = let a = c .before .args in entered-none (a .t1) (a .t2) (a .y .now) (a .last)
 
-mul-entering : tie.Need-mul-entering Inv-loop μ-loop
-mul-entering c = search needs
-
-shared-slice-read-entering : tie.Need-shared-slice-read-entering Inv-loop μ-loop
-shared-slice-read-entering c = search needs
-
-entering-requires : tie.Need-entering-requires Inv-loop μ-loop
-entering-requires c κs = search needs
-
 cast-e : tie.Need-cast-e Inv-loop μ-loop
 cast-e c =
     let l = Turn c .before in
     omega (arith, entered-at (l .loop .inv) (c .entering .ensures), A l .pre .1 .1 (l .loop .i) (Turn c .loop-test .taken))
-
-mul-e : tie.Need-mul-e Inv-loop μ-loop
-mul-e c = search needs
-
-array-write-e : tie.Need-array-write-e Inv-loop μ-loop
-array-write-e c = search needs
-
-mul-share : tie.Need-mul-share Inv-loop μ-loop
-mul-share c = search needs
-
-element-copy-out-share : tie.Need-element-copy-out-share Inv-loop μ-loop
-element-copy-out-share c = search needs
-
-mul-cumulative : tie.Need-mul-cumulative Inv-loop μ-loop
-mul-cumulative c = search needs
-
-element-copy-out-cumulative : tie.Need-element-copy-out-cumulative Inv-loop μ-loop
-element-copy-out-cumulative c = search needs
-
-add-i : tie.Need-add-i Inv-loop μ-loop
-add-i c = search needs
-
-loop-less : tie.Need-loop-less Inv-loop μ-loop
-loop-less c = search needs
 
 loop-again : tie.Need-loop-again Inv-loop μ-loop
 loop-again c =
@@ -72,20 +39,5 @@ pub entries-spec : {M : Type 1} → statement M
 entries-spec =
     tie.close
     (tie.spec
-    Inv-loop
-    μ-loop
-    loop-holds
-    mul-entering
-    shared-slice-read-entering
-    entering-requires
-    cast-e
-    mul-e
-    array-write-e
-    mul-share
-    element-copy-out-share
-    mul-cumulative
-    element-copy-out-cumulative
-    add-i
-    loop-less
-    loop-again
-    returns)
+    Inv-loop μ-loop loop-holds (λ c. search needs) (λ c. search needs) (λ c κs. search needs) cast-e (λ c. search needs) (λ c. search needs)
+    (λ c. search needs) (λ c. search needs) (λ c. search needs) (λ c. search needs) (λ c. search needs) (λ c. search needs) loop-again returns)

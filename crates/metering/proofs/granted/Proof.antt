@@ -11,16 +11,10 @@ use Rattle.metering.proofs.granted.Tie as tie
 returns : tie.Need-returns
 returns c = no-ramp _ _ _ (omega arith)
 
-wish-requires : tie.Need-wish-requires
-wish-requires c κs = search needs
-
-release-requires : tie.Need-release-requires
-release-requires c κs = search needs
-
 returns-2 : tie.Need-returns-2
 returns-2 c =
     let a = c .before .before .before .args in
     c .release .ensures ∙ ap (λ (w : Float). wholeBelow w (a .cap)) (c .before .wish .ensures) ∙ with-ramp _ _ _ (λ z. c .before .before .if1 .left z)
 
 pub granted-spec : {M : Type 1} → statement M
-granted-spec = tie.close (tie.spec returns wish-requires release-requires returns-2)
+granted-spec = tie.close (tie.spec returns (λ c κs. search needs) (λ c κs. search needs) returns-2)

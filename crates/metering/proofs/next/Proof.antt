@@ -14,17 +14,11 @@ Given c = c .before .before .before
 abbrev A : tie.After-next → tie.Start
 A c = Given c .before .before .before
 
-next-requires : tie.Need-next-requires
-next-requires c κs = search needs
-
 entries-requires : tie.Need-entries-requires
 entries-requires c κs =
     let n = Stepped c in
     let e = n .next .ensures .1 in
     (A n .pre .0 .input .road .cells, (next-places _ _ _ e, next-rates _ _ _ e (A n .pre .0)))
-
-same-length : tie.Need-same-length
-same-length c = search needs
 
 returns : tie.Need-returns
 returns c =
@@ -33,4 +27,4 @@ returns c =
     (next-is _ (a .m) _ _ (n .next .ensures .0) (n .next .ensures .1) (c .entries .ensures), n .next .ensures .1)
 
 pub next-spec : {M : Type 1} → statement M
-next-spec = tie.close (tie.spec next-requires entries-requires same-length returns)
+next-spec = tie.close (tie.spec (λ c κs. search needs) entries-requires (λ c. search needs) returns)

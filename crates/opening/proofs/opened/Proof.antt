@@ -21,12 +21,6 @@ to-passed c = c .before .before
 read-well : (c : tie.Else1) → refusalNumber (to-read c .read .result .refusal) ≡ 0
 read-well c = sym (c .before .number .ensures) ∙ c .if1 .left
 
-read-requires : tie.Need-read-requires
-read-requires c κs = search needs
-
-number-requires : tie.Need-number-requires
-number-requires c κs = search needs
-
 returns : tie.Need-returns
 returns c =
     let r = c .before .before in
@@ -38,12 +32,6 @@ refused-requires c κs =
     let r = to-read p in
     let w = read-within (A r .args .bytes .now) _ (r .read .ensures) (read-well p) in
     (w .road .cells, w .steps)
-
-number-requires-2 : tie.Need-number-requires-2
-number-requires-2 c κs = search needs
-
-refused-requires-2 : tie.Need-refused-requires-2
-refused-requires-2 c κs = search needs
 
 returns-2 : tie.Need-returns-2
 returns-2 c =
@@ -64,11 +52,4 @@ pub opened-spec : {M : Type 1} → statement M
 opened-spec =
     tie.close
     (tie.spec
-    read-requires
-    number-requires
-    returns
-    refused-requires
-    number-requires-2
-    refused-requires-2
-    returns-2
-    returns-3)
+    (λ c κs. search needs) (λ c κs. search needs) returns refused-requires (λ c κs. search needs) (λ c κs. search needs) returns-2 returns-3)

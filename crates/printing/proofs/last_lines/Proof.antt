@@ -17,27 +17,12 @@ Exits c = c .before .before
 abbrev A : tie.After-total → tie.Start
 A c = c .before .before
 
-total-requires : tie.Need-total-requires
-total-requires c κs = search needs
-
-exits-requires : tie.Need-exits-requires
-exits-requires c κs = search needs
-
-total-requires-2 : tie.Need-total-requires-2
-total-requires-2 c κs = search needs
-
-vehicle-seconds-requires : tie.Need-vehicle-seconds-requires
-vehicle-seconds-requires c κs = search needs
-
 seconds-requires : tie.Need-seconds-requires
 seconds-requires c κs =
     let l = Last (Second c .before) in
     let x = Exits l in
     let t = x .before in
     time-fits (A t .pre) (t .total .ensures) (x .exits .ensures) (l .total2 .ensures)
-
-same-length : tie.Need-same-length
-same-length c = search needs
 
 returns : tie.Need-returns
 returns c =
@@ -50,9 +35,6 @@ returns c =
     ends-timed (A t .pre) (t .total .ensures) (x .exits .ensures) (l .total2 .ensures) (s .if1 .taken) (v .vehicle-seconds .ensures)
     (q .seconds .ensures)
 
-same-length-2 : tie.Need-same-length-2
-same-length-2 c = search needs
-
 returns-2 : tie.Need-returns-2
 returns-2 c =
     let l = Last (c .before) in
@@ -64,12 +46,5 @@ pub last-lines-spec : {M : Type 1} → statement M
 last-lines-spec =
     tie.close
     (tie.spec
-    total-requires
-    exits-requires
-    total-requires-2
-    vehicle-seconds-requires
-    seconds-requires
-    same-length
-    returns
-    same-length-2
-    returns-2)
+    (λ c κs. search needs) (λ c κs. search needs) (λ c κs. search needs) (λ c κs. search needs) seconds-requires (λ c. search needs) returns
+    (λ c. search needs) returns-2)

@@ -26,18 +26,6 @@ held : (c : tie.Else1) →
     Readable bytes (studyBy bytes [] (x .road) (x .state) (x .steps))
 held c = readable-open (A (to-read c) .args .bytes .now) _ (to-read c .read .ensures) (read-well c)
 
-read-requires : tie.Need-read-requires
-read-requires c κs = search needs
-
-number-requires : tie.Need-number-requires
-number-requires c κs = search needs
-
-refused-requires : tie.Need-refused-requires
-refused-requires c κs = search needs
-
-same-length : tie.Need-same-length
-same-length c = search needs
-
 returns : tie.Need-returns
 returns c =
     let x = c .before .before in
@@ -51,9 +39,6 @@ run-lines-requires c κs =
     let e = c .before .before .before in
     record { readable = held e; enough = A (to-read e) .pre }
 
-same-length-2 : tie.Need-same-length-2
-same-length-2 c = search needs
-
 returns-2 : tie.Need-returns-2
 returns-2 c =
     let x = c .before .before in
@@ -64,11 +49,5 @@ pub printed-spec : {M : Type 1} → statement M
 printed-spec =
     tie.close
     (tie.spec
-    read-requires
-    number-requires
-    refused-requires
-    same-length
-    returns
-    run-lines-requires
-    same-length-2
+    (λ c κs. search needs) (λ c κs. search needs) (λ c κs. search needs) (λ c. search needs) returns run-lines-requires (λ c. search needs)
     returns-2)

@@ -113,18 +113,6 @@ found c =
 passes : (c : tie.Else1 Inv-loop μ-loop) → refusalNumber (c .before .before .releases .result .refusal) ≡ 0
 passes c = sym (c .before .number .ensures) ∙ c .if1 .left
 
-mul-numbers : tie.Need-mul-numbers Inv-loop μ-loop
-mul-numbers c = search needs
-
-add-numbers : tie.Need-add-numbers Inv-loop μ-loop
-add-numbers c = search needs
-
-add-places : tie.Need-add-places Inv-loop μ-loop
-add-places c = search needs
-
-header-requires : tie.Need-header-requires Inv-loop μ-loop
-header-requires c κs = search needs
-
 loop-holds : tie.Need-loop-holds Inv-loop μ-loop
 loop-holds c =
     let h = c .before .before in
@@ -151,14 +139,8 @@ releases-requires c κs =
     let asked = releasable (turn r) in
     (asked .0, (asked .1, In r .before .loop .inv .1 .1))
 
-number-requires : tie.Need-number-requires Inv-loop μ-loop
-number-requires c κs = search needs
-
 refused-requires : tie.Need-refused-requires Inv-loop μ-loop
 refused-requires c κs = line-fits (In (Read (c .before .before)) .before .loop .inv .0)
-
-same-length : tie.Need-same-length Inv-loop μ-loop
-same-length c = search needs
 
 returns : tie.Need-returns Inv-loop μ-loop
 returns c =
@@ -221,17 +203,11 @@ loop-again c =
     let put = m .step-lines .ensures q (f .before .releases .ensures .1 .0 q (l .loop .l) (l .loop .cumulative) (passes p)) in
     (lined-more (l .loop .inv .0) (turn r) (found f) (passes p) (put .state) refl (put .lines), (omega (arith, holds r), f .before .releases .ensures .1 .1))
 
-state-requires : tie.Need-state-requires Inv-loop μ-loop
-state-requires c κs = search needs
-
 last-lines-requires : tie.Need-last-lines-requires Inv-loop μ-loop
 last-lines-requires c κs =
     let l = to-loop c in
     let h = A l .pre .readable in
     lines-end (l .loop .inv .0) (h .ok) (h .outflows) (h .seconds) (search needs) (c .state .ensures)
-
-same-length-2 : tie.Need-same-length-2 Inv-loop μ-loop
-same-length-2 c = search needs
 
 returns-2 : tie.Need-returns-2 Inv-loop μ-loop
 returns-2 c =
@@ -244,30 +220,7 @@ pub run-lines-spec : {M : Type 1} → statement M
 run-lines-spec =
     tie.close
     (tie.spec
-    Inv-loop
-    μ-loop
-    mul-numbers
-    add-numbers
-    add-places
-    header-requires
-    loop-holds
-    read-row-requires
-    array-share-prefix-row
-    slice-aggregate-releases
-    releases-requires
-    number-requires
-    refused-requires
-    same-length
-    returns
-    array-share-prefix-row-2
-    slice-aggregate-step-lines
-    array-borrow-prefix-y
-    slice-aggregate-step-lines-2
-    step-lines-requires
-    add-k
-    loop-less
-    loop-again
-    state-requires
-    last-lines-requires
-    same-length-2
-    returns-2)
+    Inv-loop μ-loop (λ c. search needs) (λ c. search needs) (λ c. search needs) (λ c κs. search needs) loop-holds read-row-requires
+    array-share-prefix-row slice-aggregate-releases releases-requires (λ c κs. search needs) refused-requires (λ c. search needs) returns
+    array-share-prefix-row-2 slice-aggregate-step-lines array-borrow-prefix-y slice-aggregate-step-lines-2 step-lines-requires add-k loop-less
+    loop-again (λ c κs. search needs) last-lines-requires (λ c. search needs) returns-2)

@@ -21,9 +21,6 @@ A c = let a = c .before .before .before .before in a .before .before .before .be
 abbrev After : tie.After-next → State
 After c = let p = c .next .last .1 .1 .1 .1 .1 .1 in stateOf (c .next .result) (p .0) (p .1 .0) (p .1 .1 .0)
 
-next-requires : tie.Need-next-requires
-next-requires c κs = search needs
-
 lines-requires : tie.Need-lines-requires
 lines-requires c κs =
     let m = Made c in
@@ -31,12 +28,6 @@ lines-requires c κs =
     let p = a .pre .0 in
     let e = m .next .ensures .1 (p .road) (p .rooms) in
     (p .steppable .input .road .cells, (omega (arith, ap length e ∙ length-outflows _ _ _), a .pre .1))
-
-same-length : tie.Need-same-length
-same-length c = search needs
-
-same-length-2 : tie.Need-same-length-2
-same-length-2 c = search needs
 
 returns : tie.Need-returns
 returns c =
@@ -46,4 +37,4 @@ returns c =
 
 pub step-lines-spec : {M : Type 1} → statement M
 step-lines-spec =
-    tie.close (tie.spec next-requires lines-requires same-length same-length-2 returns)
+    tie.close (tie.spec (λ c κs. search needs) lines-requires (λ c. search needs) (λ c. search needs) returns)

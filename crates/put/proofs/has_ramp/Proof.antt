@@ -15,14 +15,8 @@ returns c = let a = c .before .args in no-cell (a .t1) (a .n) (a .cell) (omega a
 returns-2 : tie.Need-returns-2
 returns-2 c = let a = A (c .before) .args in past-cells (a .t1) (a .n) (a .cell) (omega arith)
 
-mul-result : tie.Need-mul-result
-mul-result c = search needs
-
-array-read-result : tie.Need-array-read-result
-array-read-result c = search needs
-
 returns-3 : tie.Need-returns-3
 returns-3 c = let a = A (c .before) .args in at-cell (a .t1) (a .n) (a .cell) (omega arith) (omega arith)
 
 pub has-ramp-spec : {M : Type 1} → statement M
-has-ramp-spec = tie.close (tie.spec returns returns-2 mul-result array-read-result returns-3)
+has-ramp-spec = tie.close (tie.spec returns returns-2 (λ c. search needs) (λ c. search needs) returns-3)

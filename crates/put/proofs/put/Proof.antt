@@ -39,15 +39,6 @@ rated : (c : tie.Else3) →
     ratesOk (A r .args .step) (r .read .result .steps) (A r .args .release) ≡ true
 rated c = sym (c .before .rates-within .ensures) ∙ not-false _ (c .if3 .left)
 
-read-requires : tie.Need-read-requires
-read-requires c κs = search needs
-
-number-requires : tie.Need-number-requires
-number-requires c κs = search needs
-
-same-length : tie.Need-same-length
-same-length c = search needs
-
 returns : tie.Need-returns
 returns c =
     let r = c .before .before in
@@ -61,9 +52,6 @@ has-ramp-requires c κs =
     let r = to-read p in
     read-within (A r .args .bytes .now) _ (r .read .ensures) (read-well p) .road .cells
 
-same-length-2 : tie.Need-same-length-2
-same-length-2 c = search needs
-
 returns-2 : tie.Need-returns-2
 returns-2 c =
     let p = to-passed (c .before) in
@@ -72,12 +60,6 @@ returns-2 c =
     let n = sym (c .before .has-ramp .ensures) ∙ not-true _ (c .if2 .taken) in
     let e = ends-ramp (a .bytes .now) (a .step) (a .cell) (a .release) (r .read .ensures) (read-well p) n in
     (e .says, e .leaves)
-
-rates-within-requires : tie.Need-rates-within-requires
-rates-within-requires c κs = search needs
-
-same-length-3 : tie.Need-same-length-3
-same-length-3 c = search needs
 
 returns-3 : tie.Need-returns-3
 returns-3 c =
@@ -103,9 +85,6 @@ put-release-requires c κs =
       within = ramp-facts (r .read .result .road .ramp) (r .read .result .road .n) (a .cell) (ramped q) .within;
     }
 
-same-length-4 : tie.Need-same-length-4
-same-length-4 c = search needs
-
 returns-4 : tie.Need-returns-4
 returns-4 c =
     let w = c .before .before in
@@ -121,16 +100,5 @@ pub put-spec : {M : Type 1} → statement M
 put-spec =
     tie.close
     (tie.spec
-    read-requires
-    number-requires
-    same-length
-    returns
-    has-ramp-requires
-    same-length-2
-    returns-2
-    rates-within-requires
-    same-length-3
-    returns-3
-    put-release-requires
-    same-length-4
-    returns-4)
+    (λ c κs. search needs) (λ c κs. search needs) (λ c. search needs) returns has-ramp-requires (λ c. search needs) returns-2
+    (λ c κs. search needs) (λ c. search needs) returns-3 put-release-requires (λ c. search needs) returns-4)

@@ -25,17 +25,8 @@ start-is : (c : tie.After-row-start) →
     c .row-start .result ≡ rowStart (versionOf (a .bytes .now)) (a .n) (a .step)
 start-is c = c .row-start .ensures ∙ starts (c .before)
 
-version-requires : tie.Need-version-requires
-version-requires c κs = search needs
-
 row-start-requires : tie.Need-row-start-requires
 row-start-requires c κs = omega (arith, starts c, A c .pre .row .row)
-
-mul-put-number : tie.Need-mul-put-number
-mul-put-number c = search needs
-
-mul-put-number-2 : tie.Need-mul-put-number-2
-mul-put-number-2 c = search needs
 
 add-put-number : tie.Need-add-put-number
 add-put-number c =
@@ -49,9 +40,6 @@ put-number-requires c κs =
     let p = A (s .before) .pre in
     omega (arith, start-is s, p .row .row, p .within)
 
-same-length : tie.Need-same-length
-same-length c = search needs
-
 returns : tie.Need-returns
 returns c =
     let w = c .before .before in
@@ -61,11 +49,5 @@ pub put-release-spec : {M : Type 1} → statement M
 put-release-spec =
     tie.close
     (tie.spec
-    version-requires
-    row-start-requires
-    mul-put-number
-    mul-put-number-2
-    add-put-number
-    put-number-requires
-    same-length
+    (λ c κs. search needs) row-start-requires (λ c. search needs) (λ c. search needs) add-put-number put-number-requires (λ c. search needs)
     returns)

@@ -29,33 +29,6 @@ Wave c = c .before .before .before .before
 abbrev Speed : tie.After-put-short2 → tie.After-put-short
 Speed c = c .before .before .before .before
 
-put-short-requires : tie.Need-put-short-requires
-put-short-requires c κs = search needs
-
-put-short-requires-2 : tie.Need-put-short-requires-2
-put-short-requires-2 c κs = search needs
-
-put-short-requires-3 : tie.Need-put-short-requires-3
-put-short-requires-3 c κs = search needs
-
-put-short-requires-4 : tie.Need-put-short-requires-4
-put-short-requires-4 c κs = search needs
-
-put-number-requires : tie.Need-put-number-requires
-put-number-requires c κs = search needs
-
-put-number-requires-2 : tie.Need-put-number-requires-2
-put-number-requires-2 c κs = search needs
-
-put-number-requires-3 : tie.Need-put-number-requires-3
-put-number-requires-3 c κs = search needs
-
-put-number-requires-4 : tie.Need-put-number-requires-4
-put-number-requires-4 c κs = search needs
-
-same-length : tie.Need-same-length
-same-length c = search needs
-
 returns : tie.Need-returns
 returns c =
     let h8 = Queue c in
@@ -73,13 +46,5 @@ pub put-cell-spec : {M : Type 1} → statement M
 put-cell-spec =
     tie.close
     (tie.spec
-    put-short-requires
-    put-short-requires-2
-    put-short-requires-3
-    put-short-requires-4
-    put-number-requires
-    put-number-requires-2
-    put-number-requires-3
-    put-number-requires-4
-    same-length
-    returns)
+    (λ c κs. search needs) (λ c κs. search needs) (λ c κs. search needs) (λ c κs. search needs) (λ c κs. search needs)
+    (λ c κs. search needs) (λ c κs. search needs) (λ c κs. search needs) (λ c. search needs) returns)

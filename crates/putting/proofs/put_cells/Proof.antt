@@ -30,66 +30,12 @@ loop-holds c =
     let a = c .before .args in
     (omega arith, putting-none (a .target .now) (a .at) (cellBytes (a .t3) (startState (a .t4))) cellSize)
 
-mul-put-cell : tie.Need-mul-put-cell Inv-loop μ-loop
-mul-put-cell c = search needs
-
-element-copy-out-put-cell : tie.Need-element-copy-out-put-cell Inv-loop μ-loop
-element-copy-out-put-cell c = search needs
-
-mul-put-cell-2 : tie.Need-mul-put-cell-2 Inv-loop μ-loop
-mul-put-cell-2 c = search needs
-
-element-copy-out-put-cell-2 : tie.Need-element-copy-out-put-cell-2 Inv-loop μ-loop
-element-copy-out-put-cell-2 c = search needs
-
-mul-put-cell-3 : tie.Need-mul-put-cell-3 Inv-loop μ-loop
-mul-put-cell-3 c = search needs
-
-element-copy-out-put-cell-3 : tie.Need-element-copy-out-put-cell-3 Inv-loop μ-loop
-element-copy-out-put-cell-3 c = search needs
-
-mul-put-cell-4 : tie.Need-mul-put-cell-4 Inv-loop μ-loop
-mul-put-cell-4 c = search needs
-
-element-copy-out-put-cell-4 : tie.Need-element-copy-out-put-cell-4 Inv-loop μ-loop
-element-copy-out-put-cell-4 c = search needs
-
-mul-put-cell-5 : tie.Need-mul-put-cell-5 Inv-loop μ-loop
-mul-put-cell-5 c = search needs
-
-element-copy-out-put-cell-5 : tie.Need-element-copy-out-put-cell-5 Inv-loop μ-loop
-element-copy-out-put-cell-5 c = search needs
-
-mul-put-cell-6 : tie.Need-mul-put-cell-6 Inv-loop μ-loop
-mul-put-cell-6 c = search needs
-
-element-copy-out-put-cell-6 : tie.Need-element-copy-out-put-cell-6 Inv-loop μ-loop
-element-copy-out-put-cell-6 c = search needs
-
-mul-put-cell-7 : tie.Need-mul-put-cell-7 Inv-loop μ-loop
-mul-put-cell-7 c = search needs
-
-element-copy-out-put-cell-7 : tie.Need-element-copy-out-put-cell-7 Inv-loop μ-loop
-element-copy-out-put-cell-7 c = search needs
-
-mul-put-cell-8 : tie.Need-mul-put-cell-8 Inv-loop μ-loop
-mul-put-cell-8 c = search needs
-
-element-copy-out-put-cell-8 : tie.Need-element-copy-out-put-cell-8 Inv-loop μ-loop
-element-copy-out-put-cell-8 c = search needs
-
 put-cell-requires : tie.Need-put-cell-requires Inv-loop μ-loop
 put-cell-requires c κs =
     let n = In (c .before) in
     let s = A (n .before) in
     putting-fits (s .args .target .now) (s .args .at) (cellBytes (s .args .t3) (startState (s .args .t4))) cellSize (n .before .loop .i) (s .args .t3 .n)
     (n .before .loop .inv .1) (n .loop-test .taken) (s .pre .1)
-
-add-i : tie.Need-add-i Inv-loop μ-loop
-add-i c = search needs
-
-loop-less : tie.Need-loop-less Inv-loop μ-loop
-loop-less c = search needs
 
 loop-again : tie.Need-loop-again Inv-loop μ-loop
 loop-again c =
@@ -100,9 +46,6 @@ loop-again c =
       putting-more (s .target .now) (s .at) (cellBytes (s .t3) (startState (s .t4))) cellSize (n .before .loop .i)
           (length-cell _ _ _ _ _ _ _ _) (n .before .loop .inv .1) (p .put-cell .ensures),
     )
-
-same-length : tie.Need-same-length Inv-loop μ-loop
-same-length c = search needs
 
 returns : tie.Need-returns Inv-loop μ-loop
 returns c =
@@ -115,28 +58,7 @@ pub put-cells-spec : {M : Type 1} → statement M
 put-cells-spec =
     tie.close
     (tie.spec
-    Inv-loop
-    μ-loop
-    loop-holds
-    mul-put-cell
-    element-copy-out-put-cell
-    mul-put-cell-2
-    element-copy-out-put-cell-2
-    mul-put-cell-3
-    element-copy-out-put-cell-3
-    mul-put-cell-4
-    element-copy-out-put-cell-4
-    mul-put-cell-5
-    element-copy-out-put-cell-5
-    mul-put-cell-6
-    element-copy-out-put-cell-6
-    mul-put-cell-7
-    element-copy-out-put-cell-7
-    mul-put-cell-8
-    element-copy-out-put-cell-8
-    put-cell-requires
-    add-i
-    loop-less
-    loop-again
-    same-length
-    returns)
+    Inv-loop μ-loop loop-holds (λ c. search needs) (λ c. search needs) (λ c. search needs) (λ c. search needs) (λ c. search needs)
+    (λ c. search needs) (λ c. search needs) (λ c. search needs) (λ c. search needs) (λ c. search needs) (λ c. search needs) (λ c. search needs)
+    (λ c. search needs) (λ c. search needs) (λ c. search needs) (λ c. search needs) put-cell-requires (λ c. search needs) (λ c. search needs)
+    loop-again (λ c. search needs) returns)

@@ -31,44 +31,11 @@ Count c = c .before .before .before .before
 row-start-requires : tie.Need-row-start-requires
 row-start-requires c κs = omega (arith, size-small (c .before .args .version) (c .before .pre .0))
 
-sub-put-number : tie.Need-sub-put-number
-sub-put-number c = search needs
-
 cast-put-number : tie.Need-cast-put-number
 cast-put-number c =
     let r = c .before in
     let a = r .before .before in
     omega (arith, r .row-start .ensures, size-small (a .args .version) (a .pre .0))
-
-put-number-requires : tie.Need-put-number-requires
-put-number-requires c κs = search needs
-
-put-byte-requires : tie.Need-put-byte-requires
-put-byte-requires c κs = search needs
-
-cast-put-byte : tie.Need-cast-put-byte
-cast-put-byte c = search needs
-
-put-byte-requires-2 : tie.Need-put-byte-requires-2
-put-byte-requires-2 c κs = search needs
-
-cast-put-short : tie.Need-cast-put-short
-cast-put-short c = search needs
-
-put-short-requires : tie.Need-put-short-requires
-put-short-requires c κs = search needs
-
-put-seconds-requires : tie.Need-put-seconds-requires
-put-seconds-requires c κs = search needs
-
-put-number-requires-2 : tie.Need-put-number-requires-2
-put-number-requires-2 c κs = search needs
-
-put-number-requires-3 : tie.Need-put-number-requires-3
-put-number-requires-3 c κs = search needs
-
-same-length : tie.Need-same-length
-same-length c = search needs
 
 returns : tie.Need-returns
 returns c =
@@ -87,17 +54,6 @@ pub put-header-spec : {M : Type 1} → statement M
 put-header-spec =
     tie.close
     (tie.spec
-    row-start-requires
-    sub-put-number
-    cast-put-number
-    put-number-requires
-    put-byte-requires
-    cast-put-byte
-    put-byte-requires-2
-    cast-put-short
-    put-short-requires
-    put-seconds-requires
-    put-number-requires-2
-    put-number-requires-3
-    same-length
-    returns)
+    row-start-requires (λ c. search needs) cast-put-number (λ c κs. search needs) (λ c κs. search needs) (λ c. search needs)
+    (λ c κs. search needs) (λ c. search needs) (λ c κs. search needs) (λ c κs. search needs) (λ c κs. search needs) (λ c κs. search needs)
+    (λ c. search needs) returns)

@@ -25,24 +25,12 @@ loop-holds c =
     let a = c .before .before .args in
     (omega arith, putting-none (a .target .now) (a .at) (λ j. bytesOf numberSize (getD (a .row .now) j 0)) numberSize)
 
-mul-put-number : tie.Need-mul-put-number Inv-loop μ-loop
-mul-put-number c = search needs
-
-shared-slice-read-put-number : tie.Need-shared-slice-read-put-number Inv-loop μ-loop
-shared-slice-read-put-number c = search needs
-
 put-number-requires : tie.Need-put-number-requires Inv-loop μ-loop
 put-number-requires c κs =
     let n = c .before .before in
     let s = A (n .before) in
     putting-fits (s .args .target .now) (s .args .at) (λ j. bytesOf numberSize (getD (s .args .row .now) j 0)) numberSize
     (n .before .loop .k) (length (s .args .row .now)) (n .before .loop .inv .1) (n .loop-test .taken) (s .pre)
-
-add-k : tie.Need-add-k Inv-loop μ-loop
-add-k c = search needs
-
-loop-less : tie.Need-loop-less Inv-loop μ-loop
-loop-less c = search needs
 
 loop-again : tie.Need-loop-again Inv-loop μ-loop
 loop-again c =
@@ -53,9 +41,6 @@ loop-again c =
       putting-more (s .target .now) (s .at) (λ j. bytesOf numberSize (getD (s .row .now) j 0)) numberSize (n .before .loop .k)
           (length-bytes _ _) (n .before .loop .inv .1) (stored-puts (p .put-number .ensures)),
     )
-
-same-length : tie.Need-same-length Inv-loop μ-loop
-same-length c = search needs
 
 returns : tie.Need-returns Inv-loop μ-loop
 returns c =
@@ -68,14 +53,5 @@ pub put-row-spec : {M : Type 1} → statement M
 put-row-spec =
     tie.close
     (tie.spec
-    Inv-loop
-    μ-loop
-    loop-holds
-    mul-put-number
-    shared-slice-read-put-number
-    put-number-requires
-    add-k
-    loop-less
-    loop-again
-    same-length
-    returns)
+    Inv-loop μ-loop loop-holds (λ c. search needs) (λ c. search needs) put-number-requires (λ c. search needs) (λ c. search needs) loop-again
+    (λ c. search needs) returns)

@@ -33,20 +33,11 @@ start-of-requires c κs = header-cells (A c .pre)
 first-place-requires : tie.Need-first-place-requires
 first-place-requires c κs = let h = A (c .before) .pre in (header-most h (c .before .road-of .ensures), header-done h (c .start-of .ensures))
 
-add-if1 : tie.Need-add-if1
-add-if1 c = search needs
-
-refused-requires : tie.Need-refused-requires
-refused-requires c κs = search needs
-
 returns : tie.Need-returns
 returns c = let t = c .before in answer-place (body (t .before)) (t .if1 .taken) (c .refused .ensures)
 
 first-row-requires : tie.Need-first-row-requires
 first-row-requires c κs = let b = body (c .before) in header-steps (b .header) (b .road)
-
-refused-requires-2 : tie.Need-refused-requires-2
-refused-requires-2 c κs = search needs
 
 returns-2 : tie.Need-returns-2
 returns-2 c =
@@ -63,13 +54,5 @@ pub body-spec : {M : Type 1} → statement M
 body-spec =
     tie.close
     (tie.spec
-    road-of-requires
-    start-of-requires
-    first-place-requires
-    add-if1
-    refused-requires
-    returns
-    first-row-requires
-    refused-requires-2
-    returns-2
-    returns-3)
+    road-of-requires start-of-requires first-place-requires (λ c. search needs) (λ c κs. search needs) returns first-row-requires
+    (λ c κs. search needs) returns-2 returns-3)

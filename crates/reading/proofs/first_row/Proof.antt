@@ -34,12 +34,6 @@ row-within-requires c κs = steps-row (A (c .before .before) .pre) (c .before .l
 returns : tie.Need-returns Inv-loop μ-loop
 returns c = checked-fault (turn (c .before)) (not-true _ (c .if1 .taken))
 
-add-t : tie.Need-add-t Inv-loop μ-loop
-add-t c = search needs
-
-loop-less : tie.Need-loop-less Inv-loop μ-loop
-loop-less c = search needs
-
 loop-again : tie.Need-loop-again Inv-loop μ-loop
 loop-again c = checked-more (turn (c .before)) (not-false _ (c .if1 .left))
 
@@ -50,12 +44,4 @@ pub first-row-spec : {M : Type 1} → statement M
 first-row-spec =
     tie.close
     (tie.spec
-    Inv-loop
-    μ-loop
-    loop-holds
-    row-within-requires
-    returns
-    add-t
-    loop-less
-    loop-again
-    returns-2)
+    Inv-loop μ-loop loop-holds row-within-requires returns (λ c. search needs) (λ c. search needs) loop-again returns-2)

@@ -86,12 +86,6 @@ size c =
     let v = Version (Known (T d) .before) in
     c .row-start .ensures ∙ ap (λ (x : ℕ). sizeOf x (T d .before .number .result) (T d .number2 .result)) (v .version .ensures)
 
-length-within-requires : tie.Need-length-within-requires
-length-within-requires c κs = search needs
-
-refused-requires : tie.Need-refused-requires
-refused-requires c κs = search needs
-
 returns : tie.Need-returns
 returns c =
     let t = c .before in
@@ -100,12 +94,6 @@ returns c =
 
 version-requires : tie.Need-version-requires
 version-requires c κs = let l = long c in search needs
-
-version-known-requires : tie.Need-version-known-requires
-version-known-requires c κs = search needs
-
-refused-requires-2 : tie.Need-refused-requires-2
-refused-requires-2 c κs = search needs
 
 returns-2 : tie.Need-returns-2
 returns-2 c =
@@ -116,20 +104,8 @@ returns-2 c =
 number-requires : tie.Need-number-requires
 number-requires c κs = let l = long (Length (Version (c .before))) in search needs
 
-cast-n : tie.Need-cast-n
-cast-n c = search needs
-
 number-requires-2 : tie.Need-number-requires-2
 number-requires-2 c κs = let l = long (Length (Version (c .before .before))) in search needs
-
-cast-steps : tie.Need-cast-steps
-cast-steps c = search needs
-
-cells-and-steps-within-requires : tie.Need-cells-and-steps-within-requires
-cells-and-steps-within-requires c κs = search needs
-
-refused-requires-3 : tie.Need-refused-requires-3
-refused-requires-3 c κs = search needs
 
 returns-3 : tie.Need-returns-3
 returns-3 c =
@@ -139,12 +115,6 @@ returns-3 c =
 
 seconds-requires : tie.Need-seconds-requires
 seconds-requires c κs = long (Length (Version (Known (T c) .before)))
-
-seconds-within-requires : tie.Need-seconds-within-requires
-seconds-within-requires c κs = search needs
-
-refused-requires-4 : tie.Need-refused-requires-4
-refused-requires-4 c κs = search needs
 
 returns-4 : tie.Need-returns-4
 returns-4 c =
@@ -157,9 +127,6 @@ row-start-requires c κs =
     let d = Counts (c .before) in
     let k = counts-facts (T d .before .number .result) (T d .number2 .result) (counted d) in
     omega (arith, size-small (Version (Known (T d) .before) .version .result) k)
-
-refused-requires-5 : tie.Need-refused-requires-5
-refused-requires-5 c κs = search needs
 
 returns-5 : tie.Need-returns-5
 returns-5 c =
@@ -174,33 +141,11 @@ body-requires c κs =
     let d = Counts (Seconds z .before) in
     header-passed (opened (T d)) (counted d) (timed (Seconds z)) (size z) (c .if5 .left)
 
-returns-6 : tie.Need-returns-6
-returns-6 c = search needs
-
 pub read-spec : {M : Type 1} → statement M
 read-spec =
     tie.close
     (tie.spec
-    length-within-requires
-    refused-requires
-    returns
-    version-requires
-    version-known-requires
-    refused-requires-2
-    returns-2
-    number-requires
-    cast-n
-    number-requires-2
-    cast-steps
-    cells-and-steps-within-requires
-    refused-requires-3
-    returns-3
-    seconds-requires
-    seconds-within-requires
-    refused-requires-4
-    returns-4
-    row-start-requires
-    refused-requires-5
-    returns-5
-    body-requires
-    returns-6)
+    (λ c κs. search needs) (λ c κs. search needs) returns version-requires (λ c κs. search needs) (λ c κs. search needs) returns-2
+    number-requires (λ c. search needs) number-requires-2 (λ c. search needs) (λ c κs. search needs) (λ c κs. search needs) returns-3
+    seconds-requires (λ c κs. search needs) (λ c κs. search needs) returns-4 row-start-requires (λ c κs. search needs) returns-5 body-requires
+    (λ c. search needs))

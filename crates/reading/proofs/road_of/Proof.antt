@@ -28,38 +28,11 @@ capacity c =
 of : (c : tie.Start) (offset w : ℕ) → columnOf (c .args .bytes .now) offset w (c .args .n) ≡ columnOf (c .args .bytes .now) offset w (cellsOf (c .args .bytes .now))
 of c offset w = ap (columnOf (c .args .bytes .now) offset w) (c .pre .count)
 
-version-requires : tie.Need-version-requires
-version-requires c κs = search needs
-
-seconds-size-requires : tie.Need-seconds-size-requires
-seconds-size-requires c κs = search needs
-
 add-gate : tie.Need-add-gate
 add-gate c = omega (arith, size c, seconds-most (versionOf (A c .args .bytes .now)))
 
-seconds-requires : tie.Need-seconds-requires
-seconds-requires c κs = search needs
-
 number-requires : tie.Need-number-requires
 number-requires c κs = let h = c .before in (omega arith, omega (arith, size h, A h .pre .held))
-
-short-column-requires : tie.Need-short-column-requires
-short-column-requires c κs = search needs
-
-short-column-requires-2 : tie.Need-short-column-requires-2
-short-column-requires-2 c κs = search needs
-
-short-column-requires-3 : tie.Need-short-column-requires-3
-short-column-requires-3 c κs = search needs
-
-short-column-requires-4 : tie.Need-short-column-requires-4
-short-column-requires-4 c κs = search needs
-
-column-requires : tie.Need-column-requires
-column-requires c κs = search needs
-
-column-requires-2 : tie.Need-column-requires-2
-column-requires-2 c κs = search needs
 
 returns : tie.Need-returns
 returns c =
@@ -89,15 +62,5 @@ pub road-of-spec : {M : Type 1} → statement M
 road-of-spec =
     tie.close
     (tie.spec
-    version-requires
-    seconds-size-requires
-    add-gate
-    seconds-requires
-    number-requires
-    short-column-requires
-    short-column-requires-2
-    short-column-requires-3
-    short-column-requires-4
-    column-requires
-    column-requires-2
-    returns)
+    (λ c κs. search needs) (λ c κs. search needs) add-gate (λ c κs. search needs) number-requires (λ c κs. search needs)
+    (λ c κs. search needs) (λ c κs. search needs) (λ c κs. search needs) (λ c κs. search needs) (λ c κs. search needs) returns)

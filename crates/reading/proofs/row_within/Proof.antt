@@ -69,9 +69,6 @@ found c =
     (entry-read (a .bytes .now) (a .n) (a .t) (2 * i + 1) (start (At l)) (omega arith) (r .before .number2 .ensures .0) (omega (arith, t .loop-test .taken)))
     (entry-read (a .bytes .now) (a .n) (a .t) (2 * i + 2) (start (At l)) (omega arith) (r .number3 .ensures .0) (omega (arith, t .loop-test .taken)))
 
-version-requires : tie.Need-version-requires Inv-loop μ-loop
-version-requires c κs = search needs
-
 row-start-requires : tie.Need-row-start-requires Inv-loop μ-loop
 row-start-requires c κs =
     let a = A c .args in
@@ -90,15 +87,6 @@ returns c =
 loop-holds : tie.Need-loop-holds Inv-loop μ-loop
 loop-holds c = rated-none (omega (arith, gate (c .before), c .if1 .left))
 
-mul-place : tie.Need-mul-place Inv-loop μ-loop
-mul-place c = search needs
-
-add-place : tie.Need-add-place Inv-loop μ-loop
-add-place c = search needs
-
-mul-place-2 : tie.Need-mul-place-2 Inv-loop μ-loop
-mul-place-2 c = search needs
-
 add-place-2 : tie.Need-add-place-2 Inv-loop μ-loop
 add-place-2 c = omega (arith, held (At (c .before)))
 
@@ -111,25 +99,10 @@ add-number c = omega (arith, held (At (c .before .before)))
 number-requires-3 : tie.Need-number-requires-3 Inv-loop μ-loop
 number-requires-3 c κs = (omega arith, omega (arith, held (At (c .before .before))))
 
-mul-rates-within : tie.Need-mul-rates-within Inv-loop μ-loop
-mul-rates-within c = search needs
-
-element-copy-out-rates-within : tie.Need-element-copy-out-rates-within Inv-loop μ-loop
-element-copy-out-rates-within c = search needs
-
-rates-within-requires : tie.Need-rates-within-requires Inv-loop μ-loop
-rates-within-requires c κs = search needs
-
 returns-2 : tie.Need-returns-2 Inv-loop μ-loop
 returns-2 c =
     let t = In (Read (c .before)) in
     rated-stop (t .before .loop .inv) (t .loop-test .taken) (found (c .before) ∙ not-true _ (c .if2 .taken))
-
-add-i : tie.Need-add-i Inv-loop μ-loop
-add-i c = search needs
-
-loop-less : tie.Need-loop-less Inv-loop μ-loop
-loop-less c = search needs
 
 loop-again : tie.Need-loop-again Inv-loop μ-loop
 loop-again c =
@@ -143,25 +116,6 @@ pub row-within-spec : {M : Type 1} → statement M
 row-within-spec =
     tie.close
     (tie.spec
-    Inv-loop
-    μ-loop
-    version-requires
-    row-start-requires
-    number-requires
-    returns
-    loop-holds
-    mul-place
-    add-place
-    mul-place-2
-    add-place-2
-    number-requires-2
-    add-number
-    number-requires-3
-    mul-rates-within
-    element-copy-out-rates-within
-    rates-within-requires
-    returns-2
-    add-i
-    loop-less
-    loop-again
-    returns-3)
+    Inv-loop μ-loop (λ c κs. search needs) row-start-requires number-requires returns loop-holds (λ c. search needs) (λ c. search needs)
+    (λ c. search needs) add-place-2 number-requires-2 add-number number-requires-3 (λ c. search needs) (λ c. search needs) (λ c κs. search needs)
+    returns-2 (λ c. search needs) (λ c. search needs) loop-again returns-3)

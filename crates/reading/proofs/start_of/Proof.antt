@@ -22,23 +22,11 @@ queue c =
     let h = c .before in
     c .number .ensures .0 ∙ ap (λ (x : ℕ). numberOf (A h .args .bytes .now) (12 + x) numberSize) (size h)
 
-version-requires : tie.Need-version-requires
-version-requires c κs = search needs
-
-seconds-size-requires : tie.Need-seconds-size-requires
-seconds-size-requires c κs = search needs
-
 add-gate : tie.Need-add-gate
 add-gate c = omega (arith, size c, seconds-most (versionOf (A c .args .bytes .now)))
 
 number-requires : tie.Need-number-requires
 number-requires c κs = (omega arith, omega (arith, size c, A c .pre .held))
-
-column-requires : tie.Need-column-requires
-column-requires c κs = search needs
-
-column-requires-2 : tie.Need-column-requires-2
-column-requires-2 c κs = search needs
 
 returns : tie.Need-returns
 returns c =
@@ -51,10 +39,4 @@ pub start-of-spec : {M : Type 1} → statement M
 start-of-spec =
     tie.close
     (tie.spec
-    version-requires
-    seconds-size-requires
-    add-gate
-    number-requires
-    column-requires
-    column-requires-2
-    returns)
+    (λ c κs. search needs) (λ c κs. search needs) add-gate number-requires (λ c κs. search needs) (λ c κs. search needs) returns)

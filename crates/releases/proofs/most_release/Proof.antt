@@ -4,11 +4,8 @@ use borrow.Author.Needs.{needs}
 use Rattle.releases.proofs.most_release.Statement.{statement}
 use Rattle.releases.proofs.most_release.Tie as tie
 
-add-result : tie.Need-add-result
-add-result c = search needs
-
 returns : tie.Need-returns
 returns c = refl
 
 pub most-release-spec : {M : Type 1} → statement M
-most-release-spec = tie.close (tie.spec add-result returns)
+most-release-spec = tie.close (tie.spec (λ c. search needs) returns)

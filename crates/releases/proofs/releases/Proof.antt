@@ -8,11 +8,8 @@ use Rattle.releases.proofs.releases.Tie as tie
 abbrev A : tie.After-releases → tie.Start
 A c = c .before .before .before .before .before .before .before .before .before .before
 
-releases-requires : tie.Need-releases-requires
-releases-requires c κs = search needs
-
 returns : tie.Need-returns
 returns c = let a = A c .args in c .releases .ensures .0 (a .t1) (ledgerOf (a .t2)) (a .t2 .cumulative)
 
 pub releases-spec : {M : Type 1} → statement M
-releases-spec = tie.close (tie.spec releases-requires returns)
+releases-spec = tie.close (tie.spec (λ c κs. search needs) returns)

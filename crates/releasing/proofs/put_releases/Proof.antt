@@ -33,43 +33,19 @@ starts : (c : tie.After-version Inv-loop μ-loop) →
     rowStart (c .version .result) (a .n) (a .t) ≡ rowStart (versionOf (a .bytes .now)) (a .n) (a .t)
 starts c = let a = A c .args in ap (λ (v : ℕ). rowStart v (a .n) (a .t)) (c .version .ensures)
 
-version-requires : tie.Need-version-requires Inv-loop μ-loop
-version-requires c κs = search needs
-
 row-start-requires : tie.Need-row-start-requires Inv-loop μ-loop
 row-start-requires c κs = omega (arith, starts c, A c .pre .row)
 
 loop-holds : tie.Need-loop-holds Inv-loop μ-loop
 loop-holds c = (c .row-start .ensures ∙ starts (c .before), put-none _ _ _ _)
 
-mul-put-number : tie.Need-mul-put-number Inv-loop μ-loop
-mul-put-number c = search needs
-
-add-put-number : tie.Need-add-put-number Inv-loop μ-loop
-add-put-number c = search needs
-
-mul-put-number-2 : tie.Need-mul-put-number-2 Inv-loop μ-loop
-mul-put-number-2 c = search needs
-
 add-put-number-2 : tie.Need-add-put-number-2 Inv-loop μ-loop
 add-put-number-2 c =
     let l = c .before .before in
     omega (arith, Args l .pre .row, l .loop .inv .0, l .loop .inv .1 .within)
 
-mul-put-number-3 : tie.Need-mul-put-number-3 Inv-loop μ-loop
-mul-put-number-3 c = search needs
-
-element-copy-out-put-number : tie.Need-element-copy-out-put-number Inv-loop μ-loop
-element-copy-out-put-number c = search needs
-
 put-number-requires : tie.Need-put-number-requires Inv-loop μ-loop
 put-number-requires c κs = let l = In c in room (l .before .loop .inv .1) (Args (l .before) .pre) (l .before .loop .inv .0) (l .loop-test .taken)
-
-add-i : tie.Need-add-i Inv-loop μ-loop
-add-i c = search needs
-
-loop-less : tie.Need-loop-less Inv-loop μ-loop
-loop-less c = search needs
 
 loop-again : tie.Need-loop-again Inv-loop μ-loop
 loop-again c =
@@ -86,20 +62,6 @@ pub put-releases-spec : {M : Type 1} → statement M
 put-releases-spec =
     tie.close
     (tie.spec
-    Inv-loop
-    μ-loop
-    version-requires
-    row-start-requires
-    loop-holds
-    mul-put-number
-    add-put-number
-    mul-put-number-2
-    add-put-number-2
-    mul-put-number-3
-    element-copy-out-put-number
-    put-number-requires
-    add-i
-    loop-less
-    loop-again
-    same-length
+    Inv-loop μ-loop (λ c κs. search needs) row-start-requires loop-holds (λ c. search needs) (λ c. search needs) (λ c. search needs)
+    add-put-number-2 (λ c. search needs) (λ c. search needs) put-number-requires (λ c. search needs) (λ c. search needs) loop-again same-length
     returns)

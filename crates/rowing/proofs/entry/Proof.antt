@@ -15,17 +15,11 @@ B c = c .before .before
 returns : tie.Need-returns
 returns c = entry-none (A c .args .bytes .now) (A c .args .at) (omega arith)
 
-sub-if2 : tie.Need-sub-if2
-sub-if2 c = search needs
-
 returns-2 : tie.Need-returns-2
 returns-2 c = let a = B (c .before) .args in entry-none (a .bytes .now) (a .at) (omega arith)
-
-number-requires : tie.Need-number-requires
-number-requires c κs = search needs
 
 returns-3 : tie.Need-returns-3
 returns-3 c = let a = B (c .before .before) .args in entry-there (a .bytes .now) (a .at) (omega arith) (c .number .ensures .0)
 
 pub entry-spec : {M : Type 1} → statement M
-entry-spec = tie.close (tie.spec returns sub-if2 returns-2 number-requires returns-3)
+entry-spec = tie.close (tie.spec returns (λ c. search needs) returns-2 (λ c κs. search needs) returns-3)

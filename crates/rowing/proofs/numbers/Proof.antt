@@ -37,41 +37,14 @@ start c =
     let a = A (Version c) .args in
     c .row-start .ensures ∙ ap (λ (v : ℕ). rowStart v (a .n) (a .t)) (Version c .version .ensures)
 
-version-requires : tie.Need-version-requires Inv-loop μ-loop
-version-requires c κs = search needs
-
 row-start-requires : tie.Need-row-start-requires Inv-loop μ-loop
 row-start-requires c κs = omega (arith, small c)
 
 loop-holds : tie.Need-loop-holds Inv-loop μ-loop
 loop-holds c = taken-none
 
-mul-loop : tie.Need-mul-loop Inv-loop μ-loop
-mul-loop c = search needs
-
-add-loop : tie.Need-add-loop Inv-loop μ-loop
-add-loop c = search needs
-
-mul-entry : tie.Need-mul-entry Inv-loop μ-loop
-mul-entry c = search needs
-
 add-entry : tie.Need-add-entry Inv-loop μ-loop
 add-entry c = let s = Began (c .before) in omega (arith, small (Version s), s .row-start .ensures)
-
-entry-requires : tie.Need-entry-requires Inv-loop μ-loop
-entry-requires c κs = search needs
-
-mul-r : tie.Need-mul-r Inv-loop μ-loop
-mul-r c = search needs
-
-array-write-r : tie.Need-array-write-r Inv-loop μ-loop
-array-write-r c = search needs
-
-add-k : tie.Need-add-k Inv-loop μ-loop
-add-k c = search needs
-
-loop-less : tie.Need-loop-less Inv-loop μ-loop
-loop-less c = search needs
 
 loop-again : tie.Need-loop-again Inv-loop μ-loop
 loop-again c =
@@ -88,19 +61,5 @@ pub numbers-spec : {M : Type 1} → statement M
 numbers-spec =
     tie.close
     (tie.spec
-    Inv-loop
-    μ-loop
-    version-requires
-    row-start-requires
-    loop-holds
-    mul-loop
-    add-loop
-    mul-entry
-    add-entry
-    entry-requires
-    mul-r
-    array-write-r
-    add-k
-    loop-less
-    loop-again
-    returns)
+    Inv-loop μ-loop (λ c κs. search needs) row-start-requires loop-holds (λ c. search needs) (λ c. search needs) (λ c. search needs) add-entry
+    (λ c κs. search needs) (λ c. search needs) (λ c. search needs) (λ c. search needs) (λ c. search needs) loop-again returns)

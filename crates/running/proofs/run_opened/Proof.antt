@@ -34,15 +34,6 @@ held : (c : tie.Else1) →
     Readable (a .bytes .now) (studyBy (a .bytes .now) (a .table .now) (x .road) (x .state) (x .steps))
 held c = let a = A (to-opened c) .args in opened-readable (a .bytes .now) (a .table .now) (to-opened c .opened .ensures) (opens c)
 
-opened-requires : tie.Need-opened-requires
-opened-requires c κs = search needs
-
-number-requires : tie.Need-number-requires
-number-requires c κs = search needs
-
-unbegun-requires : tie.Need-unbegun-requires
-unbegun-requires c κs = search needs
-
 returns : tie.Need-returns
 returns c =
     let t = c .before in
@@ -60,9 +51,6 @@ add-if2 c = omega (arith, held (to-passed c) .ok .road .cells)
 mul-if2 : tie.Need-mul-if2
 mul-if2 c = omega (arith, held (to-passed c) .outflows)
 
-unbegun-requires-2 : tie.Need-unbegun-requires-2
-unbegun-requires-2 c κs = search needs
-
 returns-2 : tie.Need-returns-2
 returns-2 c =
     let k = to-passed (c .before .before) in
@@ -75,9 +63,6 @@ returns-2 c =
 
 run-rows-requires : tie.Need-run-rows-requires
 run-rows-requires c κs = record { readable = held (to-passed (c .before .before)); long = omega arith }
-
-same-length : tie.Need-same-length
-same-length c = search needs
 
 returns-3 : tie.Need-returns-3
 returns-3 c =
@@ -94,14 +79,5 @@ pub run-opened-spec : {M : Type 1} → statement M
 run-opened-spec =
     tie.close
     (tie.spec
-    opened-requires
-    number-requires
-    unbegun-requires
-    returns
-    add-if2
-    mul-if2
-    unbegun-requires-2
-    returns-2
-    run-rows-requires
-    same-length
-    returns-3)
+    (λ c κs. search needs) (λ c κs. search needs) (λ c κs. search needs) returns add-if2 mul-if2 (λ c κs. search needs) returns-2
+    run-rows-requires (λ c. search needs) returns-3)

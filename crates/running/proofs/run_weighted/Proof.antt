@@ -9,12 +9,6 @@ use Rattle.running.proofs.run_weighted.Tie as tie
 abbrev A : tie.After-run-opened → tie.Start
 A c = c .before .before .before .before .before
 
-run-opened-requires : tie.Need-run-opened-requires
-run-opened-requires c κs = search needs
-
-same-length : tie.Need-same-length
-same-length c = search needs
-
 returns : tie.Need-returns
 returns c =
     let r = c .before .before in
@@ -23,4 +17,4 @@ returns c =
     all-weighted (a .bytes .now) (a .table .now) (a .out .now) (at (a .weights .places)) (at (a .weights .ramps)) (e .0) (e .1 .0) (e .1 .1 .0) (e .1 .1 .1)
 
 pub run-weighted-spec : {M : Type 1} → statement M
-run-weighted-spec = tie.close (tie.spec run-opened-requires same-length returns)
+run-weighted-spec = tie.close (tie.spec (λ c κs. search needs) (λ c. search needs) returns)

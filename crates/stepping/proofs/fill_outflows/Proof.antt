@@ -20,9 +20,6 @@ releases-requires c κs = let p = A c .pre .0 .input in (p .road .cells, (p .row
 outflows-requires : tie.Need-outflows-requires
 outflows-requires c κs = let p = A (Room c) .pre in (p .0 .input .road .cells, p .1)
 
-same-length : tie.Need-same-length
-same-length c = search needs
-
 returns : tie.Need-returns
 returns c =
     let o = c .before .before in
@@ -35,4 +32,4 @@ returns c =
     o .outflows .ensures r (ledgerOf s) (s .queue) row (l .releases .ensures .1 .0 r (ledgerOf s) (s .cumulative) none)
 
 pub fill-outflows-spec : {M : Type 1} → statement M
-fill-outflows-spec = tie.close (tie.spec releases-requires outflows-requires same-length returns)
+fill-outflows-spec = tie.close (tie.spec releases-requires outflows-requires (λ c. search needs) returns)

@@ -17,13 +17,10 @@ fill-outflows-requires c κs = A c .pre
 next-by-requires : tie.Need-next-by-requires
 next-by-requires c κs = let p = A (Filled c .before) .pre .0 in (movable p (Filled c .fill-outflows .ensures), p .left)
 
-same-length : tie.Need-same-length
-same-length c = search needs
-
 returns : tie.Need-returns
 returns c =
     let f = Filled (c .before) in
     (next-by-outflows (A (f .before) .pre .0) (f .fill-outflows .ensures) (c .next-by .ensures), f .fill-outflows .ensures)
 
 pub next-spec : {M : Type 1} → statement M
-next-spec = tie.close (tie.spec fill-outflows-requires next-by-requires same-length returns)
+next-spec = tie.close (tie.spec fill-outflows-requires next-by-requires (λ c. search needs) returns)

@@ -11,11 +11,8 @@ A c = c .before .before .before .before .before .before .before .before .before 
 advance-requires : tie.Need-advance-requires
 advance-requires c κs = record { road = A c .args .t1; movable = A c .pre .0; left = A c .pre .1 }
 
-state-requires : tie.Need-state-requires
-state-requires c κs = search needs
-
 returns : tie.Need-returns
 returns c = let m = c .before in c .state .ensures ∙ m .advance .ensures (A (m .before) .args .t1)
 
 pub next-by-spec : {M : Type 1} → statement M
-next-by-spec = tie.close (tie.spec advance-requires state-requires returns)
+next-by-spec = tie.close (tie.spec advance-requires (λ c κs. search needs) returns)

@@ -37,20 +37,11 @@ looked c = record {
 cells : (c : tie.Else2) → A (Left (c .before)) .args .r .n ≤ mostCells
 cells c = A (Left (c .before)) .pre .input .road .cells
 
-refused-requires : tie.Need-refused-requires
-refused-requires c κs = search needs
-
 returns : tie.Need-returns
 returns c = ap stepAnswer (c .refused .ensures) ∙ answer-done (Done (c .before) .pre) (omega arith)
 
 releases-requires : tie.Need-releases-requires
 releases-requires c κs = let k = A c .pre .input in (k .road .cells, k .row .numbers)
-
-number-requires : tie.Need-number-requires
-number-requires c κs = search needs
-
-refused-requires-2 : tie.Need-refused-requires-2
-refused-requires-2 c κs = search needs
 
 returns-2 : tie.Need-returns-2
 returns-2 c = let t = c .before in ap stepAnswer (c .refused2 .ensures) ∙ answer-fault (looked (t .before)) (t .if2 .taken)
@@ -77,14 +68,5 @@ pub step-on-spec : {M : Type 1} → statement M
 step-on-spec =
     tie.close
     (tie.spec
-    refused-requires
-    returns
-    releases-requires
-    number-requires
-    refused-requires-2
-    returns-2
-    add-places
-    array-borrow-prefix-y
-    slice-aggregate-next
-    next-requires
-    returns-3)
+    (λ c κs. search needs) returns releases-requires (λ c κs. search needs) (λ c κs. search needs) returns-2 add-places array-borrow-prefix-y
+    slice-aggregate-next next-requires returns-3)

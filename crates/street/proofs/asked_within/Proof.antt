@@ -27,25 +27,16 @@ guaranteed c = sym (c .before .all-within .ensures) ∙ not-false _ (c .if2 .lef
 wished : (c : tie.Else3) → allWithin (A (c .before .before .before .before) .args .wishes .now) mostRate ≡ true
 wished c = sym (c .before .all-within2 .ensures) ∙ not-false _ (c .if3 .left)
 
-frame-within-requires : tie.Need-frame-within-requires
-frame-within-requires c κs = search needs
-
 returns : tie.Need-returns
 returns c =
     let a = c .before .before .before .before .args in
     asked-frame (a .limit) (a .guarantees .now) (a .wishes .now) (a .places) (sym (c .before .frame-within .ensures) ∙ not-true _ (c .if1 .taken))
-
-all-within-requires : tie.Need-all-within-requires
-all-within-requires c κs = search needs
 
 returns-2 : tie.Need-returns-2
 returns-2 c =
     let e = c .before .before in
     let a = A e .args in
     asked-guarantees (a .limit) (a .guarantees .now) (a .wishes .now) (a .places) (framed e) (sym (c .before .all-within .ensures) ∙ not-true _ (c .if2 .taken))
-
-all-within-requires-2 : tie.Need-all-within-requires-2
-all-within-requires-2 c κs = search needs
 
 returns-3 : tie.Need-returns-3
 returns-3 c =
@@ -71,11 +62,4 @@ pub asked-within-spec : {M : Type 1} → statement M
 asked-within-spec =
     tie.close
     (tie.spec
-    frame-within-requires
-    returns
-    all-within-requires
-    returns-2
-    all-within-requires-2
-    returns-3
-    sum-requires
-    returns-4)
+    (λ c κs. search needs) returns (λ c κs. search needs) returns-2 (λ c κs. search needs) returns-3 sum-requires returns-4)

@@ -18,9 +18,6 @@ accepted : (c : tie.Else1) →
     askedOk (a .limit) (a .guarantees .now) (a .wishes .now) (length (a .grants .now)) ≡ true
 accepted c = sym (c .before .asked-within .ensures) ∙ not-false _ (c .if1 .left)
 
-asked-within-requires : tie.Need-asked-within-requires
-asked-within-requires c κs = search needs
-
 returns : tie.Need-returns
 returns c =
     let a = A (c .before) .args in
@@ -34,9 +31,6 @@ share-requires c κs =
     let a = A (e .before) .args in
     asked-limits (a .limit) (a .guarantees .now) (a .wishes .now) _ (accepted e)
 
-same-length : tie.Need-same-length
-same-length c = search needs
-
 returns-2 : tie.Need-returns-2
 returns-2 c =
     let e = c .before .before .before .before in
@@ -47,4 +41,4 @@ returns-2 c =
 
 pub grant-spec : {M : Type 1} → statement M
 grant-spec =
-    tie.close (tie.spec asked-within-requires returns share-requires same-length returns-2)
+    tie.close (tie.spec (λ c κs. search needs) returns share-requires (λ c. search needs) returns-2)

@@ -21,20 +21,8 @@ kept c = copied-length (c .loop .inv)
 loop-holds : tie.Need-loop-holds Inv-loop μ-loop
 loop-holds c = copied-none
 
-mul-part : tie.Need-mul-part Inv-loop μ-loop
-mul-part c = search needs
-
 array-read-part : tie.Need-array-read-part Inv-loop μ-loop
 array-read-part c = omega (arith, kept (c .before), c .before .before .pre)
-
-mul-part-2 : tie.Need-mul-part-2 Inv-loop μ-loop
-mul-part-2 c = search needs
-
-slice-write-part : tie.Need-slice-write-part Inv-loop μ-loop
-slice-write-part c = search needs
-
-add-k : tie.Need-add-k Inv-loop μ-loop
-add-k c = search needs
 
 loop-less : tie.Need-loop-less Inv-loop μ-loop
 loop-less c = omega (arith, kept (c .before))
@@ -52,15 +40,5 @@ pub put-numbers-spec : {M : Type 1} → statement M
 put-numbers-spec =
     tie.close
     (tie.spec
-    Inv-loop
-    μ-loop
-    loop-holds
-    mul-part
-    array-read-part
-    mul-part-2
-    slice-write-part
-    add-k
-    loop-less
-    loop-again
-    same-length
-    returns)
+    Inv-loop μ-loop loop-holds (λ c. search needs) array-read-part (λ c. search needs) (λ c. search needs) (λ c. search needs) loop-less
+    loop-again same-length returns)

@@ -61,12 +61,6 @@ returns-2 c =
     untaken (a .bytes .now) (a .n) (a .steps) (a .list .now)
     (over-steps (a .n) (a .steps) (length (a .list .now)) (c .before .if1 .left) (c .if2 .taken))
 
-mul-numbers : tie.Need-mul-numbers Inv-loop μ-loop
-mul-numbers c = search needs
-
-add-numbers : tie.Need-add-numbers Inv-loop μ-loop
-add-numbers c = search needs
-
 mul-if3 : tie.Need-mul-if3 Inv-loop μ-loop
 mul-if3 c =
     let a = Tested c .args in
@@ -81,20 +75,11 @@ returns-3 c =
 loop-holds : tie.Need-loop-holds Inv-loop μ-loop
 loop-holds c = listed-none
 
-row-requires : tie.Need-row-requires Inv-loop μ-loop
-row-requires c κs = search needs
-
 add-end : tie.Need-add-end Inv-loop μ-loop
 add-end c = omega (arith, small (In c))
 
 mul-put-numbers : tie.Need-mul-put-numbers Inv-loop μ-loop
 mul-put-numbers c = omega (arith, small (In c))
-
-sub-put-numbers : tie.Need-sub-put-numbers Inv-loop μ-loop
-sub-put-numbers c = search needs
-
-part-put-numbers-start : tie.Need-part-put-numbers-start Inv-loop μ-loop
-part-put-numbers-start c = search needs
 
 part-put-numbers-end : tie.Need-part-put-numbers-end Inv-loop μ-loop
 part-put-numbers-end c = omega (arith, fits (In c))
@@ -127,24 +112,6 @@ pub rows-spec : {M : Type 1} → statement M
 rows-spec =
     tie.close
     (tie.spec
-    Inv-loop
-    μ-loop
-    returns
-    returns-2
-    mul-numbers
-    add-numbers
-    mul-if3
-    returns-3
-    loop-holds
-    row-requires
-    add-end
-    mul-put-numbers
-    sub-put-numbers
-    part-put-numbers-start
-    part-put-numbers-end
-    put-numbers-requires
-    add-t
-    loop-less
-    loop-again
-    same-length
+    Inv-loop μ-loop returns returns-2 (λ c. search needs) (λ c. search needs) mul-if3 returns-3 loop-holds (λ c κs. search needs) add-end
+    mul-put-numbers (λ c. search needs) (λ c. search needs) part-put-numbers-end put-numbers-requires add-t loop-less loop-again same-length
     returns-4)

@@ -22,9 +22,6 @@ within c = let a = A c .args in product-fits (a .total) (a .seconds) (some (c .b
 returns : tie.Need-returns
 returns c = let a = c .before .args in no-seconds (a .total) (a .seconds) (c .if1 .taken)
 
-div-if2 : tie.Need-div-if2
-div-if2 c = search needs
-
 returns-2 : tie.Need-returns-2
 returns-2 c = let a = c .before .before .args in far (a .total) (a .seconds) (some (c .before)) (c .if2 .taken)
 
@@ -50,12 +47,4 @@ pub in-seconds-spec : {M : Type 1} → statement M
 in-seconds-spec =
     tie.close
     (tie.spec
-    returns
-    div-if2
-    returns-2
-    mul-product
-    mul-rest
-    sub-if3
-    returns-3
-    add-result
-    returns-4)
+    returns (λ c. search needs) returns-2 mul-product mul-rest sub-if3 returns-3 add-result returns-4)

@@ -6,16 +6,10 @@ use borrow.Author.Needs.{needs}
 use Rattle.timing.proofs.vehicle_seconds.Statement.{statement}
 use Rattle.timing.proofs.vehicle_seconds.Tie as tie
 
-total-requires : tie.Need-total-requires
-total-requires c κs = search needs
-
-in-seconds-requires : tie.Need-in-seconds-requires
-in-seconds-requires c κs = search needs
-
 returns : tie.Need-returns
 returns c =
     let t = c .before in
     c .in-seconds .ensures ∙ ap (λ (total : ℕ). min (total * t .before .args .seconds / 1000) mostLong) (t .total .ensures)
 
 pub vehicle-seconds-spec : {M : Type 1} → statement M
-vehicle-seconds-spec = tie.close (tie.spec total-requires in-seconds-requires returns)
+vehicle-seconds-spec = tie.close (tie.spec (λ c κs. search needs) (λ c κs. search needs) returns)

@@ -31,12 +31,6 @@ before-is c = larger-is (c .larger .ensures) (c .before .before .less2 .ensures)
 earlier : (c : tie.After-larger Inv-loop μ-loop) → L c .loop .k ≡ suc (L c .loop .k - 1)
 earlier c = omega (arith, c .before .before .before .before .loop-test .taken)
 
-inflow-requires : tie.Need-inflow-requires Inv-loop μ-loop
-inflow-requires c κs = search needs
-
-less-requires : tie.Need-less-requires Inv-loop μ-loop
-less-requires c κs = search needs
-
 sub-k : tie.Need-sub-k Inv-loop μ-loop
 sub-k c = omega (arith, c .before .before .before .before .pre .0 .some)
 
@@ -45,44 +39,14 @@ loop-holds c =
     let p = c .before .before .before .before .pre in
     filled-none (p .0) (p .1) (c .before .inflow .ensures) (c .less .ensures) refl
 
-mul-total : tie.Need-mul-total Inv-loop μ-loop
-mul-total c = search needs
-
-shared-slice-read-total : tie.Need-shared-slice-read-total Inv-loop μ-loop
-shared-slice-read-total c = search needs
-
 sub-total : tie.Need-sub-total Inv-loop μ-loop
 sub-total c = arrival-fits (c .before .before .loop .inv)
-
-less-requires-2 : tie.Need-less-requires-2 Inv-loop μ-loop
-less-requires-2 c κs = search needs
-
-less-requires-3 : tie.Need-less-requires-3 Inv-loop μ-loop
-less-requires-3 c κs = search needs
-
-larger-requires : tie.Need-larger-requires Inv-loop μ-loop
-larger-requires c κs = search needs
 
 sub-table : tie.Need-sub-table Inv-loop μ-loop
 sub-table c = before-fits (L c .loop .inv) _ (earlier c) refl (before-is c)
 
-mul-table : tie.Need-mul-table Inv-loop μ-loop
-mul-table c = search needs
-
-slice-write-table : tie.Need-slice-write-table Inv-loop μ-loop
-slice-write-table c = search needs
-
-sub-k-2 : tie.Need-sub-k-2 Inv-loop μ-loop
-sub-k-2 c = search needs
-
-loop-less : tie.Need-loop-less Inv-loop μ-loop
-loop-less c = search needs
-
 loop-again : tie.Need-loop-again Inv-loop μ-loop
 loop-again c = filled-more (L c .loop .inv) _ (earlier c) refl (before-is c)
-
-slice-write-table-2 : tie.Need-slice-write-table-2 Inv-loop μ-loop
-slice-write-table-2 c = search needs
 
 same-length : tie.Need-same-length Inv-loop μ-loop
 same-length c = simp length-set (c .before .loop .inv .same ∙ sym (A (c .before) .pre .1))
@@ -94,24 +58,6 @@ pub fill-spec : {M : Type 1} → statement M
 fill-spec =
     tie.close
     (tie.spec
-    Inv-loop
-    μ-loop
-    inflow-requires
-    less-requires
-    sub-k
-    loop-holds
-    mul-total
-    shared-slice-read-total
-    sub-total
-    less-requires-2
-    less-requires-3
-    larger-requires
-    sub-table
-    mul-table
-    slice-write-table
-    sub-k-2
-    loop-less
-    loop-again
-    slice-write-table-2
-    same-length
-    returns)
+    Inv-loop μ-loop (λ c κs. search needs) (λ c κs. search needs) sub-k loop-holds (λ c. search needs) (λ c. search needs) sub-total
+    (λ c κs. search needs) (λ c κs. search needs) (λ c κs. search needs) sub-table (λ c. search needs) (λ c. search needs)
+    (λ c. search needs) (λ c. search needs) loop-again (λ c. search needs) same-length returns)

@@ -40,18 +40,12 @@ asked c =
     let a = A (e .before) .args in
     asked-limits (a .start) (a .ceiling) (a .rate) (a .arrivals .now) (length (a .table .now)) (both-true _ _ (framed e) (arrive c))
 
-frame-within-requires : tie.Need-frame-within-requires
-frame-within-requires c κs = search needs
-
 returns : tie.Need-returns
 returns c =
     let a = A (c .before) .args in
     let n = sym (c .before .frame-within .ensures) ∙ not-true _ (c .if1 .taken) in
     let e = ends-frame (a .start) (a .ceiling) (a .rate) (a .arrivals .now) (a .table .now) n in
     (e .says, e .leaves)
-
-all-within-requires : tie.Need-all-within-requires
-all-within-requires c κs = search needs
 
 returns-2 : tie.Need-returns-2
 returns-2 c =
@@ -76,9 +70,6 @@ returns-3 c =
 fill-requires : tie.Need-fill-requires
 fill-requires c κs = let q = asked (arrived-at (c .before .before)) in (q .limits, q .same)
 
-same-length : tie.Need-same-length
-same-length c = search needs
-
 returns-4 : tie.Need-returns-4
 returns-4 c =
     let p = c .before .before .before .before in
@@ -93,12 +84,4 @@ pub wanted-spec : {M : Type 1} → statement M
 wanted-spec =
     tie.close
     (tie.spec
-    frame-within-requires
-    returns
-    all-within-requires
-    returns-2
-    possible-requires
-    returns-3
-    fill-requires
-    same-length
-    returns-4)
+    (λ c κs. search needs) returns (λ c κs. search needs) returns-2 possible-requires returns-3 fill-requires (λ c. search needs) returns-4)

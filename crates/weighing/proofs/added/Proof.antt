@@ -5,9 +5,6 @@ use borrow.Author.Needs.{needs}
 use Rattle.weighing.proofs.added.Statement.{statement}
 use Rattle.weighing.proofs.added.Tie as tie
 
-weighed-places-requires : tie.Need-weighed-places-requires
-weighed-places-requires c κs = search needs
-
 add-result : tie.Need-add-result
 add-result c = omega (arith, c .weighed-places .ensures .1, c .before .before .pre .0)
 
@@ -20,4 +17,4 @@ returns-2 : tie.Need-returns-2
 returns-2 c = (λ s h. added-none (c .before .args .total) _ (c .if1 .left), omega arith)
 
 pub added-spec : {M : Type 1} → statement M
-added-spec = tie.close (tie.spec weighed-places-requires add-result returns returns-2)
+added-spec = tie.close (tie.spec (λ c κs. search needs) add-result returns returns-2)

@@ -16,30 +16,6 @@ abbrev μ-loop : tie.MeasureT-loop
 loop-holds : tie.Need-loop-holds Inv-loop μ-loop
 loop-holds c = summed-none
 
-add-weighed : tie.Need-add-weighed Inv-loop μ-loop
-add-weighed c = search needs
-
-shared-slice-read-weighed : tie.Need-shared-slice-read-weighed Inv-loop μ-loop
-shared-slice-read-weighed c = search needs
-
-mul-weighed : tie.Need-mul-weighed Inv-loop μ-loop
-mul-weighed c = search needs
-
-shared-slice-read-weighed-2 : tie.Need-shared-slice-read-weighed-2 Inv-loop μ-loop
-shared-slice-read-weighed-2 c = search needs
-
-weighed-requires : tie.Need-weighed-requires Inv-loop μ-loop
-weighed-requires c κs = search needs
-
-add-sum : tie.Need-add-sum Inv-loop μ-loop
-add-sum c = search needs
-
-add-i : tie.Need-add-i Inv-loop μ-loop
-add-i c = search needs
-
-loop-less : tie.Need-loop-less Inv-loop μ-loop
-loop-less c = search needs
-
 loop-again : tie.Need-loop-again Inv-loop μ-loop
 loop-again c = let i = c .before .before .before in summed-more (i .before .loop .inv) (i .loop-test .taken) (c .weighed .ensures .0) (c .weighed .ensures .1)
 
@@ -50,16 +26,5 @@ pub weighed-cells-spec : {M : Type 1} → statement M
 weighed-cells-spec =
     tie.close
     (tie.spec
-    Inv-loop
-    μ-loop
-    loop-holds
-    add-weighed
-    shared-slice-read-weighed
-    mul-weighed
-    shared-slice-read-weighed-2
-    weighed-requires
-    add-sum
-    add-i
-    loop-less
-    loop-again
-    returns)
+    Inv-loop μ-loop loop-holds (λ c. search needs) (λ c. search needs) (λ c. search needs) (λ c. search needs) (λ c κs. search needs)
+    (λ c. search needs) (λ c. search needs) (λ c. search needs) loop-again returns)

@@ -12,24 +12,6 @@ A c = c .before .before
 abbrev to-gate : tie.After-weighed-cells → tie.After-weighed
 to-gate c = c .before .before .before
 
-element-copy-out-weighed : tie.Need-element-copy-out-weighed
-element-copy-out-weighed c = search needs
-
-weighed-requires : tie.Need-weighed-requires
-weighed-requires c κs = search needs
-
-weighed-cells-requires : tie.Need-weighed-cells-requires
-weighed-cells-requires c κs = search needs
-
-weighed-cells-requires-2 : tie.Need-weighed-cells-requires-2
-weighed-cells-requires-2 c κs = search needs
-
-add-result : tie.Need-add-result
-add-result c = search needs
-
-add-result-2 : tie.Need-add-result-2
-add-result-2 c = search needs
-
 returns : tie.Need-returns
 returns c =
     let r = c .before .before .before in
@@ -43,10 +25,4 @@ pub weighed-places-spec : {M : Type 1} → statement M
 weighed-places-spec =
     tie.close
     (tie.spec
-    element-copy-out-weighed
-    weighed-requires
-    weighed-cells-requires
-    weighed-cells-requires-2
-    add-result
-    add-result-2
-    returns)
+    (λ c. search needs) (λ c κs. search needs) (λ c κs. search needs) (λ c κs. search needs) (λ c. search needs) (λ c. search needs) returns)

@@ -24,12 +24,6 @@ to-weights c = c .before .before .before
 abbrev to-cells : tie.After-weights → tie.After-cells
 to-cells c = c .before .before .before .before
 
-cells-requires : tie.Need-cells-requires
-cells-requires c κs = search needs
-
-weighed-places-requires : tie.Need-weighed-places-requires
-weighed-places-requires c κs = search needs
-
 returns : tie.Need-returns
 returns c =
     let k = to-cells (to-weights c) in
@@ -41,4 +35,4 @@ returns c =
     ∙ weighted-min w u (a .r .n) (a .t2) (held (k .before)) (queue (k .before))
 
 pub weighted-spec : {M : Type 1} → statement M
-weighted-spec = tie.close (tie.spec cells-requires weighed-places-requires returns)
+weighted-spec = tie.close (tie.spec (λ c κs. search needs) (λ c κs. search needs) returns)

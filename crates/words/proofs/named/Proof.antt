@@ -9,17 +9,8 @@ use Rattle.words.proofs.named.Tie as tie
 abbrev Name : tie.After-word → tie.After-put
 Name c = c .before .before .before .before
 
-put-requires : tie.Need-put-requires
-put-requires c κs = search needs
-
-word-requires : tie.Need-word-requires
-word-requires c κs = search needs
-
-same-length : tie.Need-same-length
-same-length c = search needs
-
 returns : tie.Need-returns
 returns c = named-put (Text.put (Name (c .before .before) .put .ensures)) (Word.put (c .before .before .word .ensures))
 
 pub named-spec : {M : Type 1} → statement M
-named-spec = tie.close (tie.spec put-requires word-requires same-length returns)
+named-spec = tie.close (tie.spec (λ c κs. search needs) (λ c κs. search needs) (λ c. search needs) returns)

@@ -29,29 +29,14 @@ made c =
     let e = c .decimal .ensures in
     record { fewest = e .1 .0; few = decimal-most _ _ h (e .1 .0); made = e .1 .1; count = sym (e .0 .1) }
 
-decimal-requires : tie.Need-decimal-requires
-decimal-requires c κs = search needs
-
-array-share-prefix-digits : tie.Need-array-share-prefix-digits
-array-share-prefix-digits c = search needs
-
-slice-aggregate-put : tie.Need-slice-aggregate-put
-slice-aggregate-put c = search needs
-
 put-requires : tie.Need-put-requires
 put-requires c κs = let d = made (Digits c) in omega (arith, d .few, d .count)
-
-slice-aggregate-put-2 : tie.Need-slice-aggregate-put-2
-slice-aggregate-put-2 c = search needs
 
 put-requires-2 : tie.Need-put-requires-2
 put-requires-2 c κs =
     let d = made (Digits (Front c .before)) in
     let z = text-room (Text.put (Front c .put .ensures)) in
     omega (arith, d .few, d .count, z .end, z .same)
-
-same-length : tie.Need-same-length
-same-length c = search needs
 
 returns : tie.Need-returns
 returns c =
@@ -62,11 +47,4 @@ pub word-spec : {M : Type 1} → statement M
 word-spec =
     tie.close
     (tie.spec
-    decimal-requires
-    array-share-prefix-digits
-    slice-aggregate-put
-    put-requires
-    slice-aggregate-put-2
-    put-requires-2
-    same-length
-    returns)
+    (λ c κs. search needs) (λ c. search needs) (λ c. search needs) put-requires (λ c. search needs) put-requires-2 (λ c. search needs) returns)

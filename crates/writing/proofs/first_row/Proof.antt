@@ -47,12 +47,6 @@ turn c =
       test = c .row-within .ensures;
     }
 
-mul-numbers : tie.Need-mul-numbers Inv-loop μ-loop
-mul-numbers c = search needs
-
-add-numbers : tie.Need-add-numbers Inv-loop μ-loop
-add-numbers c = search needs
-
 loop-holds : tie.Need-loop-holds Inv-loop μ-loop
 loop-holds c = passed-none
 
@@ -61,12 +55,6 @@ add-end c = omega (arith, fits c)
 
 mul-row-within : tie.Need-mul-row-within Inv-loop μ-loop
 mul-row-within c = omega (arith, fits c)
-
-sub-row-within : tie.Need-sub-row-within Inv-loop μ-loop
-sub-row-within c = search needs
-
-part-row-within-start : tie.Need-part-row-within-start Inv-loop μ-loop
-part-row-within-start c = search needs
 
 part-row-within-end : tie.Need-part-row-within-end Inv-loop μ-loop
 part-row-within-end c = omega (arith, fits c)
@@ -80,12 +68,6 @@ row-within-requires c κs =
 returns : tie.Need-returns Inv-loop μ-loop
 returns c = passed-stop (turn (c .before)) (not-true _ (c .if1 .taken))
 
-add-t : tie.Need-add-t Inv-loop μ-loop
-add-t c = search needs
-
-loop-less : tie.Need-loop-less Inv-loop μ-loop
-loop-less c = search needs
-
 loop-again : tie.Need-loop-again Inv-loop μ-loop
 loop-again c = passed-more (turn (c .before)) (not-false _ (c .if1 .left))
 
@@ -96,19 +78,5 @@ pub first-row-spec : {M : Type 1} → statement M
 first-row-spec =
     tie.close
     (tie.spec
-    Inv-loop
-    μ-loop
-    mul-numbers
-    add-numbers
-    loop-holds
-    add-end
-    mul-row-within
-    sub-row-within
-    part-row-within-start
-    part-row-within-end
-    row-within-requires
-    returns
-    add-t
-    loop-less
-    loop-again
-    returns-2)
+    Inv-loop μ-loop (λ c. search needs) (λ c. search needs) loop-holds add-end mul-row-within (λ c. search needs) (λ c. search needs)
+    part-row-within-end row-within-requires returns (λ c. search needs) (λ c. search needs) loop-again returns-2)

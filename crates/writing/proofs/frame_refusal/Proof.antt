@@ -49,17 +49,11 @@ timed c = sym (c .before .seconds-within .ensures) ∙ not-false _ (c .if3 .left
 within : (c : tie.Else4) → let a = D (c .before) .args in sizeOf (a .version) (a .n) (a .steps) ≤ mostBytes
 within c = omega (arith, c .before .row-start .ensures, c .if4 .left)
 
-version-known-requires : tie.Need-version-known-requires
-version-known-requires c κs = search needs
-
 returns : tie.Need-returns
 returns c =
     let t = c .before in
     let a = A t .args in
     frame-version (a .version) (a .seconds) (a .n) (a .steps) (a .numbers) (sym (t .version-known .ensures) ∙ not-true _ (c .if1 .taken))
-
-cells-and-steps-within-requires : tie.Need-cells-and-steps-within-requires
-cells-and-steps-within-requires c κs = search needs
 
 returns-2 : tie.Need-returns-2
 returns-2 c =
@@ -67,9 +61,6 @@ returns-2 c =
     let a = B t .args in
     frame-counts (a .version) (a .seconds) (a .n) (a .steps) (a .numbers) (known (Known t))
     (sym (t .cells-and-steps-within .ensures) ∙ not-true _ (c .if2 .taken))
-
-seconds-within-requires : tie.Need-seconds-within-requires
-seconds-within-requires c κs = search needs
 
 returns-3 : tie.Need-returns-3
 returns-3 c =
@@ -93,15 +84,6 @@ returns-4 c =
     frame-size (a .version) (a .seconds) (a .n) (a .steps) (a .numbers) (known (Known (k .before))) (counted k) (timed q)
     (omega (arith, r .row-start .ensures, c .if4 .taken))
 
-mul-if5 : tie.Need-mul-if5
-mul-if5 c = search needs
-
-add-if5 : tie.Need-add-if5
-add-if5 c = search needs
-
-mul-if5-2 : tie.Need-mul-if5-2
-mul-if5-2 c = search needs
-
 returns-5 : tie.Need-returns-5
 returns-5 c =
     let w = c .before in
@@ -122,16 +104,5 @@ pub frame-refusal-spec : {M : Type 1} → statement M
 frame-refusal-spec =
     tie.close
     (tie.spec
-    version-known-requires
-    returns
-    cells-and-steps-within-requires
-    returns-2
-    seconds-within-requires
-    returns-3
-    row-start-requires
-    returns-4
-    mul-if5
-    add-if5
-    mul-if5-2
-    returns-5
-    returns-6)
+    (λ c κs. search needs) returns (λ c κs. search needs) returns-2 (λ c κs. search needs) returns-3 row-start-requires returns-4
+    (λ c. search needs) (λ c. search needs) (λ c. search needs) returns-5 returns-6)

@@ -28,15 +28,6 @@ passed c =
     let z : refusalNumber (Checked c .checked .result .refusal) ≡ 0 = search needs in
     sym (number (Checked c)) ∙ z
 
-checked-requires : tie.Need-checked-requires
-checked-requires c κs = search needs
-
-number-requires : tie.Need-number-requires
-number-requires c κs = search needs
-
-same-length : tie.Need-same-length
-same-length c = search needs
-
 returns : tie.Need-returns
 returns c =
     let k = c .before .before in
@@ -50,9 +41,6 @@ put-record-requires c κs =
     let a = A (Checked (c .before)) .args in
     fits (a .road) (a .steps) (a .start) (a .rows .now) (a .target .now) (passed (c .before))
 
-same-length-2 : tie.Need-same-length-2
-same-length-2 c = search needs
-
 returns-2 : tie.Need-returns-2
 returns-2 c =
     let p = c .before .before in
@@ -65,10 +53,4 @@ pub write-spec : {M : Type 1} → statement M
 write-spec =
     tie.close
     (tie.spec
-    checked-requires
-    number-requires
-    same-length
-    returns
-    put-record-requires
-    same-length-2
-    returns-2)
+    (λ c κs. search needs) (λ c κs. search needs) (λ c. search needs) returns put-record-requires (λ c. search needs) returns-2)

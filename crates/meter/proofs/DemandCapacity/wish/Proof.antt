@@ -11,12 +11,6 @@ A c = c .before .before
 abbrev UpTo : tie.After-struct-known2 → tie.Then1
 UpTo c = c .before .before
 
-int-to-float-if1 : tie.Need-int-to-float-if1
-int-to-float-if1 c = search needs
-
-int-to-float-result : tie.Need-int-to-float-result
-int-to-float-result c = search needs
-
 returns : tie.Need-returns
 returns c = let t = UpTo c in let a = A (t .before) .args in up-to-critical (a .self) (a .entered) (a .held) (t .if1 .taken)
 
@@ -24,4 +18,4 @@ returns-2 : tie.Need-returns-2
 returns-2 c = let a = A (c .before) .args in above-critical (a .self) (a .entered) (a .held) (c .if1 .left)
 
 pub wish-spec : {M : Type 1} → statement M
-wish-spec = tie.close (tie.spec int-to-float-if1 int-to-float-result returns returns-2)
+wish-spec = tie.close (tie.spec (λ c. search needs) (λ c. search needs) returns returns-2)

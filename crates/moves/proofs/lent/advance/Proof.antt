@@ -85,56 +85,14 @@ counts c =
     let k = A p .pre in
     countable (k .movable) (k .left) (moved-end (p .loop .inv (k .road)) (c .loop-test .left))
 
-shared-slice-read-first : tie.Need-shared-slice-read-first Inv-loop μ-loop
-shared-slice-read-first c = search needs
-
-shared-slice-read-waiting : tie.Need-shared-slice-read-waiting Inv-loop μ-loop
-shared-slice-read-waiting c = search needs
-
 add-waiting : tie.Need-add-waiting Inv-loop μ-loop
 add-waiting c = omega (arith, known-gate c)
 
 sub-waiting : tie.Need-sub-waiting Inv-loop μ-loop
 sub-waiting c = omega (arith, known-gate c)
 
-entering-requires : tie.Need-entering-requires Inv-loop μ-loop
-entering-requires c κs = search needs
-
 loop-holds : tie.Need-loop-holds Inv-loop μ-loop
 loop-holds c = λ r. moved-none (c .entering .ensures)
-
-mul-release : tie.Need-mul-release Inv-loop μ-loop
-mul-release c = search needs
-
-add-release : tie.Need-add-release Inv-loop μ-loop
-add-release c = search needs
-
-mul-release-2 : tie.Need-mul-release-2 Inv-loop μ-loop
-mul-release-2 c = search needs
-
-shared-slice-read-release : tie.Need-shared-slice-read-release Inv-loop μ-loop
-shared-slice-read-release c = search needs
-
-add-outflow : tie.Need-add-outflow Inv-loop μ-loop
-add-outflow c = search needs
-
-mul-outflow : tie.Need-mul-outflow Inv-loop μ-loop
-mul-outflow c = search needs
-
-shared-slice-read-outflow : tie.Need-shared-slice-read-outflow Inv-loop μ-loop
-shared-slice-read-outflow c = search needs
-
-mul-before : tie.Need-mul-before Inv-loop μ-loop
-mul-before c = search needs
-
-element-copy-out-before : tie.Need-element-copy-out-before Inv-loop μ-loop
-element-copy-out-before c = search needs
-
-mul-held : tie.Need-mul-held Inv-loop μ-loop
-mul-held c = search needs
-
-element-copy-out-held : tie.Need-element-copy-out-held Inv-loop μ-loop
-element-copy-out-held c = search needs
 
 cast-held : tie.Need-cast-held Inv-loop μ-loop
 cast-held c = omega (arith, known (Held c))
@@ -148,29 +106,8 @@ add-held-2 c = omega (arith, known (Held c), held-here (Held c))
 sub-held : tie.Need-sub-held Inv-loop μ-loop
 sub-held c = omega (arith, known (Held c), held-here (Held c))
 
-mul-held-2 : tie.Need-mul-held-2 Inv-loop μ-loop
-mul-held-2 c = search needs
-
-element-write-held : tie.Need-element-write-held Inv-loop μ-loop
-element-write-held c = search needs
-
-mul-queue : tie.Need-mul-queue Inv-loop μ-loop
-mul-queue c = search needs
-
-element-copy-out-queue : tie.Need-element-copy-out-queue Inv-loop μ-loop
-element-copy-out-queue c = search needs
-
-mul-queue-2 : tie.Need-mul-queue-2 Inv-loop μ-loop
-mul-queue-2 c = search needs
-
 add-queue : tie.Need-add-queue Inv-loop μ-loop
 add-queue c = omega (arith, known (Queue c))
-
-mul-queue-3 : tie.Need-mul-queue-3 Inv-loop μ-loop
-mul-queue-3 c = search needs
-
-shared-slice-read-queue : tie.Need-shared-slice-read-queue Inv-loop μ-loop
-shared-slice-read-queue c = search needs
 
 add-queue-2 : tie.Need-add-queue-2 Inv-loop μ-loop
 add-queue-2 c = omega (arith, known (Cumulative c), queue-here (Cumulative c))
@@ -178,50 +115,14 @@ add-queue-2 c = omega (arith, known (Cumulative c), queue-here (Cumulative c))
 sub-queue : tie.Need-sub-queue Inv-loop μ-loop
 sub-queue c = omega (arith, known (Cumulative c), queue-here (Cumulative c))
 
-mul-queue-4 : tie.Need-mul-queue-4 Inv-loop μ-loop
-mul-queue-4 c = search needs
-
-element-write-queue : tie.Need-element-write-queue Inv-loop μ-loop
-element-write-queue c = search needs
-
 add-cumulative : tie.Need-add-cumulative Inv-loop μ-loop
 add-cumulative c = omega (arith, known (Cumulative c), cumulative-here (Cumulative c))
-
-mul-cumulative : tie.Need-mul-cumulative Inv-loop μ-loop
-mul-cumulative c = search needs
-
-element-write-cumulative : tie.Need-element-write-cumulative Inv-loop μ-loop
-element-write-cumulative c = search needs
-
-mul-entering : tie.Need-mul-entering Inv-loop μ-loop
-mul-entering c = search needs
-
-element-copy-out-entering : tie.Need-element-copy-out-entering Inv-loop μ-loop
-element-copy-out-entering c = search needs
-
-entering-requires-2 : tie.Need-entering-requires-2 Inv-loop μ-loop
-entering-requires-2 c κs = search needs
-
-add-i : tie.Need-add-i Inv-loop μ-loop
-add-i c = search needs
-
-loop-less : tie.Need-loop-less Inv-loop μ-loop
-loop-less c = search needs
 
 loop-again : tie.Need-loop-again Inv-loop μ-loop
 loop-again c = let t = Turn-end c in λ r. moved-there (t .before .loop .inv r) (t .loop-test .taken) (c .entering2 .ensures)
 
-first-sum-requires : tie.Need-first-sum-requires Inv-loop μ-loop
-first-sum-requires c κs = search needs
-
-first-sum-requires-2 : tie.Need-first-sum-requires-2 Inv-loop μ-loop
-first-sum-requires-2 c κs = search needs
-
 add-t55 : tie.Need-add-t55 Inv-loop μ-loop
 add-t55 c = omega (arith, counts (End (c .before)))
-
-wide-requires : tie.Need-wide-requires Inv-loop μ-loop
-wide-requires c κs = search needs
 
 add-t57 : tie.Need-add-t57 Inv-loop μ-loop
 add-t57 c = let w = c .before in omega (arith, counts (End (Sums w)), w .wide .ensures)
@@ -245,56 +146,10 @@ pub advance-spec : {M : Type 1} → statement M
 advance-spec =
     tie.close
     (tie.spec
-    Inv-loop
-    μ-loop
-    shared-slice-read-first
-    shared-slice-read-waiting
-    add-waiting
-    sub-waiting
-    entering-requires
-    loop-holds
-    mul-release
-    add-release
-    mul-release-2
-    shared-slice-read-release
-    add-outflow
-    mul-outflow
-    shared-slice-read-outflow
-    mul-before
-    element-copy-out-before
-    mul-held
-    element-copy-out-held
-    cast-held
-    add-held
-    add-held-2
-    sub-held
-    mul-held-2
-    element-write-held
-    mul-queue
-    element-copy-out-queue
-    mul-queue-2
-    add-queue
-    mul-queue-3
-    shared-slice-read-queue
-    add-queue-2
-    sub-queue
-    mul-queue-4
-    element-write-queue
-    add-cumulative
-    mul-cumulative
-    element-write-cumulative
-    mul-entering
-    element-copy-out-entering
-    entering-requires-2
-    add-i
-    loop-less
-    loop-again
-    first-sum-requires
-    first-sum-requires-2
-    add-t55
-    wide-requires
-    add-t57
-    add-t58
-    add-t59
-    add-t19
-    returns)
+    Inv-loop μ-loop (λ c. search needs) (λ c. search needs) add-waiting sub-waiting (λ c κs. search needs) loop-holds (λ c. search needs)
+    (λ c. search needs) (λ c. search needs) (λ c. search needs) (λ c. search needs) (λ c. search needs) (λ c. search needs) (λ c. search needs)
+    (λ c. search needs) (λ c. search needs) (λ c. search needs) cast-held add-held add-held-2 sub-held (λ c. search needs) (λ c. search needs)
+    (λ c. search needs) (λ c. search needs) (λ c. search needs) add-queue (λ c. search needs) (λ c. search needs) add-queue-2 sub-queue
+    (λ c. search needs) (λ c. search needs) add-cumulative (λ c. search needs) (λ c. search needs) (λ c. search needs) (λ c. search needs)
+    (λ c κs. search needs) (λ c. search needs) (λ c. search needs) loop-again (λ c κs. search needs) (λ c κs. search needs) add-t55
+    (λ c κs. search needs) add-t57 add-t58 add-t59 add-t19 returns)

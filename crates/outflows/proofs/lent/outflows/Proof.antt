@@ -35,65 +35,8 @@ Outflow c = c .before .before .before .before .before .before
 abbrev Turn : tie.After-demand Inv-loop μ-loop → tie.In-loop Inv-loop μ-loop
 Turn c = Outflow c .before .before
 
-gate-demand-requires : tie.Need-gate-demand-requires Inv-loop μ-loop
-gate-demand-requires c κs = search needs
-
 loop-holds : tie.Need-loop-holds Inv-loop μ-loop
 loop-holds c = (Gate c .pre .1, λ r l queue row rooms. filled-none (c .gate-demand .ensures) (Gate c .pre .1))
-
-mul-outflow : tie.Need-mul-outflow Inv-loop μ-loop
-mul-outflow c = search needs
-
-element-copy-out-outflow : tie.Need-element-copy-out-outflow Inv-loop μ-loop
-element-copy-out-outflow c = search needs
-
-outflow-requires : tie.Need-outflow-requires Inv-loop μ-loop
-outflow-requires c κs = search needs
-
-mul-y : tie.Need-mul-y Inv-loop μ-loop
-mul-y c = search needs
-
-slice-write-y : tie.Need-slice-write-y Inv-loop μ-loop
-slice-write-y c = search needs
-
-mul-part : tie.Need-mul-part Inv-loop μ-loop
-mul-part c = search needs
-
-element-copy-out-part : tie.Need-element-copy-out-part Inv-loop μ-loop
-element-copy-out-part c = search needs
-
-mul-before : tie.Need-mul-before Inv-loop μ-loop
-mul-before c = search needs
-
-element-copy-out-before : tie.Need-element-copy-out-before Inv-loop μ-loop
-element-copy-out-before c = search needs
-
-mul-demand : tie.Need-mul-demand Inv-loop μ-loop
-mul-demand c = search needs
-
-element-copy-out-demand : tie.Need-element-copy-out-demand Inv-loop μ-loop
-element-copy-out-demand c = search needs
-
-mul-demand-2 : tie.Need-mul-demand-2 Inv-loop μ-loop
-mul-demand-2 c = search needs
-
-element-copy-out-demand-2 : tie.Need-element-copy-out-demand-2 Inv-loop μ-loop
-element-copy-out-demand-2 c = search needs
-
-mul-demand-3 : tie.Need-mul-demand-3 Inv-loop μ-loop
-mul-demand-3 c = search needs
-
-element-copy-out-demand-3 : tie.Need-element-copy-out-demand-3 Inv-loop μ-loop
-element-copy-out-demand-3 c = search needs
-
-demand-requires : tie.Need-demand-requires Inv-loop μ-loop
-demand-requires c κs = search needs
-
-add-i : tie.Need-add-i Inv-loop μ-loop
-add-i c = search needs
-
-loop-less : tie.Need-loop-less Inv-loop μ-loop
-loop-less c = search needs
 
 loop-again : tie.Need-loop-again Inv-loop μ-loop
 loop-again c =
@@ -102,12 +45,6 @@ loop-again c =
       λ r l queue row rooms. filled-more (t .before .loop .inv .1 r l queue row rooms) (t .loop-test .taken) (rooms (t .before .loop .i) (t .loop-test .taken))
           (Outflow c .outflow .ensures) (c .demand .ensures),
     )
-
-mul-y-2 : tie.Need-mul-y-2 Inv-loop μ-loop
-mul-y-2 c = search needs
-
-slice-write-y-2 : tie.Need-slice-write-y-2 Inv-loop μ-loop
-slice-write-y-2 c = search needs
 
 same-length : tie.Need-same-length Inv-loop μ-loop
 same-length c = simp length-set (c .before .loop .inv .0 ∙ sym (A (c .before) .pre .1))
@@ -119,30 +56,7 @@ pub outflows-spec : {M : Type 1} → statement M
 outflows-spec =
     tie.close
     (tie.spec
-    Inv-loop
-    μ-loop
-    gate-demand-requires
-    loop-holds
-    mul-outflow
-    element-copy-out-outflow
-    outflow-requires
-    mul-y
-    slice-write-y
-    mul-part
-    element-copy-out-part
-    mul-before
-    element-copy-out-before
-    mul-demand
-    element-copy-out-demand
-    mul-demand-2
-    element-copy-out-demand-2
-    mul-demand-3
-    element-copy-out-demand-3
-    demand-requires
-    add-i
-    loop-less
-    loop-again
-    mul-y-2
-    slice-write-y-2
-    same-length
-    returns)
+    Inv-loop μ-loop (λ c κs. search needs) loop-holds (λ c. search needs) (λ c. search needs) (λ c κs. search needs) (λ c. search needs)
+    (λ c. search needs) (λ c. search needs) (λ c. search needs) (λ c. search needs) (λ c. search needs) (λ c. search needs) (λ c. search needs)
+    (λ c. search needs) (λ c. search needs) (λ c. search needs) (λ c. search needs) (λ c κs. search needs) (λ c. search needs)
+    (λ c. search needs) loop-again (λ c. search needs) (λ c. search needs) same-length returns)

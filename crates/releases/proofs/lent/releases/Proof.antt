@@ -55,96 +55,12 @@ turn c r l cumulative = record {
 loop-holds : tie.Need-loop-holds Inv-loop μ-loop
 loop-holds c = (c .before .pre .1 .1, λ r l cumulative. (fitted-none, roomed-none))
 
-mul-release : tie.Need-mul-release Inv-loop μ-loop
-mul-release c = search needs
-
-add-release : tie.Need-add-release Inv-loop μ-loop
-add-release c = search needs
-
-mul-release-2 : tie.Need-mul-release-2 Inv-loop μ-loop
-mul-release-2 c = search needs
-
-shared-slice-read-release : tie.Need-shared-slice-read-release Inv-loop μ-loop
-shared-slice-read-release c = search needs
-
-mul-supply : tie.Need-mul-supply Inv-loop μ-loop
-mul-supply c = search needs
-
-element-copy-out-supply : tie.Need-element-copy-out-supply Inv-loop μ-loop
-element-copy-out-supply c = search needs
-
-mul-supply-2 : tie.Need-mul-supply-2 Inv-loop μ-loop
-mul-supply-2 c = search needs
-
-element-copy-out-supply-2 : tie.Need-element-copy-out-supply-2 Inv-loop μ-loop
-element-copy-out-supply-2 c = search needs
-
-mul-supply-3 : tie.Need-mul-supply-3 Inv-loop μ-loop
-mul-supply-3 c = search needs
-
-element-copy-out-supply-3 : tie.Need-element-copy-out-supply-3 Inv-loop μ-loop
-element-copy-out-supply-3 c = search needs
-
-mul-supply-4 : tie.Need-mul-supply-4 Inv-loop μ-loop
-mul-supply-4 c = search needs
-
-element-copy-out-supply-4 : tie.Need-element-copy-out-supply-4 Inv-loop μ-loop
-element-copy-out-supply-4 c = search needs
-
-supply-requires : tie.Need-supply-requires Inv-loop μ-loop
-supply-requires c κs = search needs
-
-mul-most-release : tie.Need-mul-most-release Inv-loop μ-loop
-mul-most-release c = search needs
-
-element-copy-out-most-release : tie.Need-element-copy-out-most-release Inv-loop μ-loop
-element-copy-out-most-release c = search needs
-
-mul-most-release-2 : tie.Need-mul-most-release-2 Inv-loop μ-loop
-mul-most-release-2 c = search needs
-
-add-most-release : tie.Need-add-most-release Inv-loop μ-loop
-add-most-release c = search needs
-
-mul-most-release-3 : tie.Need-mul-most-release-3 Inv-loop μ-loop
-mul-most-release-3 c = search needs
-
-shared-slice-read-most-release : tie.Need-shared-slice-read-most-release Inv-loop μ-loop
-shared-slice-read-most-release c = search needs
-
-most-release-requires : tie.Need-most-release-requires Inv-loop μ-loop
-most-release-requires c κs = search needs
-
-release-refusal-requires : tie.Need-release-refusal-requires Inv-loop μ-loop
-release-refusal-requires c κs = search needs
-
-number-requires : tie.Need-number-requires Inv-loop μ-loop
-number-requires c κs = search needs
-
-add-t36 : tie.Need-add-t36 Inv-loop μ-loop
-add-t36 c = search needs
-
 returns : tie.Need-returns Inv-loop μ-loop
 returns c =
     let m = c .before in (
       λ r l cumulative. fitted-fault (turn (m .before) r l cumulative) (λ z. c .if1 .taken (m .number .ensures ∙ z)),
       (λ r l cumulative z. absurd (c .if1 .taken (m .number .ensures ∙ z)), In (Supply (Most (m .before))) .before .loop .inv .0),
     )
-
-room-requires : tie.Need-room-requires Inv-loop μ-loop
-room-requires c κs = search needs
-
-mul-room : tie.Need-mul-room Inv-loop μ-loop
-mul-room c = search needs
-
-element-write-room : tie.Need-element-write-room Inv-loop μ-loop
-element-write-room c = search needs
-
-add-i : tie.Need-add-i Inv-loop μ-loop
-add-i c = search needs
-
-loop-less : tie.Need-loop-less Inv-loop μ-loop
-loop-less c = search needs
 
 loop-again : tie.Need-loop-again Inv-loop μ-loop
 loop-again c =
@@ -174,37 +90,8 @@ pub releases-spec : {M : Type 1} → statement M
 releases-spec =
     tie.close
     (tie.spec
-    Inv-loop
-    μ-loop
-    loop-holds
-    mul-release
-    add-release
-    mul-release-2
-    shared-slice-read-release
-    mul-supply
-    element-copy-out-supply
-    mul-supply-2
-    element-copy-out-supply-2
-    mul-supply-3
-    element-copy-out-supply-3
-    mul-supply-4
-    element-copy-out-supply-4
-    supply-requires
-    mul-most-release
-    element-copy-out-most-release
-    mul-most-release-2
-    add-most-release
-    mul-most-release-3
-    shared-slice-read-most-release
-    most-release-requires
-    release-refusal-requires
-    number-requires
-    add-t36
-    returns
-    room-requires
-    mul-room
-    element-write-room
-    add-i
-    loop-less
-    loop-again
-    returns-2)
+    Inv-loop μ-loop loop-holds (λ c. search needs) (λ c. search needs) (λ c. search needs) (λ c. search needs) (λ c. search needs)
+    (λ c. search needs) (λ c. search needs) (λ c. search needs) (λ c. search needs) (λ c. search needs) (λ c. search needs) (λ c. search needs)
+    (λ c κs. search needs) (λ c. search needs) (λ c. search needs) (λ c. search needs) (λ c. search needs) (λ c. search needs)
+    (λ c. search needs) (λ c κs. search needs) (λ c κs. search needs) (λ c κs. search needs) (λ c. search needs) returns
+    (λ c κs. search needs) (λ c. search needs) (λ c. search needs) (λ c. search needs) (λ c. search needs) loop-again returns-2)

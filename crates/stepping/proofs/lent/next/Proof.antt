@@ -25,9 +25,6 @@ On c r =
 abbrev From : tie.Start → State
 From c = let a = c .args in stateOf (a .l) (a .held .now) (a .queue .now) (a .cumulative .now)
 
-outflows-requires : tie.Need-outflows-requires
-outflows-requires c κs = search needs
-
 advance-requires : tie.Need-advance-requires
 advance-requires c κs =
     let o = Filled c in
@@ -37,9 +34,6 @@ advance-requires c κs =
       movable = movable (s .pre .steppable) (o .outflows .ensures (s .pre .road) (s .args .l) (s .args .queue .now) (s .args .row .now) (s .pre .rooms));
       left = s .pre .steppable .left;
     }
-
-same-length : tie.Need-same-length
-same-length c = search needs
 
 returns : tie.Need-returns
 returns c =
@@ -51,4 +45,4 @@ returns c =
     )
 
 pub next-spec : {M : Type 1} → statement M
-next-spec = tie.close (tie.spec outflows-requires advance-requires same-length returns)
+next-spec = tie.close (tie.spec (λ c κs. search needs) advance-requires (λ c. search needs) returns)

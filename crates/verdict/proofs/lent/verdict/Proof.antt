@@ -30,19 +30,10 @@ looked c r l =
     let a = A c .args in
     record { found = c .before .releases .ensures .0 (On (A c) r) (gated l (a .gate-queue) (a .gate-cumulative)) (a .cumulative .now); number = c .number .ensures }
 
-releases-requires : tie.Need-releases-requires
-releases-requires c κs = search needs
-
-number-requires : tie.Need-number-requires
-number-requires c κs = search needs
-
 returns : tie.Need-returns
 returns c =
     let m = c .before in
     (λ r l. verdict-fault (A m .args .y .now) (looked m r l) (c .if1 .taken), m .before .releases .ensures .1 .1)
-
-outflows-fault-requires : tie.Need-outflows-fault-requires
-outflows-fault-requires c κs = search needs
 
 returns-2 : tie.Need-returns-2
 returns-2 c =
@@ -61,4 +52,4 @@ returns-2 c =
 pub verdict-spec : {M : Type 1} → statement M
 verdict-spec =
     tie.close
-    (tie.spec releases-requires number-requires returns outflows-fault-requires returns-2)
+    (tie.spec (λ c κs. search needs) (λ c κs. search needs) returns (λ c κs. search needs) returns-2)
