@@ -16,8 +16,7 @@ use Rattle.model.specs.Places.{releaseAt, enteringAt}
 use Rattle.model.specs.Runs.{engineAfter, outflowsAt}
 use Rattle.model.specs.Roads.{step-row}
 use Rattle.model.specs.RunsLaws.{StudyOk, Shared, shared-less, engine-shared, outflows-shared}
-use Rattle.metering.specs.declared.Metered.{Metered}
-use Rattle.metering.specs.Metering.{capAt, meteredOf}
+use Rattle.metering.specs.Metering.{Metered, capAt, meteredOf}
 use Rattle.metering.specs.MeteringLaws.{granted, filled-release, filled-most, last-release, last-entry}
 use Rattle.filling.specs.Filling.{meteredAfter, grantedIn, filledRows, filledStudy}
 use Rattle.filling.specs.FillingLaws.{filled-road, filled-run}

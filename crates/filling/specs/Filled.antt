@@ -22,11 +22,10 @@ use Rattle.releasing.specs.ReleasesLaws.{PutTable, put-table}
 use Rattle.schedules.specs.Schedules.{tableOf}
 use Rattle.schedules.specs.TableLaws.{length-table, table-none, table-more}
 use Rattle.schedules.specs.Readable.{Readable}
-use Rattle.metering.specs.declared.Metered.{Metered}
-use Rattle.metering.specs.Metering.{unmetered, grantedAt, filledRow, meteredOf}
+use Rattle.metering.specs.Metering.{Metered, unmetered, grantedAt, filledRow, meteredOf}
 use Rattle.filling.specs.Filling.{meteredAfter, grantedIn, filledRows, filledStudy}
 use Rattle.filling.specs.FillingLaws.{filled-road, filled-run, releases-small, filled-ok, filled-released, filled-reached}
-use Rattle.filling.specs.Turn.{FillsRow}
+use Rattle.filling.specs.Turn.{FillsRow, FilledRow}
 
 -- what filling step by step asks: a record that reads, whose rows are the study's, and a list long enough
 pub record Fillable (bytes : List ℕ) (a : Study) (list : List ℕ) : Type 0 where
@@ -104,18 +103,15 @@ module _ {laws : List Law} {bytes : List ℕ} {a : Study} {list : List ℕ} wher
       }
 
       -- one step more is filled
-      pub filled-more : {next : List ℕ} {t : Metered} {part : List ℕ}
-          → next ≡ putReleases now (q .n) k (grantedAt laws q m (recordRow now (q .n) k)) (q .n)
-          → t ≡ meteredOf laws q m (recordRow now (q .n) k)
-          → part ≡ outflowsOf q (m .state) (filledRow laws q m (recordRow now (q .n) k))
+      pub filled-more : {next : List ℕ} {t : Metered} {part : List ℕ} → FilledRow now laws q m k next t part
           → Filled laws bytes a list next (take to out ++ (part ++ drop (to + places a - to) (drop to out))) t (k + 1) (to + places a)
       unfolding putTable meteredAfter
-      filled-more {part = part} ep et ey = record {
+      filled-more {part = part} f = record {
         within = omega arith;
-        table = rw (add-one k) (ep ∙ puts);
-        goesBy = rw (add-one k) (et ∙ rw (row-now, h .goesBy, e));
+        table = rw (add-one k) (f .releases ∙ puts);
+        goesBy = rw (add-one k) (f .goesBy ∙ rw (row-now, h .goesBy, e));
         place = omega (arith, h .place, mul-more k (places a));
-        written = table-more (filledStudy laws a) (filled-ok laws a (ok .readable .ok)) list k out part to (h .written) outflows (h .place);
+        written = table-more (filledStudy laws a) (filled-ok laws a (ok .readable .ok)) list k out part to (h .written) (outflows (f .row)) (h .place);
       }
         where
           puts : putReleases now (q .n) k (grantedAt laws q m (recordRow now (q .n) k)) (q .n)
@@ -125,8 +121,8 @@ module _ {laws : List Law} {bytes : List ℕ} {a : Study} {list : List ℕ} wher
               ∙ ap (λ (n : ℕ). putReleases now n k (grantedAt laws q m (a .rows k)) n) cells
               ∙ rw (h .table, h .goesBy, e)
 
-          outflows : part ≡ outflowsAt (filledStudy laws a) k
-          outflows = ey ∙ rw (row-is, e, h .goesBy, filled-run laws a k, filled-road laws a k)
+          outflows : part ≡ outflowsOf q (m .state) (filledRow laws q m (recordRow now (q .n) k)) → part ≡ outflowsAt (filledStudy laws a) k
+          outflows ey = ey ∙ rw (row-is, e, h .goesBy, filled-run laws a k, filled-road laws a k)
 
     -- all steps are filled
     module _ (end : a .steps ≤ k) where
@@ -139,5 +135,5 @@ module _ {laws : List Law} {bytes : List ℕ} {a : Study} {list : List ℕ} wher
       pub filled-list : out ≡ tableOf (filledStudy laws a) list (a .steps)
       filled-list = h .written ∙ ap (tableOf (filledStudy laws a) list) all
 
-      pub filled-state : m .state ≡ meteredAfter laws a (a .steps) .state
-      filled-state = ap (λ (x : Metered). x .state) (h .goesBy ∙ ap (meteredAfter laws a) all)
+      pub filled-state : {u : State} → u ≡ m .state → u ≡ meteredAfter laws a (a .steps) .state
+      filled-state e = e ∙ ap (λ (x : Metered). x .state) (h .goesBy ∙ ap (meteredAfter laws a) all)

@@ -9,8 +9,7 @@ use Rattle.meter.specs.declared.Law.{Law}
 use Rattle.meter.specs.Meter.{lawFaultOf}
 use Rattle.reading.specs.Reading.{readingOf, studyOf}
 use Rattle.releasing.specs.Releases.{putTable}
-use Rattle.metering.specs.declared.Metered.{Metered}
-use Rattle.metering.specs.Metering.{unmetered, grantedAt, filledRow, meteredOf}
+use Rattle.metering.specs.Metering.{Metered, unmetered, grantedAt, filledRow, meteredOf}
 use Rattle.schedules.specs.Schedules.{EndAnswer, ended, noState, lanesFault, tableOf}
 
 -- what the wishes of step k go by: held, queue and supply are those of the state before it

@@ -16,8 +16,7 @@ use Rattle.model.specs.Roads.{step-row, row-back}
 use Rattle.model.specs.RunsLaws.{StudyOk, Reached}
 use Rattle.schedules.specs.Schedules.{runSays}
 use Rattle.schedules.specs.SchedulesLaws.{run-reached}
-use Rattle.metering.specs.declared.Metered.{Metered}
-use Rattle.metering.specs.Metering.{filledRow, meteredOf}
+use Rattle.metering.specs.Metering.{Metered, filledRow, meteredOf}
 use Rattle.metering.specs.MeteringLaws.{granted-small, filled-fits, filled-row}
 use Rattle.filling.specs.Filling.{meteredAfter, grantedIn, filledRows, filledStudy}
 

@@ -35,8 +35,7 @@ use Rattle.schedules.specs.Schedules.{EndAnswer, lanesFault, tableOf}
 use Rattle.schedules.specs.Demand.{Taken}
 use Rattle.schedules.specs.Readable.{readable}
 use Rattle.schedules.specs.Restamped.{Alike, same-places, same-table}
-use Rattle.metering.specs.declared.Metered.{Metered}
-use Rattle.metering.specs.Metering.{metered, unmetered, wishAt, releaseOf, grantedAt, filledRow, nextMetered, meteredOf}
+use Rattle.metering.specs.Metering.{Metered, metered, unmetered, wishAt, releaseOf, grantedAt, filledRow, nextMetered, meteredOf}
 use Rattle.filling.specs.Filling.{meteredAfter, filledRows, filledStudy, lawPlace, fillingOf, recordAfter, filledList}
 use Rattle.filling.specs.Rerun.{filled-rows}
 use Rattle.filling.specs.Cases.{Leaves, fills-refused, fills-law, fills-closed, fills-short, fills-all, Case, case-of}

@@ -9,14 +9,16 @@ use Rattle.numbers.specs.Lists.{at}
 use Rattle.rows.specs.Rows.{fillOf}
 use Rattle.rows.specs.RowsLaws.{fill-at}
 use Rattle.road.specs.declared.Road.{Road}
+use Rattle.road.specs.Road.{mostCells}
 use Rattle.fields.specs.Fields.{recordRow, HoldsRow}
 use Rattle.meter.specs.declared.Law.{Law}
 use Rattle.model.specs.Rules.{outflowsOf}
+use Rattle.columns.specs.Columns.{roadOf}
 use Rattle.moves.specs.Asked.{Steppable}
 use Rattle.releasing.specs.Releases.{putReleases}
 use Rattle.releasing.specs.ReleasesLaws.{PutRow, put-releases, put-same}
-use Rattle.metering.specs.declared.Metered.{Metered}
-use Rattle.metering.specs.Metering.{grantedAt, filledRow, nextMetered, meteredOf}
+use Rattle.metering.specs.Metering.{Metered, grantedAt, filledRow, nextMetered, meteredOf}
+use Rattle.metering.specs.Lent.{ramped}
 use Rattle.metering.specs.MeteringLaws.{granted-small}
 
 -- what filling a step asks: the bytes hold its row, a step by the filled row asks nothing more, and y has room for its outflows
@@ -24,6 +26,20 @@ pub record FillsRow (bytes : List ℕ) (laws : List Law) (r : Road) (m : Metered
   pub held : HoldsRow bytes (r .n) k
   pub step : Steppable r (m .state) (filledRow laws r m (recordRow bytes (r .n) k))
   pub places : length y ≡ r .n + 1
+
+-- that, on some road with these columns, and arrays for a release and an entry of each cell
+pub record FillsLent (bytes : List ℕ) (laws : List Law) (n gate : ℕ) (speed wave share ramp jam capacity : List ℕ) (m : Metered) (k : ℕ) (y : List ℕ)
+    : Type 0 where
+  pub road : Road
+  pub fills : FillsRow bytes laws (roadOf (ramped road ramp) n gate speed wave share jam capacity) m k y
+  pub released : length (m .releases) ≡ mostCells
+  pub entered : length (m .entries) ≡ mostCells
+
+-- what filling a step gives: the bytes with its releases, what the next step's wishes go by, and its outflows
+pub record FilledRow (bytes : List ℕ) (laws : List Law) (r : Road) (m : Metered) (k : ℕ) (put : List ℕ) (t : Metered) (y : List ℕ) : Type 0 where
+  pub releases : put ≡ putReleases bytes (r .n) k (grantedAt laws r m (recordRow bytes (r .n) k)) (r .n)
+  pub goesBy : t ≡ meteredOf laws r m (recordRow bytes (r .n) k)
+  pub row : y ≡ outflowsOf r (m .state) (filledRow laws r m (recordRow bytes (r .n) k))
 
 -- what its code has found: the releases granted by the row that was read, put into the bytes
 pub record Given (bytes : List ℕ) (laws : List Law) (r : Road) (m : Metered) (k : ℕ) (given put : List ℕ) : Type 0 where
@@ -57,13 +73,15 @@ module _ {bytes : List ℕ} {laws : List Law} {r : Road} {m : Metered} {k : ℕ}
     unfolding filledRow
     given-row = again ∙ changed .row
 
-    -- what the step by it leaves is what the next step's wishes go by
-    pub given-next : {next : Metered} → next ≡ nextMetered r m filled given → next ≡ meteredOf laws r m (recordRow bytes (r .n) k)
-    unfolding meteredOf
-    given-next e = e ∙ rw (given-row, g .grants)
-
     pub given-steps : Steppable r (m .state) (filledRow laws r m (recordRow bytes (r .n) k)) → Steppable r (m .state) filled
     given-steps h = rw given-row h
 
-    pub given-outflows : {y : List ℕ} → y ≡ outflowsOf r (m .state) filled → y ≡ outflowsOf r (m .state) (filledRow laws r m (recordRow bytes (r .n) k))
-    given-outflows e = e ∙ ap (outflowsOf r (m .state)) given-row
+    -- what the step by it leaves is what the next step's wishes go by
+    given-next : {next : Metered} → next ≡ nextMetered r m filled given → next ≡ meteredOf laws r m (recordRow bytes (r .n) k)
+    unfolding meteredOf
+    given-next e = e ∙ rw (given-row, g .grants)
+
+    -- so the step is filled
+    pub given-filled : {t : Metered} {y : List ℕ} → t ≡ nextMetered r m filled given → y ≡ outflowsOf r (m .state) filled
+        → FilledRow bytes laws r m k put t y
+    given-filled et ey = record { releases = given-put; goesBy = given-next et; row = ey ∙ ap (outflowsOf r (m .state)) given-row }

@@ -19,8 +19,7 @@ use Rattle.releasing.specs.ReleasesLaws.{put-same}
 use Rattle.schedules.specs.Schedules.{EndAnswer, ended, noState}
 use Rattle.schedules.specs.TableLaws.{table-shared}
 use Rattle.schedules.specs.Unclosed.{AllOpen, empty-one, open-passes, open-one}
-use Rattle.metering.specs.declared.Metered.{Metered}
-use Rattle.metering.specs.Metering.{unmetered, grantedAt, meteredOf}
+use Rattle.metering.specs.Metering.{Metered, unmetered, grantedAt, meteredOf}
 use Rattle.filling.specs.Filling.{meteredAfter, grantedIn, filledStudy, lawPlace, filledBytes, fillingOf, recordAfter, filledList}
 use Rattle.filling.specs.FillingLaws.{filled-road}
 

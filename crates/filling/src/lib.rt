@@ -1,47 +1,89 @@
 // Filling: a record's releases, granted to its ramps by their meter laws, step by step.
+use columns::Ledger;
 use meter::Law;
-use metering::Metered;
 use road::Ended;
 use road::Refusal;
 use road::Road;
 use road::State;
 ghost use mathlib.Core.Path.{_≡_};
-ghost use Rattle.fields.specs.Fields.{recordRow};
+ghost use lib.ListN.{length};
+ghost use Rattle.road.specs.declared.Road.{Road};
+ghost use Rattle.road.specs.Road.{mostCells};
+ghost use Rattle.columns.specs.Columns.{roadOf, stateOf};
 ghost use Rattle.reading.specs.Reading.{studyBy};
-ghost use Rattle.releasing.specs.Releases.{putReleases, putTable};
-ghost use Rattle.model.specs.Rules.{outflowsOf};
+ghost use Rattle.releasing.specs.Releases.{putTable};
 ghost use Rattle.schedules.specs.Schedules.{endAnswer, tableOf};
 ghost use Rattle.schedules.specs.Demand.{Taken, Promised};
-ghost use Rattle.metering.specs.Metering.{grantedAt, filledRow, meteredOf};
+ghost use Rattle.metering.specs.Metering.{metered};
+ghost use Rattle.metering.specs.Lent.{ramped};
 ghost use Rattle.filling.specs.Filling.{meteredAfter, grantedIn, filledStudy, fillingOf, recordAfter, filledList};
-ghost use Rattle.filling.specs.Turn.{FillsRow};
+ghost use Rattle.filling.specs.Turn.{FillsLent, FilledRow};
 ghost use Rattle.filling.specs.Filled.{Fillable};
 ghost use Rattle.filling.specs.Theorems.{OnlyReleases};
 
-// One step: its releases are granted and put into the bytes, then the step is made with them.
-fn fill_row(
+// One step on lent columns: its releases are granted and put into the bytes, then the step is made with them.
+fn fill_row<'a>(
     bytes: &mut [u8],
-    laws: [Law; 64],
-    r: Road,
-    m: Metered,
     k: usize,
+    laws: [Law; 64],
+    n: usize,
+    gate_capacity: u32,
+    speed: &'a [u16; 64],
+    wave: &'a [u16; 64],
+    share: &'a [u16; 64],
+    ramp: &'a [u16; 64],
+    jam: &'a [u32; 64],
+    capacity: &'a [u32; 64],
+    l: Ledger,
+    held: &mut [u32; 64],
+    queue: &mut [u32; 64],
+    cumulative: &mut [u32; 64],
+    released: &mut [u32; 64],
+    entered: &mut [u32; 64],
     y: &mut [u32],
-) -> Metered
-    requires { ⌜ FillsRow (now bytes) laws r m k (now y) ⌝ }
-    ensures releases { λ t. ⌜ now (bytes .exit) ≡ putReleases (now (bytes .entry)) (r .n) k (grantedAt laws r m (recordRow (now (bytes .entry)) (r .n) k)) (r .n) ⌝ }
-    ensures metered { λ t. ⌜ t ≡ meteredOf laws r m (recordRow (now (bytes .entry)) (r .n) k) ⌝ }
-    ensures row { λ t. ⌜ now (y .exit) ≡ outflowsOf r (m .state) (filledRow laws r m (recordRow (now (bytes .entry)) (r .n) k)) ⌝ }
+) -> Ledger
+    requires { ⌜ FillsLent (now bytes) laws n «gate_capacity» (now speed) (now wave) (now share) (now ramp) (now jam) (now capacity)
+        (metered (stateOf l (now held) (now queue) (now cumulative)) (now released) (now entered)) k (now y) ⌝ }
+    ensures filled { λ t. ⌜ ((r : Road) → FilledRow (now (bytes .entry)) laws
+        (roadOf (ramped r (now (ramp .entry))) n «gate_capacity» (now (speed .entry)) (now (wave .entry)) (now (share .entry)) (now (jam .entry)) (now (capacity .entry)))
+        (metered (stateOf l (now (held .entry)) (now (queue .entry)) (now (cumulative .entry))) (now (released .entry)) (now (entered .entry))) k
+        (now (bytes .exit)) (metered (stateOf t (now (held .exit)) (now (queue .exit)) (now (cumulative .exit))) (now (released .exit)) (now (entered .exit)))
+        (now (y .exit))) ⌝ }
+    ensures lengths { λ t. ⌜ (length (now (released .exit)) ≡ mostCells) × (length (now (entered .exit)) ≡ mostCells) ⌝ }
 {
-    let n = r.n;
     let numbers = 1 + 2 * n;
-    let s = m.state;
-    let last = m.releases;
-    let entered = m.entries;
     let row = fields::row(bytes, n, k);
-    let given = metering::releases(laws, r, s, &row[..numbers], last, entered);
-    releasing::put_releases(bytes, n, k, &given);
+    metering::releases(
+        laws,
+        n,
+        wave,
+        ramp,
+        jam,
+        capacity,
+        held,
+        queue,
+        &row[..numbers],
+        entered,
+        released,
+    );
+    releasing::put_releases(bytes, n, k, released);
     let filled = fields::row(bytes, n, k);
-    metering::next(r, m, &filled[..numbers], given, y)
+    metering::next(
+        n,
+        gate_capacity,
+        speed,
+        wave,
+        share,
+        jam,
+        capacity,
+        l,
+        held,
+        queue,
+        cumulative,
+        &filled[..numbers],
+        entered,
+        y,
+    )
 }
 
 // Fills the releases of every step under a table of lanes and writes its outflows; gives the final state.
@@ -64,7 +106,19 @@ fn fill_rows(
     let places = n + 1;
     let capacity = r.capacity;
     let mut road = r;
-    let mut m = metering::unmetered(s);
+    let mut held = s.held;
+    let mut queue = s.queue;
+    let mut cumulative = s.cumulative;
+    let mut l = Ledger {
+        done: s.done,
+        gate_time: s.gate_time,
+        road_time: s.road_time,
+        ramp_time: s.ramp_time,
+        gate_queue: s.gate_queue,
+        gate_cumulative: s.gate_cumulative,
+    };
+    let mut released = [0u32; 64];
+    let mut entered = [0u32; 64];
     let mut k = 0;
     let mut to = 0;
     while k < steps {
@@ -73,11 +127,30 @@ fn fill_rows(
             road.capacity = left;
         }
         let end = to + places;
-        m = fill_row(bytes, laws, road, m, k, &mut out[to..end]);
+        l = fill_row(
+            bytes,
+            k,
+            laws,
+            road.n,
+            road.gate_capacity,
+            &road.speed,
+            &road.wave,
+            &road.share,
+            &road.ramp,
+            &road.jam,
+            &road.capacity,
+            l,
+            &mut held,
+            &mut queue,
+            &mut cumulative,
+            &mut released,
+            &mut entered,
+            &mut out[to..end],
+        );
         to = end;
         k += 1;
     }
-    m.state
+    l.state(held, queue, cumulative)
 }
 
 // Fills a record's releases by its ramps' laws under a table of lanes and runs it in one pass: the refusals of reading, 16, 17, 18, 11.

@@ -11,15 +11,16 @@ use Rattle.rows.specs.Rows.{fillOf}
 use Rattle.rows.specs.RowsLaws.{fill-more}
 use Rattle.road.specs.declared.Road.{Road}
 use Rattle.road.specs.declared.State.{State}
-use Rattle.road.specs.Road.{mostRate}
+use Rattle.road.specs.Road.{mostCells, mostRate}
 use Rattle.limits.specs.LimitsLaws.{RoadOk}
 use Rattle.model.specs.Places.{capacityAt, shareAt, cumulativeAt, enteringAt, supplyAt, releaseAt}
 use Rattle.model.specs.Move.{nextOf}
 use Rattle.model.specs.Rules.{Obeys, outflowsOf}
 use Rattle.model.specs.RulesLaws.{share-gate, share-cell, cumulative-cell, outflows-obey, length-outflows}
+use Rattle.columns.specs.Columns.{sharing}
 use Rattle.moves.specs.Asked.{Steppable}
-use Rattle.metering.specs.declared.Metered.{Metered}
-use Rattle.metering.specs.Metering.{metered, nextMetered}
+use Rattle.metering.specs.Metering.{Metered, metered, nextMetered}
+use Rattle.metering.specs.Lent.{counting}
 
 -- what enters each cell is a rate
 abbrev pub Rates : Road → State → List ℕ → Type 0
@@ -36,6 +37,15 @@ obeys-rates r s row y road ok i l =
       supply-capacity (at (r .wave) i) (at (r .capacity) i) (at (r .jam) i) (at (s .held) i),
       road .capacity i l,
     )
+
+-- what finding them asks: a row of outflows by which they are, on some road with these shares and from some state with these F
+pub record Enters (n : ℕ) (share : List ℕ) (gate : ℕ) (cumulative y entered : List ℕ) : Type 0 where
+  pub cells : n ≤ mostCells
+  pub places : length y ≡ n + 1
+  pub entries : length entered ≡ mostCells
+  pub road : Road
+  pub state : State
+  pub rates : Rates (sharing road n share) (counting state gate cumulative) y
 
 -- the first i cells' entries are stored; share and F are those of place i
 pub record Entered (r : Road) (s : State) (y last e : List ℕ) (share cumulative i : ℕ) : Type 0 where

@@ -2,7 +2,7 @@
 use mathlib.Core.Path.{_≡_, refl, sym, ap, _∙_}
 use mathlib.Core.List.{List, [], _∷_}
 use Prim.Native.Nat.{ℕ, zero, suc, _+_, min, _≤_, _<_}
-use native.Mathlib.Nat.{not-suc-le-zero, le-of-suc-le-suc}
+use native.Mathlib.Nat.{le-refl, not-suc-le-zero, le-of-suc-le-suc}
 use native.Mathlib.Omega.{arith}
 use lib.Ieee.{Float}
 use lib.ListN.{length, getD, set}
@@ -10,14 +10,13 @@ use borrow.Author.Tests.{eq-eqb, ne-eqb}
 use Rattle.numbers.specs.Lists.{at}
 use Rattle.flow.specs.Flow.{supplyOf}
 use Rattle.rows.specs.Rows.{fillOf}
-use Rattle.rows.specs.RowsLaws.{fill-more}
+use Rattle.rows.specs.RowsLaws.{fill-more, fill-past}
 use Rattle.road.specs.declared.Road.{Road}
 use Rattle.road.specs.Road.{mostRate}
 use Rattle.model.specs.Places.{arrivalsAt, mostReleaseAt, capacityAt}
 use Rattle.meter.specs.declared.Law.{Law}
 use Rattle.meter.specs.Meter.{wishOf, wholeBelow, lawAt}
-use Rattle.metering.specs.declared.Metered.{Metered}
-use Rattle.metering.specs.Metering.{releaseOf, grantedAt}
+use Rattle.metering.specs.Metering.{Metered, releaseOf, grantedAt}
 
 -- one cell: without a ramp, and with one
 pub no-ramp : (ramp : ℕ) (wish : Float) (cap : ℕ) → ramp ≡ 0 → 0 ≡ releaseOf ramp wish cap
@@ -39,26 +38,30 @@ any-default [] i d e h = absurd (not-suc-le-zero h)
 any-default (x ∷ l) zero d e h = refl
 any-default (x ∷ l) (suc i) d e h = any-default l i d e (le-of-suc-le-suc h)
 
--- what a turn finds at the cell at i: its supply, its cap, and the release of the law that the code took
-pub record Found (laws : List Law) (d : Law) (r : Road) (m : Metered) (row : List ℕ) (i supply cap x : ℕ) : Type 0 where
+-- what a turn finds at the cell at i: its supply, its cap, and the release of the law that the code took by what g still has of the last step
+pub record Found (laws : List Law) (d : Law) (r : Road) (m : Metered) (row g : List ℕ) (i supply cap x : ℕ) : Type 0 where
   pub cell : i < length laws
   pub supplies : supply ≡ supplyOf (at (r .wave) i) (at (r .capacity) i) (at (r .jam) i) (at (m .state .held) i)
   pub caps : cap ≡ min (at (m .state .queue) i + arrivalsAt row i) (min supply mostRate)
-  pub grants : x ≡ releaseOf (at (r .ramp) i) (wishOf (getD laws i d) (at (m .releases) i) (at (m .entries) i) (at (m .state .held) i)) cap
+  pub grants : x ≡ releaseOf (at (r .ramp) i) (wishOf (getD laws i d) (at g i) (at (m .entries) i) (at (m .state .held) i)) cap
 
 module _ {laws : List Law} {r : Road} {m : Metered} {row : List ℕ} where
-  granted-is : {d : Law} {i supply cap x : ℕ} → Found laws d r m row i supply cap x → x ≡ grantedAt laws r m row i
-  unfolding grantedAt mostReleaseAt capacityAt
-  granted-is {d} {i} f =
-      let law : getD laws i d ≡ lawAt laws i = any-default laws i d _ (f .cell) in
-      f .grants ∙ rw (f .caps, f .supplies, law)
-
   pub granting-none : Granting laws r m row (m .releases) 0
   unfolding fillOf
   granting-none = record { within = omega arith; stored = refl }
 
   module _ {g : List ℕ} {i : ℕ} (h : Granting laws r m row g i) where
-    pub granting-more : {d : Law} {supply cap x : ℕ} → i < r .n → Found laws d r m row i supply cap x → Granting laws r m row (set g i x) (i + 1)
+    -- the cell's release of the last step still stands there
+    last : at g i ≡ at (m .releases) i
+    last = ap (λ (l : List ℕ). at l i) (h .stored) ∙ fill-past (grantedAt laws r m row) i (m .releases) i (le-refl i)
+
+    granted-is : {d : Law} {supply cap x : ℕ} → Found laws d r m row g i supply cap x → x ≡ grantedAt laws r m row i
+    unfolding grantedAt mostReleaseAt capacityAt
+    granted-is {d} f =
+        let law : getD laws i d ≡ lawAt laws i = any-default laws i d _ (f .cell) in
+        f .grants ∙ rw (f .caps, f .supplies, law, last)
+
+    pub granting-more : {d : Law} {supply cap x : ℕ} → i < r .n → Found laws d r m row g i supply cap x → Granting laws r m row (set g i x) (i + 1)
     granting-more l f = record {
       within = omega arith;
       stored = rw (granted-is f, h .stored) (sym (fill-more (grantedAt laws r m row) i (m .releases)));

@@ -1,4 +1,5 @@
 pub mod Metering
 pub mod MeteringLaws
 pub mod Granting
+pub mod Lent
 pub mod Entries

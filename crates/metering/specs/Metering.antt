@@ -15,9 +15,13 @@ use Rattle.model.specs.Places.{mostReleaseAt, supplyAt, enteringAt}
 use Rattle.model.specs.Move.{nextOf}
 use Rattle.model.specs.Rules.{outflowsOf}
 use Rattle.releasing.specs.Releases.{releasedRow}
-use Rattle.metering.specs.declared.Metered.{Metered}
 
 -- what the wishes of a step go by: the state before it, and of the last step each release granted and what entered each cell from upstream
+pub record Metered : Type 0 where
+  pub state : State
+  pub releases : List ℕ
+  pub entries : List ℕ
+
 abbrev pub metered : State → List ℕ → List ℕ → Metered
 metered s releases entries = record { state = s; releases = releases; entries = entries }
 

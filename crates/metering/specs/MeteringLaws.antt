@@ -21,8 +21,7 @@ use Rattle.meter.specs.MeterLaws.{whole-most}
 use Rattle.model.specs.Places.{gateArrivals, arrivalsAt, releaseAt, mostReleaseAt, supplyAt, enteringAt}
 use Rattle.model.specs.Rules.{Released, outflowsOf}
 use Rattle.releasing.specs.ReleasesLaws.{length-released, released-at, released-gate, released-arrivals}
-use Rattle.metering.specs.declared.Metered.{Metered}
-use Rattle.metering.specs.Metering.{wishAt, capAt, releaseOf, grantedAt, filledRow, meteredOf}
+use Rattle.metering.specs.Metering.{Metered, wishAt, capAt, releaseOf, grantedAt, filledRow, meteredOf}
 
 -- a release is at most its cap, and 0 without a ramp
 pub record Capped (ramp : ℕ) (wish : Float) (cap x : ℕ) : Type 0 where

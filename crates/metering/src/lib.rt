@@ -1,37 +1,24 @@
-// One step of filling: the releases that the ramps' meter laws grant, and what the next step's wishes go by.
+// One step of filling, on a road and a state that are lent column by column: the releases that the ramps' meter laws grant, and what the
+// next step's wishes go by.
+use columns::Ledger;
 use meter::Law;
 use road::Road;
-use road::State;
 ghost use mathlib.Core.Path.{_≡_};
-ghost use Prim.Native.Nat.{_+_, _*_, min, _≤_};
+ghost use mathlib.Core.List.{List};
+ghost use Prim.Native.Nat.{ℕ, _+_, _*_, min, _≤_};
 ghost use lib.ListN.{length};
 ghost use Rattle.rows.specs.Rows.{fillOf};
+ghost use Rattle.road.specs.declared.Road.{Road};
+ghost use Rattle.road.specs.declared.State.{State};
 ghost use Rattle.road.specs.Road.{mostCells, mostRate};
 ghost use Rattle.meter.specs.Meter.{wishOf};
 ghost use Rattle.model.specs.Places.{enteringAt};
 ghost use Rattle.model.specs.Rules.{outflowsOf};
-ghost use Rattle.moves.specs.Asked.{Steppable};
-ghost use Rattle.metering.specs.Metering.{releaseOf, metered, unmetered, grantedAt, nextMetered};
-ghost use Rattle.metering.specs.Entries.{Rates};
-
-// What the wishes of a step go by: the state before it, and of the last step each release and what entered each cell from upstream.
-pub struct Metered {
-    pub state: State,
-    pub releases: [u32; 64],
-    pub entries: [u32; 64],
-}
-
-// Before the first step the last release and the last entry are 0.
-pub fn unmetered(s: State) -> Metered
-    ensures { λ m. ⌜ m ≡ unmetered s ⌝ }
-{
-    let none = [0u32; 64];
-    Metered {
-        state: s,
-        releases: none,
-        entries: none,
-    }
-}
+ghost use Rattle.columns.specs.declared.Ledger.{Ledger};
+ghost use Rattle.columns.specs.Columns.{roadOf, sharing, supplying, stateOf};
+ghost use Rattle.metering.specs.Metering.{releaseOf, metered, grantedAt, nextMetered};
+ghost use Rattle.metering.specs.Lent.{ramped, counting, Fills};
+ghost use Rattle.metering.specs.Entries.{Enters};
 
 // The smaller of what a ramp may release at most and a rate.
 fn lower(most: u64, rate: u32) -> u32
@@ -65,65 +52,107 @@ fn granted(law: Law, ramp: u16, last: u32, entered: u32, held: u32, cap: u32) ->
     meter::release(wish, cap)
 }
 
-// The releases granted in a step; entries past cell n are those of `last`.
-pub fn releases(
+// The releases granted in a step: `given` has those of the last step and gets this one's. A reference to laws is not covered, so they are copied.
+pub fn releases<'a, 'b>(
     laws: [Law; 64],
-    r: Road,
-    s: State,
+    n: usize,
+    wave: &'a [u16; 64],
+    ramp: &'a [u16; 64],
+    jam: &'a [u32; 64],
+    capacity: &'a [u32; 64],
+    held: &'b [u32; 64],
+    queue: &'b [u32; 64],
     row: &[u32],
-    last: [u32; 64],
-    entered: [u32; 64],
-) -> [u32; 64]
-    requires { ⌜ (r .n ≤ mostCells) × (length (now row) ≡ 1 + 2 * r .n) ⌝ }
-    ensures { λ g. ⌜ g ≡ fillOf (grantedAt laws r (metered s last entered) (now (row .entry))) (r .n) last ⌝ }
+    entered: &[u32; 64],
+    given: &mut [u32; 64],
+)
+    requires { ⌜ (n ≤ mostCells) × ((length (now row) ≡ 1 + 2 * n) × (length (now given) ≡ mostCells)) ⌝ }
+    ensures granted { λ _. ⌜ ((r : Road) (l : Ledger) (cumulative : List ℕ) → now (given .exit)
+        ≡ fillOf (grantedAt laws (supplying (ramped r (now (ramp .entry))) n (now (wave .entry)) (now (jam .entry)) (now (capacity .entry)))
+        (metered (stateOf l (now (held .entry)) (now (queue .entry)) cumulative) (now (given .entry)) (now (entered .entry))) (now (row .entry)))
+        n (now (given .entry))) ⌝ }
+    ensures length { λ _. ⌜ length (now (given .exit)) ≡ mostCells ⌝ }
 {
-    let n = r.n;
-    let mut g = last;
     let mut i = 0;
     while i < n {
-        let held = s.held[i];
-        let supply = flow::supply(r.wave[i], r.capacity[i], r.jam[i], held);
-        let most = cap(s.queue[i], row[2 * i + 1], supply);
+        let count = held[i];
+        let supply = flow::supply(wave[i], capacity[i], jam[i], count);
+        let most = cap(queue[i], row[2 * i + 1], supply);
         let law = laws[i];
-        g[i] = granted(law, r.ramp[i], last[i], entered[i], held, most);
+        given[i] = granted(law, ramp[i], given[i], entered[i], count, most);
         i += 1;
     }
-    g
 }
 
-// What enters each cell from upstream by a row of outflows; entries past cell n are those of `last`.
-fn entries(r: Road, s: State, y: &[u32], last: [u32; 64]) -> [u32; 64]
-    requires { ⌜ (r .n ≤ mostCells) × ((length (now y) ≡ r .n + 1) × Rates r s (now y)) ⌝ }
-    ensures { λ e. ⌜ e ≡ fillOf (enteringAt r s (now (y .entry))) (r .n) last ⌝ }
+// What enters each cell from upstream by a row of outflows, put into `entered`.
+fn entries(
+    n: usize,
+    share: &[u16; 64],
+    gate_cumulative: u32,
+    cumulative: &[u32; 64],
+    y: &[u32],
+    entered: &mut [u32; 64],
+)
+    requires { ⌜ Enters n (now share) «gate_cumulative» (now cumulative) (now y) (now entered) ⌝ }
+    ensures entered { λ _. ⌜ ((r : Road) (s : State) → now (entered .exit)
+        ≡ fillOf (enteringAt (sharing r n (now (share .entry))) (counting s «gate_cumulative» (now (cumulative .entry))) (now (y .entry))) n (now (entered .entry))) ⌝ }
+    ensures length { λ _. ⌜ length (now (entered .exit)) ≡ mostCells ⌝ }
 {
-    let n = r.n;
-    let mut e = last;
-    let mut share = Road::WHOLE;
-    let mut cumulative = s.gate_cumulative;
+    let mut part = Road::WHOLE;
+    let mut before = gate_cumulative;
     let mut i = 0;
     while i < n {
-        let entering = flow::entering(share, cumulative, y[i]);
-        e[i] = entering as u32;
-        share = r.share[i];
-        cumulative = s.cumulative[i];
+        let entering = flow::entering(part, before, y[i]);
+        entered[i] = entering as u32;
+        part = share[i];
+        before = cumulative[i];
         i += 1;
     }
-    e
 }
 
-// A step by a row whose releases are `given`: fills y with its outflows, and gives what the next step's wishes go by.
-pub fn next(r: Road, m: Metered, row: &[u32], given: [u32; 64], y: &mut [u32]) -> Metered
-    requires { ⌜ (Steppable r (m .state) (now row)) × (length (now y) ≡ r .n + 1) ⌝ }
-    ensures metered { λ t. ⌜ t ≡ nextMetered r m (now (row .entry)) given ⌝ }
-    ensures row { λ t. ⌜ now (y .exit) ≡ outflowsOf r (m .state) (now (row .entry)) ⌝ }
+// A step by a filled row: fills y with its outflows, puts what entered each cell into `entered`, and gives the ledger after it.
+pub fn next<'a>(
+    n: usize,
+    gate_capacity: u32,
+    speed: &'a [u16; 64],
+    wave: &'a [u16; 64],
+    share: &'a [u16; 64],
+    jam: &'a [u32; 64],
+    capacity: &'a [u32; 64],
+    l: Ledger,
+    held: &mut [u32; 64],
+    queue: &mut [u32; 64],
+    cumulative: &mut [u32; 64],
+    row: &[u32],
+    entered: &mut [u32; 64],
+    y: &mut [u32],
+) -> Ledger
+    requires { ⌜ Fills n «gate_capacity» (now speed) (now wave) (now share) (now jam) (now capacity)
+        (stateOf l (now held) (now queue) (now cumulative)) (now row) (now entered) (now y) ⌝ }
+    ensures metered { λ t. ⌜ ((r : Road) (last given : List ℕ)
+        → metered (stateOf t (now (held .exit)) (now (queue .exit)) (now (cumulative .exit))) given (now (entered .exit))
+        ≡ nextMetered (roadOf r n «gate_capacity» (now (speed .entry)) (now (wave .entry)) (now (share .entry)) (now (jam .entry)) (now (capacity .entry)))
+        (metered (stateOf l (now (held .entry)) (now (queue .entry)) (now (cumulative .entry))) last (now (entered .entry))) (now (row .entry)) given) ⌝ }
+    ensures row { λ t. ⌜ ((r : Road) → now (y .exit)
+        ≡ outflowsOf (roadOf r n «gate_capacity» (now (speed .entry)) (now (wave .entry)) (now (share .entry)) (now (jam .entry)) (now (capacity .entry)))
+        (stateOf l (now (held .entry)) (now (queue .entry)) (now (cumulative .entry))) (now (row .entry))) ⌝ }
+    ensures length { λ t. ⌜ length (now (entered .exit)) ≡ mostCells ⌝ }
 {
-    let s = m.state;
-    let last = m.entries;
-    let t = stepping::next(r, s, row, y);
-    let e = entries(r, s, y, last);
-    Metered {
-        state: t,
-        releases: given,
-        entries: e,
-    }
+    let mut room = [0u32; 64];
+    releases::lent::releases(n, wave, jam, capacity, held, queue, row, &mut room);
+    outflows::lent::outflows(
+        n,
+        gate_capacity,
+        speed,
+        share,
+        capacity,
+        l.gate_queue,
+        l.gate_cumulative,
+        held,
+        cumulative,
+        &room,
+        y,
+    );
+    entries(n, share, l.gate_cumulative, cumulative, y, entered);
+    moves::lent::advance(n, share, l, held, queue, cumulative, row, y)
 }

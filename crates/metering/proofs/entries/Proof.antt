@@ -1,5 +1,11 @@
 -- `metering::entries` meets its contract. The invariant: the first i cells' entries are stored. Assumes nothing.
+use mathlib.Core.Path.{_≡_}
 use Prim.Native.Nat.{_-_}
+use lib.ListN.{length, length-set}
+use Rattle.road.specs.declared.Road.{Road}
+use Rattle.road.specs.declared.State.{State}
+use Rattle.columns.specs.Columns.{sharing}
+use Rattle.metering.specs.Lent.{counting}
 use Rattle.metering.specs.Entries.{Entered, entered-none, entered-at, entered-more, entered-end}
 use borrow.Author.Needs.{needs}
 use native.Mathlib.Omega.{arith}
@@ -7,10 +13,11 @@ use Rattle.metering.proofs.entries.Statement.{statement}
 use Rattle.metering.proofs.entries.Tie as tie
 
 abbrev Inv-loop : tie.InvT-loop
-Inv-loop y r s n e₀ share₀ cumulative₀ i₀ e share cumulative i = Entered r s y e₀ e share cumulative i
+Inv-loop n share gate cumulative y entered₀ part₀ before₀ i₀ entered part before i =
+    (length entered ≡ 64) × ((r : Road) (s : State) → Entered (sharing r n share) (counting s gate cumulative) y entered₀ entered part before i)
 
 abbrev μ-loop : tie.MeasureT-loop
-μ-loop y r s n e₀ share₀ cumulative₀ i₀ e share cumulative i = r .n - i
+μ-loop n share gate cumulative y entered₀ part₀ before₀ i₀ entered part before i = n - i
 
 -- the arguments, from the loop's place, and the start of a turn
 abbrev A : tie.At-loop Inv-loop μ-loop → tie.Start Inv-loop μ-loop
@@ -20,24 +27,29 @@ abbrev Turn : tie.After-entering Inv-loop μ-loop → tie.In-loop Inv-loop μ-lo
 Turn c = c .before .before
 
 loop-holds : tie.Need-loop-holds Inv-loop μ-loop
-loop-holds c = let a = c .before .args in entered-none (a .t1) (a .t2) (a .y .now) (a .last)
+loop-holds c =
+    let a = c .before in
+    (a .pre .entries, λ r s. entered-none (sharing r (a .args .n) (a .args .share .now)) (counting s (a .args .gate-cumulative) (a .args .cumulative .now)) _ _)
 
-cast-e : tie.Need-cast-e Inv-loop μ-loop
-cast-e c =
+cast-entered : tie.Need-cast-entered Inv-loop μ-loop
+cast-entered c =
     let l = Turn c .before in
-    omega (arith, entered-at (l .loop .inv) (c .entering .ensures), A l .pre .1 .1 (l .loop .i) (Turn c .loop-test .taken))
+    let k = A l .pre in
+    omega (arith, entered-at (l .loop .inv .1 (k .road) (k .state)) (c .entering .ensures), k .rates (l .loop .i) (Turn c .loop-test .taken))
 
 loop-again : tie.Need-loop-again Inv-loop μ-loop
 loop-again c =
     let d = c .before .before in
-    entered-more (Turn d .before .loop .inv) (Turn d .loop-test .taken) (d .entering .ensures)
+    let p = Turn d .before .loop in
+    (simp length-set (p .inv .0), λ r s. entered-more (p .inv .1 r s) (Turn d .loop-test .taken) (d .entering .ensures))
 
 returns : tie.Need-returns Inv-loop μ-loop
-returns c = entered-end (c .before .loop .inv) (omega arith)
+returns c = let p = c .before .loop in (λ r s. entered-end (p .inv .1 r s) (c .loop-test .left), p .inv .0)
 
 pub entries-spec : {M : Type 1} → statement M
 entries-spec =
     tie.close
     (tie.spec
-    Inv-loop μ-loop loop-holds (λ c. search needs) (λ c. search needs) (λ c κs. search needs) cast-e (λ c. search needs) (λ c. search needs)
-    (λ c. search needs) (λ c. search needs) (λ c. search needs) (λ c. search needs) (λ c. search needs) (λ c. search needs) loop-again returns)
+    Inv-loop μ-loop loop-holds (λ c. search needs) (λ c. search needs) (λ c κs. search needs) cast-entered (λ c. search needs)
+    (λ c. search needs) (λ c. search needs) (λ c. search needs) (λ c. search needs) (λ c. search needs) (λ c. search needs) (λ c. search needs)
+    loop-again returns)
