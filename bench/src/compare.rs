@@ -1,5 +1,5 @@
 //! Both programs on the same records: every field of the answers and the whole of the lent list.
-use crate::load::{record, Load, PEAK, SEED};
+use crate::load::{record, Draws, PEAK, SEED};
 use crate::{straight, SIZES};
 use std::collections::BTreeMap;
 
@@ -91,6 +91,10 @@ impl Compared {
     }
 }
 
+fn made(seed: u32, peak: u32, n: usize, steps: usize) -> Result<Vec<u8>, String> {
+    record(seed, peak, n, steps).map_err(|refused| refused.to_string())
+}
+
 /// The same record in version 2.
 fn with_seconds(record: &[u8], seconds: u16) -> Vec<u8> {
     let mut longer = (record.len() as u32 - 2).to_be_bytes().to_vec();
@@ -108,22 +112,22 @@ fn put(record: &[u8], at: usize, number: u32) -> Vec<u8> {
 }
 
 /// One byte or one number of a record drawn anew, or its end cut off, with a first field that fits or doesn't.
-fn spoil(record: &[u8], load: &mut Load) -> Vec<u8> {
+fn spoil(record: &[u8], draws: &mut Draws) -> Vec<u8> {
     let mut changed = record.to_vec();
     let last = changed.len() as u32 - 1;
-    match load.draw(9) {
+    match draws.draw(9) {
         0 => {
-            changed.truncate(load.draw(last) as usize);
-            if changed.len() >= 4 && load.draw(1) == 0 {
+            changed.truncate(draws.draw(last) as usize);
+            if changed.len() >= 4 && draws.draw(1) == 0 {
                 let follow = changed.len() as u32 - 4;
                 changed[..4].copy_from_slice(&follow.to_be_bytes());
             }
         }
-        1..=3 => changed[load.draw(last.min(200)) as usize] = load.draw(255) as u8,
-        4..=5 => changed[load.draw(last) as usize] = load.draw(255) as u8,
+        1..=3 => changed[draws.draw(last.min(200)) as usize] = draws.draw(255) as u8,
+        4..=5 => changed[draws.draw(last) as usize] = draws.draw(255) as u8,
         _ => {
-            let at = 4 * load.draw(last / 4) as usize;
-            let number = load.draw(1_000_000).to_be_bytes();
+            let at = 4 * draws.draw(last / 4) as usize;
+            let number = draws.draw(1_000_000).to_be_bytes();
             let end = (at + 4).min(changed.len());
             changed[at..end].copy_from_slice(&number[..end - at]);
         }
@@ -134,13 +138,13 @@ fn spoil(record: &[u8], load: &mut Load) -> Vec<u8> {
 /// Compares, and says how many records there were, by refusal.
 pub fn compare_all() -> Result<String, String> {
     let mut compared = Compared::default();
-    let mut load = Load(SEED);
+    let mut draws = Draws(SEED);
     for (n, steps) in SIZES {
         let (width, numbers) = (4 + 8 * n, steps * (n + 1));
         for seed in SEED..SEED + 40 {
-            compared.compare(&record(seed, PEAK, n, steps), numbers)?;
+            compared.compare(&made(seed, PEAK, n, steps)?, numbers)?;
         }
-        let whole = record(SEED, PEAK, n, steps);
+        let whole = made(SEED, PEAK, n, steps)?;
         for length in [0, numbers - 1, numbers + 100] {
             compared.compare(&whole, length)?;
         }
@@ -151,18 +155,18 @@ pub fn compare_all() -> Result<String, String> {
         compared.compare(&put(&waiting, release, 900_000), numbers)?;
     }
     for seed in 0..1_500 {
-        let (n, steps) = (1 + load.draw(63) as usize, 1 + load.draw(60) as usize);
-        let peak = load.draw(80_000);
-        let whole = record(seed, peak, n, steps);
+        let (n, steps) = (1 + draws.draw(63) as usize, 1 + draws.draw(60) as usize);
+        let peak = draws.draw(80_000);
+        let whole = made(seed, peak, n, steps)?;
         let numbers = steps * (n + 1);
         compared.compare(&whole, numbers)?;
         for _ in 0..8 {
-            compared.compare(&spoil(&whole, &mut load), numbers)?;
+            compared.compare(&spoil(&whole, &mut draws), numbers)?;
         }
-        let seconds = load.draw(1_000) as u16;
+        let seconds = draws.draw(1_000) as u16;
         let longer = with_seconds(&whole, seconds);
         compared.compare(&longer, numbers)?;
-        compared.compare(&spoil(&longer, &mut load), numbers)?;
+        compared.compare(&spoil(&longer, &mut draws), numbers)?;
     }
     let seen: Vec<u64> = compared.0.keys().copied().collect();
     if seen != [0, 1, 2, 3, 4, 5, 6, 9, 10, 11, 19] {

@@ -1,98 +1,111 @@
-//! Records from a seed: a road, the stated load as its arrivals, and releases by a meter law.
-use nobyaluk::Law;
+//! The records of the stated load, as docs/LOAD.md has them: a road that depends on n alone, arrivals by the proved `load`, and
+//! releases filled by a meter law.
+use nobyaluk::{Law, Load, Refused, Road, Start, CELLS, STEPS};
 
-/// The arrivals' peak at the gate, in parts a step; a ramp's is a tenth of it.
+/// The arrivals' peak at the gate, in parts a step, of the measured records.
 pub const PEAK: u32 = 40_000;
-/// The seed of the measured roads.
+/// The first seed of the measured records.
 pub const SEED: u32 = 13;
 
-/// The stated load: 1664525 x number + 1013904223, wrapping, and of that the upper 16 bits.
-pub struct Load(pub u32);
+/// Draws by the proved load, one after the other.
+pub struct Draws(pub u32);
 
-impl Load {
-    /// A number from 0 to `peak`.
+impl Draws {
+    /// A number from 0 to `peak`, which is at most 1,000,000.
     pub fn draw(&mut self, peak: u32) -> u32 {
-        self.0 = self.0.wrapping_mul(1_664_525).wrapping_add(1_013_904_223);
-        (u64::from(self.0 >> 16) * (u64::from(peak) + 1) / 65_536) as u32
+        let mut list = [0];
+        let loaded = nobyaluk::load_into(self.0, peak, &mut list);
+        assert_eq!(loaded.number, 0, "the peak is refused");
+        self.0 = loaded.last as u32;
+        list[0]
     }
 }
 
-/// A road and its start: all of a record before its rows.
-pub struct Drawn {
-    n: usize,
-    steps: usize,
-    head: Vec<u8>,
-    laws: Vec<Law>,
+/// Whether a cell has a ramp: the second of every three.
+fn has_ramp(cell: usize) -> bool {
+    cell % 3 == 2
 }
 
-/// Draws a road of n cells, in the order of a record's fields: a ramp at every third cell, an off-ramp at every fourth,
-/// a bottleneck at every sixth.
-pub fn draw_road(n: usize, steps: usize, load: &mut Load) -> Drawn {
-    let size = 16 + 24 * n + steps * (4 + 8 * n);
-    let mut head = Vec::new();
-    head.extend((size as u32 - 4).to_be_bytes());
-    head.extend([1, n as u8]);
-    head.extend((steps as u16).to_be_bytes());
-    head.extend(25_000u32.to_be_bytes());
-    head.extend(load.draw(20_000).to_be_bytes());
-    let mut laws = Vec::new();
-    for cell in 1..=n {
-        let ramp = cell % 3 == 2;
-        let speed = 900 + load.draw(100);
-        let wave = 220 + load.draw(60);
-        let share = match cell {
+/// The road of n cells, of 64 at most: an off-ramp at every fourth cell, a bottleneck at every sixth.
+fn road(n: usize) -> Road {
+    let mut road = Road {
+        n,
+        version: 1,
+        gate_capacity: 25_000,
+        ..Road::EMPTY
+    };
+    for cell in 1..=n.min(CELLS) {
+        let i = cell - 1;
+        let turn = |step: usize, most: usize| (step * cell % (most + 1)) as u16;
+        road.speed[i] = 900 + turn(37, 100);
+        road.wave[i] = 220 + turn(23, 60);
+        road.share[i] = match cell {
             _ if cell == n => 0,
-            _ if cell % 4 == 0 => 850 + load.draw(100),
+            _ if cell % 4 == 0 => 850 + turn(37, 100),
             _ => 1_000,
         };
-        let jam = 120_000 + load.draw(20_000);
-        let capacity = if cell % 6 == 0 { 21_000 } else { 25_000 };
-        let held = load.draw(30_000);
-        let queue = if ramp { load.draw(10_000) } else { 0 };
-        for number in [speed, wave, share, u32::from(ramp)] {
-            head.extend((number as u16).to_be_bytes());
-        }
-        for number in [jam, capacity, held, queue] {
-            head.extend(number.to_be_bytes());
-        }
-        let target = f64::from(1_000 * capacity / speed);
-        laws.push(Law::Alinea { gain: 0.1, target });
+        road.ramp[i] = u16::from(has_ramp(cell));
+        road.jam[i] = 120_000 + u32::from(turn(7_919, 20_000));
+        road.capacity[i] = if cell % 6 == 0 { 21_000 } else { 25_000 };
     }
-    Drawn {
-        n,
-        steps,
-        head,
-        laws,
-    }
+    road
 }
 
-impl Drawn {
-    /// The record of this road under arrivals up to `peak`, its releases filled by the meters.
-    pub fn record(&self, peak: u32, load: &mut Load) -> Vec<u8> {
-        let mut record = self.head.clone();
-        for _ in 0..self.steps {
-            record.extend(load.draw(peak).to_be_bytes());
-            for cell in 1..=self.n {
-                let arrivals = if cell % 3 == 2 {
-                    load.draw(peak / 10)
-                } else {
-                    0
-                };
-                record.extend(arrivals.to_be_bytes());
-                record.extend([0; 4]);
-            }
-        }
-        let mut list = vec![0; self.steps * (self.n + 1)];
-        let ended = nobyaluk::fill_into(&mut record, &self.laws, &[], &mut list);
-        assert_eq!(ended.number, 0, "the load is refused");
-        record
+/// What that road starts from.
+fn start(n: usize) -> Start {
+    let mut start = Start {
+        gate_queue: 10_000,
+        ..Start::EMPTY
+    };
+    for cell in 1..=n.min(CELLS) {
+        start.held[cell - 1] = 15_000;
+        start.queue[cell - 1] = if has_ramp(cell) { 5_000 } else { 0 };
     }
+    start
 }
 
-/// The record of a seed: road and load by one chain of numbers.
-pub fn record(seed: u32, peak: u32, n: usize, steps: usize) -> Vec<u8> {
-    let mut load = Load(seed);
-    draw_road(n, steps, &mut load).record(peak, &mut load)
+/// The rows before filling: the gate's arrivals, then those of each ramp, one list after the other.
+fn rows(seed: u32, peak: u32, n: usize, steps: usize) -> Result<Vec<u32>, Refused> {
+    let width = 1 + 2 * n;
+    let mut rows = vec![0; steps * width];
+    let mut number = seed;
+    let ramps = (1..=n).filter(|&cell| has_ramp(cell));
+    for (column, most) in
+        std::iter::once((0, peak)).chain(ramps.map(|cell| (2 * cell - 1, peak / 10)))
+    {
+        let Load { arrivals, last } = nobyaluk::load(number, most, steps)?;
+        for (step, arrival) in arrivals.into_iter().enumerate() {
+            rows[step * width + column] = arrival;
+        }
+        number = last;
+    }
+    Ok(rows)
+}
+
+/// ALINEA at every cell, with the count at which it sends its capacity as the target.
+fn laws(road: &Road) -> Vec<Law> {
+    let cells = road.speed.iter().zip(road.capacity).take(road.n);
+    cells
+        .map(|(&speed, capacity)| Law::Alinea {
+            gain: 0.1,
+            target: f64::from(1_000 * capacity / u32::from(speed)),
+        })
+        .collect()
+}
+
+/// The record of a seed, a peak, n cells and T steps, or the refusal that writing, loading or filling meets.
+pub fn record(seed: u32, peak: u32, n: usize, steps: usize) -> Result<Vec<u8>, Refused> {
+    let road = road(n);
+    // beyond the limits there are no rows, and writing refuses n or T before it looks for them
+    let within = (1..=CELLS).contains(&n) && (1..=STEPS).contains(&steps);
+    let rows = if within {
+        rows(seed, peak, n, steps)?
+    } else {
+        vec![]
+    };
+    let mut record = nobyaluk::write(road, steps, start(n), &rows)?;
+    nobyaluk::fill(&mut record, &laws(&road), &[])?;
+    Ok(record)
 }
 
 #[cfg(test)]
@@ -100,17 +113,62 @@ mod tests {
     use super::*;
 
     #[test]
-    fn the_stated_load() {
-        let mut load = Load(0);
-        let drawn: Vec<u32> = (0..10).map(|_| load.draw(1_000)).collect();
+    fn draws_are_the_stated_load() {
+        let mut draws = Draws(0);
+        let drawn: Vec<u32> = (0..10).map(|_| draws.draw(1_000)).collect();
         assert_eq!(drawn, [236, 278, 820, 668, 384, 622, 344, 640, 508, 582]);
-        assert!((0..100_000).all(|_| load.draw(PEAK) <= PEAK));
+    }
+
+    #[test]
+    fn arrivals_are_lists_one_after_the_other() {
+        let record = record(7, 3_000, 6, 20).unwrap();
+        let rows = nobyaluk::rows(&record).unwrap();
+        let column = |k: usize| {
+            rows.iter()
+                .skip(k)
+                .step_by(13)
+                .copied()
+                .collect::<Vec<u32>>()
+        };
+        let gate = nobyaluk::load(7, 3_000, 20).unwrap();
+        let first = nobyaluk::load(gate.last, 300, 20).unwrap();
+        let second = nobyaluk::load(first.last, 300, 20).unwrap();
+        assert_eq!(column(0), gate.arrivals);
+        assert_eq!(column(3), first.arrivals);
+        assert_eq!(column(9), second.arrivals);
+    }
+
+    #[test]
+    fn the_example_is_such_a_record() {
+        let stored: &[u8] = include_bytes!("../../examples/loaded.rec");
+        assert!(
+            record(0, 40_000, 6, 30).unwrap() == stored,
+            "examples/loaded.rec is not the record of docs/LOAD.md"
+        );
+    }
+
+    #[test]
+    fn beyond_the_limits_there_is_a_refusal() {
+        let number = |peak, n, steps| record(1, peak, n, steps).unwrap_err().number;
+        assert_eq!(number(1_000_001, 6, 30), 25);
+        for (n, steps) in [
+            (0, 30),
+            (65, 30),
+            (usize::MAX, 30),
+            (6, 0),
+            (6, 1_441),
+            (6, usize::MAX),
+        ] {
+            assert_eq!(number(1_000, n, steps), 3);
+            assert_eq!(number(1_000_001, n, steps), 3);
+        }
+        assert_eq!(number(1_000, 64, 125), 1);
     }
 
     #[test]
     fn the_sizes_use_a_record_up() {
         for (n, steps, size) in [(64, 124, 65_536), (21, 377, 65_364), (6, 1_257, 65_524)] {
-            assert_eq!(record(SEED, PEAK, n, steps).len(), size);
+            assert_eq!(record(SEED, PEAK, n, steps).unwrap().len(), size);
         }
     }
 
@@ -118,8 +176,9 @@ mod tests {
     #[test]
     fn the_roads_are_congested_in_part() {
         for (n, steps) in crate::SIZES {
-            let record = record(SEED, PEAK, n, steps);
+            let record = record(SEED, PEAK, n, steps).unwrap();
             let run = nobyaluk::run(&record, &[]).unwrap();
+            let rows = nobyaluk::rows(&record).unwrap();
             let road = &run.ended.road;
             let (mut moving, mut held_back, mut releasing) = (0, 0, 0);
             for step in 1..steps {
@@ -129,11 +188,15 @@ mod tests {
                         nobyaluk::demand(road.speed[i], road.capacity[i], run.held[before]);
                     moving += u32::from(run.outflow[now] > 0);
                     held_back += u32::from(run.outflow[now] < demand);
-                    let release = 16 + 24 * n + step * (4 + 8 * n) + 8 + 8 * i;
-                    releasing += u32::from(record[release..release + 4] != [0; 4]);
+                    releasing += u32::from(rows[step * (1 + 2 * n) + 2 * i + 2] > 0);
                 }
             }
             let places = (n * (steps - 1)) as u32;
+            println!(
+                "n {n}: of 100, {} held back, {} releasing",
+                100 * held_back / places,
+                100 * releasing / places
+            );
             assert!(moving > places * 9 / 10);
             assert!(held_back > places / 10 && held_back < places * 9 / 10);
             assert!(releasing > places / 10);

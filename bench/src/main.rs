@@ -1,9 +1,11 @@
 //! The proved engine beside straightforward Rust. First both are compared, then timed.
 //!
-//! `bench` compares and times; `bench --compare-only` only compares; `bench calls engine|rust N T COUNT` makes that many runs
-//! of one record, for a profiler.
+//! `bench` compares and times; `bench --compare-only` only compares; `bench record SEED PEAK N T` writes such a record to
+//! standard output; `bench calls engine|rust N T COUNT` makes that many runs of one record, for a profiler.
 #![forbid(unsafe_code)]
+use std::io::Write;
 use std::process::ExitCode;
+use std::str::FromStr;
 
 mod compare;
 mod load;
@@ -19,8 +21,11 @@ fn main() -> ExitCode {
     let done = match words[..] {
         [] => compare_and_time(),
         ["--compare-only"] => compare::compare_all().map(|said| println!("{said}")),
+        ["record", seed, peak, n, steps] => print_record(seed, peak, n, steps),
         ["calls", program, n, steps, count] => timing::make_calls(program, n, steps, count),
-        _ => Err("bench [--compare-only | calls engine|rust N T COUNT]".into()),
+        _ => Err(
+            "bench [--compare-only | record SEED PEAK N T | calls engine|rust N T COUNT]".into(),
+        ),
     };
     match done {
         Ok(()) => ExitCode::SUCCESS,
@@ -33,6 +38,17 @@ fn main() -> ExitCode {
 
 fn compare_and_time() -> Result<(), String> {
     println!("{}", compare::compare_all()?);
-    timing::time_all();
-    Ok(())
+    timing::time_all().map_err(|refused| refused.to_string())
+}
+
+/// A word as a number of the kind that is asked for.
+fn number<T: FromStr>(word: &str) -> Result<T, String> {
+    word.parse().map_err(|_| format!("not a number: {word}"))
+}
+
+fn print_record(seed: &str, peak: &str, n: &str, steps: &str) -> Result<(), String> {
+    let record = load::record(number(seed)?, number(peak)?, number(n)?, number(steps)?);
+    let record = record.map_err(|refused| refused.to_string())?;
+    let printed = std::io::stdout().write_all(&record);
+    printed.map_err(|error| format!("standard output: {error}"))
 }

@@ -1,7 +1,9 @@
 //! Times and instructions of both programs, by interleaved calls.
-use crate::load::{draw_road, record, Load, PEAK, SEED};
-use crate::{straight, SIZES};
+use crate::load::{record, PEAK, SEED};
+use crate::{number, straight, SIZES};
+use nobyaluk::Refused;
 use std::hint::black_box;
+use std::ops::Range;
 use std::process::Command;
 use std::time::{Duration, Instant};
 
@@ -38,11 +40,8 @@ fn median(mut times: Vec<Duration>) -> f64 {
     times[times.len() / 2].as_nanos() as f64
 }
 
-fn least(times: Vec<Duration>) -> f64 {
-    times
-        .iter()
-        .min()
-        .map_or(0.0, |time| time.as_nanos() as f64)
+fn least(times: impl Iterator<Item = Duration>) -> f64 {
+    times.min().map_or(0.0, |time| time.as_nanos() as f64)
 }
 
 /// The times of `count` calls of each; the order changes from call to call.
@@ -64,10 +63,14 @@ fn interleaved(
     [ones, twos]
 }
 
-fn time_size(n: usize, steps: usize) -> f64 {
-    let records: Vec<Vec<u8>> = (SEED..SEED + RECORDS)
-        .map(|seed| record(seed, PEAK, n, steps))
-        .collect();
+/// The records of these seeds.
+fn records(seeds: Range<u32>, n: usize, steps: usize) -> Result<Vec<Vec<u8>>, Refused> {
+    seeds.map(|seed| record(seed, PEAK, n, steps)).collect()
+}
+
+/// The ratio of one size.
+fn time_size(n: usize, steps: usize) -> Result<f64, Refused> {
+    let records = records(SEED..SEED + RECORDS, n, steps)?;
     let mut list = vec![0; steps * (n + 1)];
     let mut other = list.clone();
     // each record twice in a row, since the order changes from call to call
@@ -102,35 +105,41 @@ fn time_size(n: usize, steps: usize) -> f64 {
         _ => println!("  instructions: not counted, for want of valgrind"),
     }
     println!("  ratio {ratio:.2}");
-    ratio
+    Ok(ratio)
 }
 
-/// A thousand loads over one road, as a study has them. A pass is long enough to be interrupted, so the least of several counts.
-fn time_study() {
+/// A thousand loads over one road, one after the other, as a study has them. Of each load the least of several passes counts, so
+/// that an interruption spoils one load of one pass.
+fn time_study() -> Result<(), Refused> {
     let (n, steps) = SIZES[0];
-    let road = draw_road(n, steps, &mut Load(SEED));
-    let records: Vec<Vec<u8>> = (1..=LOADS)
-        .map(|seed| road.record(PEAK, &mut Load(seed)))
-        .collect();
+    let records = records(1..LOADS + 1, n, steps)?;
     let mut list = vec![0; steps * (n + 1)];
     let mut other = list.clone();
-    let [proved, plain] = interleaved(
-        PASSES,
-        |_| records.iter().for_each(|record| engine(record, &mut list)),
-        |_| records.iter().for_each(|record| rust(record, &mut other)),
-    )
-    .map(least);
+    let at = |i: usize| &records[i % records.len()];
+    let times = interleaved(
+        PASSES * records.len(),
+        |i| engine(at(i), &mut list),
+        |i| rust(at(i), &mut other),
+    );
+    let [proved, plain] = times.map(|times| {
+        let of_load = |k| times.iter().skip(k).step_by(records.len()).copied();
+        (0..records.len()).map(|k| least(of_load(k))).sum::<f64>()
+    });
     println!(
         "{LOADS} loads over one road of {n} cells, T {steps}: engine {:.1} ms, Rust {:.1} ms, ratio {:.2}",
         proved / 1e6,
         plain / 1e6,
         proved / plain
     );
+    Ok(())
 }
 
-pub fn time_all() {
-    let ratios = SIZES.map(|(n, steps)| time_size(n, steps));
-    time_study();
+pub fn time_all() -> Result<(), Refused> {
+    let mut ratios = [0.0; SIZES.len()];
+    for (ratio, (n, steps)) in ratios.iter_mut().zip(SIZES) {
+        *ratio = time_size(n, steps)?;
+    }
+    time_study()?;
     let within = ratios.iter().all(|ratio| *ratio <= BAR);
     println!(
         "engine / Rust: ratio {:.2} {:.2} {:.2} at n 64, 21, 6: {} at or below {BAR:.2}",
@@ -139,21 +148,18 @@ pub fn time_all() {
         ratios[2],
         if within { "all" } else { "NOT all" }
     );
+    Ok(())
 }
 
 /// For a profiler: runs of one record, and nothing else that differs with `count`.
 pub fn make_calls(program: &str, n: &str, steps: &str, count: &str) -> Result<(), String> {
-    let whole = |word: &str| {
-        word.parse::<usize>()
-            .map_err(|_| format!("not a number: {word}"))
-    };
-    let (n, steps, count) = (whole(n)?, whole(steps)?, whole(count)?);
+    let (n, steps, count) = (number(n)?, number(steps)?, number(count)?);
     let call = match program {
         "engine" => engine,
         "rust" => rust,
         _ => return Err(format!("no such program: {program}")),
     };
-    let record = record(SEED, PEAK, n, steps);
+    let record = record(SEED, PEAK, n, steps).map_err(|refused| refused.to_string())?;
     let mut list = vec![0; steps * (n + 1)];
     for _ in 0..count {
         call(&record, &mut list);

@@ -109,7 +109,7 @@ pub struct Load {
     pub last: u32,
 }
 
-/// The arrivals of a seed and a peak.
+/// The arrivals of a seed and a peak, as many as asked for.
 ///
 /// ```
 /// use nobyaluk::load;
@@ -168,4 +168,39 @@ pub fn grant(limit: u32, guarantees: &[u32], wishes: &[u32]) -> Result<Vec<u32>,
 /// ```
 pub fn put(record: &mut [u8], step: usize, cell: usize, release: u32) -> Result<(), Refused> {
     put_into(record, step, cell, release).ok().map(|_| ())
+}
+
+/// Puts into a record the releases that keep the queue of a cell's ramp at or under the ceiling, as [`wanted`] gives them from
+/// the record's own start and arrivals, and gives them too. Where no table does it the answer is none; then, as after a
+/// refusal, the record is as it was. Whether the cell has room for them is running's to say.
+///
+/// ```
+/// let mut record = std::fs::read("../../examples/printed-run.rec")?;
+/// let table = nobyaluk::put_wanted(&mut record, 2, 1_900, 900)?; // 1,500 wait, 500 arrive in each step
+/// assert_eq!(table, Some(vec![100, 500, 500]));
+/// assert_eq!(nobyaluk::run(&record, &[])?.queue[2], 1_900);
+/// assert_eq!(nobyaluk::put_wanted(&mut record, 2, 1_900, 99)?, None);
+/// assert_eq!(nobyaluk::put_wanted(&mut record, 1, 1_900, 900).unwrap_err().number, 5);
+/// # Ok::<(), Box<dyn std::error::Error>>(())
+/// ```
+pub fn put_wanted(
+    record: &mut [u8],
+    cell: usize,
+    ceiling: u32,
+    rate: u32,
+) -> Result<Option<Vec<u32>>, Refused> {
+    let mut changed = record.to_vec();
+    put(&mut changed, 0, cell, 0)?; // 5 where there is no such ramp
+    let start = read(record).ok()?;
+    let arrivals = rows(record)?;
+    let arrivals = arrivals.chunks(1 + 2 * start.road.n);
+    let arrivals: Vec<u32> = arrivals.map(|row| row[2 * cell - 1]).collect();
+    let table = wanted(start.state.queue[cell - 1], ceiling, rate, &arrivals)?;
+    if let Some(releases) = &table {
+        for (step, &release) in releases.iter().enumerate() {
+            put(&mut changed, step, cell, release)?;
+        }
+        record.copy_from_slice(&changed);
+    }
+    Ok(table)
 }

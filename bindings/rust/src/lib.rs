@@ -1,7 +1,7 @@
 //! Safe calls of the proved freeway engine. Counts are in parts, thousandths of a vehicle; times in part-steps.
 //!
 //! Each call passes slices whole, so pointer, count, alignment and the borrows are Rust's own; the engine asks nothing more.
-//! No call panics, whatever it is given. What can be refused answers a [`Result`] with a [`Refused`], which says its words,
+//! No call panics, whatever it is given, as long as there is memory for the list that [`load`] is asked for. What can be refused answers a [`Result`] with a [`Refused`], which says its words,
 //! or an answer of the engine with `ok()`, which makes that result of it:
 //!
 //! | operation | with lists of its own | on lent lists, the engine's own answer |
@@ -10,9 +10,9 @@
 //! | running, with weights | [`run`], [`run_weighted`] | [`run_into`], [`run_weighted_into`] |
 //! | judging, with the states | | [`judge`], [`history_into`] |
 //! | filling by meter laws | [`fill`] | [`fill_into`], [`fill_kinds_into`] |
-//! | writing; rows | [`write`]; [`rows`], [`row`] | [`write_into`]; [`rows_into`] |
+//! | writing; rows | [`write`](fn@write); [`rows`], [`row`] | [`write_into`]; [`rows_into`] |
 //! | a stated load | [`load`] | [`load_into`] |
-//! | releases for a wanted queue | [`wanted`] | [`wanted_into`] |
+//! | releases for a wanted queue | [`wanted`], [`put_wanted`] | [`wanted_into`] |
 //! | ramps of one street; a release put | [`grant`]; [`put`] | [`grant_into`]; [`put_into`] |
 //! | stepping | | [`step`] |
 //!

@@ -1,5 +1,6 @@
 //! Every example through the safe calls. `trials/` holds the same calls to the reference.
-use nobyaluk::{judge, run, version, VERSION};
+use nobyaluk::{judge, put_wanted, run, version, Run, VERSION};
+use std::collections::BTreeMap;
 use std::fs;
 use std::path::PathBuf;
 
@@ -48,4 +49,56 @@ fn a_refused_example_is_named_by_its_number() {
             assert_eq!(run(&record, &[]).unwrap_err().number, number, "{name}");
         }
     }
+}
+
+/// What examples/rocade-sud-ceiling.md says: made anew from the ALINEA record by wanted and put, none one part lower.
+#[test]
+fn a_town_s_ceiling_on_rocade_sud() {
+    let records: BTreeMap<String, Vec<u8>> = examples().into_iter().collect();
+    let mut record = records["rocade-sud-alinea"].clone();
+    assert_eq!(put_wanted(&mut record, 16, 44_999, 3_750), Ok(None));
+    assert_eq!(
+        put_wanted(&mut record, 15, 50_000, 3_750)
+            .unwrap_err()
+            .number,
+        5
+    );
+    assert!(record == records["rocade-sud-alinea"]);
+    let table = put_wanted(&mut record, 16, 50_000, 3_750).unwrap().unwrap();
+    assert_eq!((table.len(), table[53], table[54]), (378, 2_500, 3_750));
+    assert!(
+        record == records["rocade-sud-ceiling"],
+        "the stored record is another"
+    );
+    let whole = run(&record, &[]).unwrap();
+    let queue = whole.queue.iter().skip(16).step_by(22);
+    assert_eq!(queue.max(), Some(&50_000));
+    let road = &whole.ended.road;
+    let supply = |&held| nobyaluk::supply(road.wave[15], road.capacity[15], road.jam[15], held);
+    let least = whole.held.iter().skip(16).step_by(22).map(supply).min();
+    assert_eq!(least, Some(23_333));
+    let before = run(&records["rocade-sud-alinea"], &[]).unwrap();
+    for (cell, at_ceiling, by_alinea) in [
+        (14, Some(164), None),
+        (11, Some(200), None),
+        (16, Some(138), Some(134)),
+        (3, Some(268), None),
+        (7, Some(157), Some(157)),
+        (2, None, None),
+    ] {
+        assert_eq!(first_held_back(&whole, cell), at_ceiling, "{cell}");
+        assert_eq!(first_held_back(&before, cell), by_alinea, "{cell}");
+    }
+    assert_eq!(whole.ended.state.gate_time, before.ended.state.gate_time);
+}
+
+/// The first step after step 0 in which a cell sends less than its demand.
+fn first_held_back(run: &Run, cell: usize) -> Option<usize> {
+    let (road, width) = (&run.ended.road, run.ended.road.n + 1);
+    let held = run.held.chunks(width);
+    let mut steps = held.zip(run.outflow.chunks(width).skip(1));
+    let (speed, capacity) = (road.speed[cell - 1], road.capacity[cell - 1]);
+    let less =
+        |(held, sent): (&[u32], &[u32])| sent[cell] < nobyaluk::demand(speed, capacity, held[cell]);
+    steps.position(less).map(|k| k + 1)
 }

@@ -6,8 +6,10 @@ use reference::fill::fill;
 use reference::lanes_text::table_of;
 use reference::laws::laws_of;
 use reference::print::{judgement_line, printed_run, printed_under};
+use reference::record;
 use reference::run::run;
 use reference::text::schedule_of;
+use reference::wanted::{wanted, Asked, Wanted};
 use reference::weigh::{self, Weights};
 use std::collections::BTreeSet;
 use std::fs;
@@ -150,6 +152,85 @@ fn the_page_of_rocade_sud_says_who_waits_where() {
     }
     let filled = rows.iter().map(|row| row[0].clone()).skip(1);
     assert_eq!(filled.collect::<BTreeSet<_>>(), named(".laws.txt"));
+}
+
+#[test]
+fn the_page_of_the_ceiling_says_who_waits_where() {
+    let rows = table_rows("rocade-sud-ceiling.md", "record");
+    assert_eq!(rows.len(), 2);
+    let page = text_in("rocade-sud-ceiling.md");
+    for row in &rows {
+        let record = bytes_of(&format!("{}.rec", row[0]));
+        assert_eq!(row[1..], who_waits_where(&record, &[]), "{}", row[0]);
+        let printed = printed_run(&record);
+        let last = format!("`{}` (`{}`)", printed.lines().last().unwrap(), row[0]);
+        assert!(page.contains(&last), "{last}");
+    }
+    let [before, after] = ["alinea", "ceiling"].map(|name| {
+        let mut list = vec![0; 378 * 22];
+        run(&bytes_of(&format!("rocade-sud-{name}.rec")), &[], &mut list).state
+    });
+    let [ramp, road] = [
+        before.ramp_time - after.ramp_time,
+        after.road_time - before.road_time,
+    ];
+    let [ramp_hours, road_hours, more] = [ramp, road, road - ramp].map(hours);
+    for said in [
+        format!("{ramp_hours} vehicle-hours fewer"),
+        format!("{road_hours} more on the road"),
+        format!("{more} more in all"),
+    ] {
+        assert!(page.contains(&said), "{said}");
+    }
+}
+
+/// The page's steps, arrivals, releases and queues are those of the record's on-ramp, and its releases are the wanted ones.
+#[test]
+fn the_page_of_the_ceiling_has_its_table() {
+    let record = bytes_of("rocade-sud-ceiling.rec");
+    let rows: Vec<_> = (0..378).map(|t| record::row(&record, 21, t)).collect();
+    let (mut queue, mut from, mut said) = (2_500, 0, vec![]);
+    for (t, row) in rows.iter().enumerate() {
+        let [arrivals, release] = [row[31], row[32]];
+        queue = queue + arrivals - release;
+        let next = rows.get(t + 1);
+        if next.is_none_or(|next| next[31..33] != [arrivals, release]) {
+            let numbers = [arrivals, release, queue].map(|number| with_commas(u64::from(number)));
+            said.push([vec![format!("{from} to {t}")], numbers.to_vec()].concat());
+            from = t + 1;
+        }
+    }
+    assert_eq!(table_rows("rocade-sud-ceiling.md", "steps"), said);
+    let arrivals: Vec<u32> = rows.iter().map(|row| row[31]).collect();
+    let mut table = vec![0; arrivals.len()];
+    let asked = |ceiling| Asked {
+        start: 2_500,
+        ceiling,
+        rate: 3_750,
+        arrivals: &arrivals,
+    };
+    assert_eq!(wanted(asked(44_999), &mut table), Wanted::NoTable);
+    assert_eq!(wanted(asked(45_000), &mut table), Wanted::Found);
+    assert_eq!(wanted(asked(50_000), &mut table), Wanted::Found);
+    assert!(rows
+        .iter()
+        .zip(table)
+        .all(|(row, release)| row[32] == release));
+}
+
+/// With the works of the other page in the rush: 10 for the ceiling's record, none for the one it was made from.
+#[test]
+fn the_page_of_the_ceiling_says_where_10_comes() {
+    let works = text_in("rocade-sud-works.lanes.txt").replace("0 to 89", "90 to 179");
+    let lanes = table_of(&works).unwrap();
+    let verdict = |name: &str| {
+        let mut list = vec![0; 378 * 22];
+        let answer = run(&bytes_of(name), &lanes, &mut list);
+        (answer.number, answer.step, answer.place)
+    };
+    assert_eq!(verdict("rocade-sud-ceiling.rec"), (10, 192, 2));
+    assert_eq!(verdict("rocade-sud-alinea.rec"), (0, 0, 0));
+    assert!(text_in("rocade-sud-ceiling.md").contains("`refused 10 192 2`"));
 }
 
 #[test]

@@ -1,7 +1,11 @@
 //! Arrivals from a seed and a peak.
 
 use crate::support::LENT;
+use reference::draft::{CellDraft, Draft};
+use reference::fill;
 use reference::load::{arrival_of, load, next, Loaded};
+use reference::meter::Law;
+use reference::model::Road;
 use reference::trials::dice::Dice;
 
 fn loaded(seed: u32, peak: u32, count: usize) -> (Loaded, Vec<u32>) {
@@ -97,4 +101,50 @@ fn a_list_goes_on_where_another_stopped() {
         let (end, after) = loaded(part.last, peak, rest);
         assert_eq!((list, whole), ([before, after].concat(), end));
     }
+}
+
+/// The road of docs/LOAD.md, cell by cell.
+fn stated_cell(i: usize, n: usize) -> CellDraft {
+    let ramp = u16::from(i % 3 == 2);
+    CellDraft {
+        v: 900 + (37 * i % 101) as u16,
+        w: 220 + (23 * i % 61) as u16,
+        b: match (i == n, i % 4) {
+            (true, _) => 0,
+            (false, 0) => 850 + (37 * i % 101) as u16,
+            (false, _) => 1_000,
+        },
+        ramp,
+        jam: 120_000 + (7_919 * i % 20_001) as u32,
+        capacity: match i % 6 {
+            0 => 21_000,
+            _ => 25_000,
+        },
+        held: 15_000,
+        queue: 5_000 * u32::from(ramp),
+    }
+}
+
+/// The record that docs/LOAD.md makes from seed 0, peak 40,000, n 6 and T 30.
+#[test]
+fn the_example_of_the_stated_load() {
+    let (n, steps) = (6, 30);
+    let cells: Vec<CellDraft> = (1..=n).map(|i| stated_cell(i, n)).collect();
+    let (gate, arrivals) = loaded(0, 40_000, steps);
+    let (second, at_two) = loaded(gate.last, 4_000, steps);
+    let (_, at_five) = loaded(second.last, 4_000, steps);
+    let mut rows = vec![vec![0; 1 + 2 * n]; steps];
+    for (t, row) in rows.iter_mut().enumerate() {
+        (row[0], row[3], row[9]) = (arrivals[t], at_two[t], at_five[t]);
+    }
+    let mut laws = [Law::Fixed { rate: 0.0 }; Road::MAX_CELLS];
+    for (law, cell) in laws.iter_mut().zip(&cells) {
+        let target = f64::from(1_000 * cell.capacity / u32::from(cell.v));
+        *law = Law::Alinea { gain: 0.1, target };
+    }
+    let mut record = Draft::new((25_000, 10_000), cells, rows).encode();
+    let mut list = vec![LENT; steps * (n + 1)];
+    assert_eq!(fill::fill(&mut record, &laws, &[], &mut list).number, 0);
+    let stored: &[u8] = include_bytes!("../../../examples/loaded.rec");
+    assert!(record == stored);
 }

@@ -1,0 +1,91 @@
+//! Calls with lists of their own on any input: they answer, and after a refusal the record is as it was.
+use nobyaluk::{
+    fill, grant, judge, load, put, put_wanted, read, row, rows, run, run_weighted, step, wanted,
+    write, Lanes, Law, Road, Start, State, Weights,
+};
+use std::path::PathBuf;
+
+const MOST: [usize; 6] = [0, 1, 2, 64, 65, usize::MAX];
+
+/// Records damaged in one to three bytes, cut, or without sense, by the stated load.
+fn records() -> Vec<Vec<u8>> {
+    let folder = PathBuf::from(env!("CARGO_MANIFEST_DIR")).join("../../examples");
+    let whole = std::fs::read(folder.join("printed-run.rec")).unwrap();
+    let draws = load(1, 1_000_000, 4_000).unwrap().arrivals;
+    let mut made = vec![vec![], vec![0; 16], vec![255; 70_000]];
+    for few in draws.chunks(8) {
+        let few: Vec<usize> = few.iter().map(|&draw| draw as usize).collect();
+        let mut record = whole.clone();
+        for pair in few[..6].chunks(2).take(1 + few[7] % 3) {
+            record[pair[0] % whole.len()] = pair[1] as u8;
+        }
+        if few[6] % 9 == 1 {
+            record.truncate(few[5] % whole.len());
+        }
+        made.push(record);
+    }
+    made
+}
+
+#[test]
+fn every_record_is_answered() {
+    let laws = [Law::Alinea {
+        gain: f64::MAX,
+        target: -1.0,
+    }; 70];
+    let (mut accepted, mut refused) = (0, 0);
+    for record in records() {
+        match run(&record, &[]) {
+            Ok(whole) => {
+                accepted += 1;
+                assert_eq!(judge(&record, &[], &whole.outflow).total, whole.ended.total);
+                let (weighed, total) = run_weighted(&record, &[], Weights::EVEN).unwrap();
+                assert_eq!((weighed, total), (whole.clone(), whole.ended.total));
+            }
+            Err(_) => refused += 1,
+        }
+        for lanes in [&[][..], &[1; 8], &[0; 3]] {
+            let mut filled = record.clone();
+            if fill(&mut filled, &laws, lanes).is_err() {
+                assert!(filled == record);
+            }
+        }
+        let reading = read(&record).ok();
+        assert_eq!(rows(&record).is_ok(), reading.is_ok());
+        if let (Ok(rows), Ok(reading)) = (rows(&record), reading) {
+            let start = reading.state.start();
+            let again = write(reading.road, reading.steps as usize, start, &rows);
+            assert!(again == Ok(record.clone()));
+        }
+        for (k, number) in MOST.into_iter().enumerate() {
+            let _ = row(&record, number, MOST[5 - k]);
+            let mut changed = record.clone();
+            if put(&mut changed, number, MOST[5 - k], u32::MAX).is_err() {
+                assert!(changed == record);
+            }
+            if !matches!(put_wanted(&mut changed, number, 2_000, 900), Ok(Some(_))) {
+                assert!(changed == record);
+            }
+        }
+    }
+    assert!(accepted > 20 && refused > 20, "{accepted} and {refused}");
+}
+
+#[test]
+fn every_number_is_answered() {
+    for n in MOST {
+        let road = Road { n, ..Road::EMPTY };
+        for steps in MOST {
+            assert!(write(road, steps, Start::EMPTY, &[]).is_err());
+        }
+        let stepped = step(road, State::EMPTY, &[u32::MAX; 5], Lanes::OPEN);
+        assert_eq!(stepped.ok().unwrap_err().number, 7);
+    }
+    for number in [0, 1, 1_000_000, 1_000_001, u32::MAX] {
+        let _ = wanted(number, number, number, &[number; 3]);
+        let _ = grant(number, &[number; 3], &[number; 2]);
+        let _ = grant(number, &[number; 9], &[number; 9]);
+        assert_eq!(load(number, number, 2).is_ok(), number <= 1_000_000);
+    }
+    assert_eq!(wanted(0, 0, 0, &[0; 1_441]).unwrap_err().number, 23);
+}
