@@ -36,10 +36,8 @@ static void grants(void) {
     hold("24", nobyaluk_grant(5, guarantees, 3, wishes, 3, given, 3) == 24 && !memcmp(given, fair, sizeof given));
 }
 
-static void puts_release(void) {
-    static uint8_t record[NOBYALUK_BYTES];
+static void puts_release(uint8_t *record, size_t bytes) {
     uint32_t rows[15];
-    size_t bytes = fread(record, 1, sizeof record, stdin);
     nobyaluk_released a = nobyaluk_put(record, bytes, 0, 3, 7);
     hold("5", a.number == 5 && a.place == 3);
     a = nobyaluk_put(record, bytes, 3, 2, 7);
@@ -48,10 +46,30 @@ static void puts_release(void) {
     hold("a release put", a.number == 0 && nobyaluk_rows(record, bytes, 2, 3, rows, 15) == 15 && rows[9] == 7 && rows[8] == 500 && rows[14] == 300);
 }
 
+/* the printed run before itself without its gate's queue and arrivals, which stand at these bytes */
+static void joins(const uint8_t *record, size_t bytes) {
+    static uint8_t second[NOBYALUK_BYTES], target[NOBYALUK_BYTES];
+    static const size_t gate[4] = {12, 64, 84, 104};
+    memcpy(second, record, bytes);
+    for (int i = 0; i < 4; i++) memset(second + gate[i], 0, 4);
+    nobyaluk_written a = nobyaluk_join(record, bytes, record, bytes, 650, target, sizeof target);
+    hold("21", a.number == 21 && a.place == 0 && a.count == 0 && target[0] == 0 && target[5] == 0);
+    a = nobyaluk_join(record, bytes, second, bytes, 1001, target, sizeof target);
+    hold("5 at the joint", a.number == 5 && a.place == 2 && a.count == 0);
+    target[220] = 7;
+    a = nobyaluk_join(record, bytes, second, bytes, 650, target, sizeof target);
+    nobyaluk_reading r = nobyaluk_read(target, a.count);
+    hold("two roads joined", a.number == 0 && a.count == 220 && r.number == 0 && r.road.n == 4 && r.road.share[1] == 650 && r.road.share[2] == 750);
+    hold("nothing beyond", target[220] == 7 && !memcmp(target + 16 + 48 + 24, second + 16 + 24, 24));
+}
+
 int main(void) {
+    static uint8_t record[NOBYALUK_BYTES];
+    size_t bytes = fread(record, 1, sizeof record, stdin);
     loads();
     wants();
     grants();
-    puts_release();
+    joins(record, bytes);
+    puts_release(record, bytes);
     return wrong;
 }

@@ -31,7 +31,8 @@ pub fn records() -> Vec<Named> {
     list
 }
 
-/// The record that a case takes, if it takes one, and what filling or putting makes of it.
+/// The record that a case takes, if it takes one, and what filling, putting or joining
+/// makes of it.
 fn records_of(case: Case) -> Vec<Vec<u8>> {
     match case {
         Case::Read { record } | Case::Run { record, .. } | Case::Judge { record, .. } => {
@@ -49,6 +50,7 @@ fn records_of(case: Case) -> Vec<Vec<u8>> {
         }
         Case::Weigh(input) => vec![input.record],
         Case::Put(input) => vec![input.record_after()],
+        Case::Join(input) => input.joined().into_iter().collect(),
         Case::Step(_)
         | Case::Write(_)
         | Case::Row { .. }

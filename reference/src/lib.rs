@@ -9,6 +9,7 @@ pub mod as_text;
 pub mod compare;
 pub mod draft;
 pub mod fill;
+pub mod join;
 pub mod judge;
 pub mod lanes;
 pub mod lanes_text;

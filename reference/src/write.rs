@@ -16,7 +16,7 @@ pub struct Written {
 }
 
 impl Written {
-    fn refused(number: u32, place: usize) -> Written {
+    pub fn refused(number: u32, place: usize) -> Written {
         Written {
             number,
             place,

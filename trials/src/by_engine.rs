@@ -89,6 +89,14 @@ fn weights_for(weights: &Weights) -> nobyaluk::Weights {
     }
 }
 
+fn written_of(written: nobyaluk::Written) -> Written {
+    Written {
+        number: refusal(written.number),
+        place: written.place as usize,
+        count: written.count as usize,
+    }
+}
+
 fn ended(ended: nobyaluk::Ended) -> Ended {
     Ended {
         answer: Answer {
@@ -182,12 +190,13 @@ impl Freeway for Engine {
             held: start.held,
             queue: start.queue,
         };
-        let written = nobyaluk::write_into(road_for(road), steps, start, rows, target);
-        Written {
-            number: refusal(written.number),
-            place: written.place as usize,
-            count: written.count as usize,
-        }
+        written_of(nobyaluk::write_into(
+            road_for(road),
+            steps,
+            start,
+            rows,
+            target,
+        ))
     }
 
     fn rows(&self, record: &[u8], n: usize, steps: usize, list: &mut [u32]) -> usize {
@@ -265,5 +274,9 @@ impl Freeway for Engine {
             number: refusal(released.number),
             place: released.place as usize,
         }
+    }
+
+    fn join(&self, upstream: &[u8], downstream: &[u8], share: u16, target: &mut [u8]) -> Written {
+        written_of(nobyaluk::join_into(upstream, downstream, share, target))
     }
 }

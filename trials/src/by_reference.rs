@@ -2,6 +2,7 @@
 
 use crate::freeway::{Ended, Freeway, Laws, Row, Told};
 use reference::answer::Answer;
+use reference::join;
 use reference::load::{self, Loaded};
 use reference::model::{self, Road, Start, State};
 use reference::put::{self, Put};
@@ -148,5 +149,9 @@ impl Freeway for Reference {
 
     fn put(&self, record: &mut [u8], step: usize, cell: usize, release: u32) -> Put {
         put::put(record, step, cell, release)
+    }
+
+    fn join(&self, upstream: &[u8], downstream: &[u8], share: u16, target: &mut [u8]) -> Written {
+        join::join(upstream, downstream, share, target)
     }
 }

@@ -67,6 +67,11 @@
 //! 'E'  a release put into a record
 //!      u64 step, u64 cell, u32 release
 //!      u32 B, B bytes of a record
+//! 'I'  two roads joined
+//!      u32 B, B bytes of the upstream record
+//!      u32 B, B bytes of the downstream record
+//!      u32 the joint's share (0 to 65,535)
+//!      u32 L, the target's length
 //!
 //! road     u32 n, u32 gate capacity, 64 x (u16 v, w, b, ramp mark), 64 x (u32 J, C),
 //!          u32 version (0 to 255), u32 seconds (0 to 65,535)
@@ -85,7 +90,7 @@
 //!
 //! Counts are within these limits: B at most 65,540; L of 'U', 'F' and 'G', Y
 //! and Z at most 9,000; K of 'S' at most 200; K of 'W' and L of 'T' at most
-//! 16,512; L of 'W' at most 65,600. Those of 'D', 'Q' and 'A' are at most 9,000.
+//! 16,512; L of 'W' and 'I' at most 65,600. Those of 'D', 'Q' and 'A' are at most 9,000.
 
 use reference::model::{Road, Start, State};
 use reference::step::Lanes;
@@ -93,6 +98,7 @@ use reference::trials::case::{
     Case, FillInput, LawInput, LeafInput, PresentInput, StepInput, WeighInput, WriteInput,
     MAX_LANES, MAX_LIST, MAX_RECORD, MAX_ROW, MAX_ROWS, MAX_TARGET,
 };
+use reference::trials::joins::JoinInput;
 use reference::trials::loads::LoadInput;
 use reference::trials::puts::PutInput;
 use reference::trials::streets::GrantInput;
@@ -200,6 +206,7 @@ pub fn encode(case: &Case, out: &mut Vec<u8>) {
         Case::Wanted(input) => put_wanted(out, input),
         Case::Grant(input) => put_grant(out, input),
         Case::Put(input) => put_put(out, input),
+        Case::Join(input) => put_join(out, input),
     }
 }
 
@@ -301,6 +308,14 @@ fn put_put(out: &mut Vec<u8>, input: &PutInput) {
     put_bytes(out, &input.record);
 }
 
+fn put_join(out: &mut Vec<u8>, input: &JoinInput) {
+    out.push(b'I');
+    put_bytes(out, &input.upstream);
+    put_bytes(out, &input.downstream);
+    put(out, u32::from(input.share));
+    put(out, input.length as u32);
+}
+
 /// The cases of all frames. The error names the frame, counted from 0.
 pub fn decode(bytes: &[u8]) -> Result<Vec<Case>, String> {
     let mut reader = Reader { bytes, at: 0 };
@@ -395,6 +410,7 @@ impl<'a> Reader<'a> {
             b'Q' => Ok(Case::Wanted(self.wanted()?)),
             b'A' => Ok(Case::Grant(self.grant()?)),
             b'E' => Ok(Case::Put(self.put()?)),
+            b'I' => Ok(Case::Join(self.join()?)),
             kind => Err(format!("{kind} is not a kind of frame")),
         }
     }
@@ -562,6 +578,15 @@ impl<'a> Reader<'a> {
             cell: self.u64("the cell")?,
             release: self.u32("the release")?,
             record: self.record()?,
+        })
+    }
+
+    fn join(&mut self) -> Result<JoinInput, String> {
+        Ok(JoinInput {
+            upstream: self.record()?,
+            downstream: self.record()?,
+            share: self.count("the share", usize::from(u16::MAX))? as u16,
+            length: self.count("the target's length", MAX_TARGET)?,
         })
     }
 }

@@ -74,4 +74,5 @@ pub trait Freeway {
     fn wanted(&self, asked: Asked, table: &mut [u32]) -> Wanted;
     fn grant(&self, limit: u32, guarantees: &[u32], wishes: &[u32], grants: &mut [u32]) -> u32;
     fn put(&self, record: &mut [u8], step: usize, cell: usize, release: u32) -> Put;
+    fn join(&self, upstream: &[u8], downstream: &[u8], share: u16, target: &mut [u8]) -> Written;
 }

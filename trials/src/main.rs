@@ -17,6 +17,8 @@ mod by_reference;
 mod files;
 mod frame;
 mod freeway;
+#[cfg(test)]
+mod joined;
 mod lent;
 mod options;
 mod show;

@@ -5,6 +5,7 @@ use reference::model::Road;
 use reference::trials::case::{
     Case, FillInput, LeafInput, PresentInput, StepInput, WeighInput, WriteInput,
 };
+use reference::trials::joins::JoinInput;
 use reference::trials::loads::LoadInput;
 use reference::trials::puts::PutInput;
 use reference::trials::streets::GrantInput;
@@ -31,6 +32,7 @@ pub fn kind(case: &Case) -> &'static str {
         Case::Wanted(_) => "wanted",
         Case::Grant(_) => "grant",
         Case::Put(_) => "put",
+        Case::Join(_) => "join",
     }
 }
 
@@ -79,6 +81,7 @@ pub fn case(case: &Case) -> String {
         Case::Wanted(input) => wanted_text(input),
         Case::Grant(input) => grant_text(input),
         Case::Put(input) => put_text(input),
+        Case::Join(input) => join_text(input),
     }
 }
 
@@ -279,4 +282,15 @@ fn put_text(input: &PutInput) -> String {
     } = input;
     let asked = format!("step {step}, cell {cell}, release {release}\n");
     asked + &record_text(record)
+}
+
+fn join_text(input: &JoinInput) -> String {
+    let JoinInput {
+        upstream,
+        downstream,
+        share,
+        length,
+    } = input;
+    let asked = format!("share {share}, target of {length} bytes\n");
+    asked + "upstream " + &record_text(upstream) + "downstream " + &record_text(downstream)
 }

@@ -11,6 +11,7 @@ use reference::step::Stepped;
 use reference::trials::case::{
     Case, FillInput, LeafInput, PresentInput, StepInput, WeighInput, WriteInput,
 };
+use reference::trials::joins::JoinInput;
 use reference::trials::loads::LoadInput;
 use reference::trials::puts::PutInput;
 use reference::trials::streets::GrantInput;
@@ -242,6 +243,7 @@ pub fn answer(freeway: &impl Freeway, case: &Case) -> Whole {
         Case::Wanted(input) => wanted(freeway, input, &mut whole),
         Case::Grant(input) => grant(freeway, input, &mut whole),
         Case::Put(input) => put(freeway, input, &mut whole),
+        Case::Join(input) => join(freeway, input, &mut whole),
     }
     whole
 }
@@ -400,6 +402,24 @@ fn put(freeway: &impl Freeway, input: &PutInput, whole: &mut Whole) {
     whole.put("number", [number]);
     whole.put_size("place", place);
     whole.put_lent("record", record);
+}
+
+/// Two roads joined, and the joined record read.
+fn join(freeway: &impl Freeway, input: &JoinInput, whole: &mut Whole) {
+    let JoinInput {
+        upstream,
+        downstream,
+        share,
+        length,
+    } = input;
+    let mut target = lent::bytes(*length);
+    let written = freeway.join(upstream, downstream, *share, target.list());
+    let joined = target.list().get(..written.count).unwrap_or_default();
+    let reading = (written.number == 0).then(|| freeway.read(joined));
+    whole.put_written(&written, target);
+    if let Some(reading) = reading {
+        whole.put_reading(&reading);
+    }
 }
 
 /// The bits of a float; those of all that aren't numbers are the same.

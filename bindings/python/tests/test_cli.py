@@ -138,6 +138,27 @@ def test_street(examples, told, tmp_path):
     assert "which stands there already" in told("street", tmp_path / "street.toml")[2]
 
 
+def test_join(examples, told, tmp_path):
+    up, down, whole = (examples / f"rocade-sud{x}.rec" for x in ("-upstream", "-downstream", ""))
+    both = tmp_path / "both.rec"
+    assert told("join", up, down, "--share", 890, "-o", both) == (0, f"{both}: 21 cells, 9 and 12; 378 steps, 65,536 bytes\n", "")
+    assert both.read_bytes() == whole.read_bytes()
+    assert told("join", up.with_suffix(".txt"), down.with_suffix(".txt"), "--share", 889, "-o", both)[0] == 0
+    assert both.read_bytes() != whole.read_bytes()
+    pair = f"{down} and {up}"
+    assert told("join", down, up, "--share", 0, "-o", both)[::2] == (
+        1, f"nobyaluk: {pair}: refused 21: {engine.MEANING[21]} (queue 15.000, arrivals 6,030.000 vehicles)\n")
+    assert "(378 steps of version 1; 377 steps of version 2, 20 s each)" in told("join", up, examples / "rocade-sud-seconds.rec", "--share", 0, "-o", both)[2]
+    assert "(21 and 12 cells, 378 steps)" in told("join", whole, down, "--share", 0, "-o", both)[2]
+    refused = examples / "refused-05-held-above-jam.rec"
+    assert told("join", up, refused, "--share", 0, "-o", both)[::2] == (1, f"nobyaluk: {refused}: refused 5: place 2: {engine.MEANING[5]}\n")
+    for share in ("0.89", "1001", "-1", "x"):
+        assert told("join", up, down, f"--share={share}", "-o", both)[0] == 2
+    assert told("join", both, down, "--share", 0, "-o", both)[::2] == (2, f"nobyaluk: {both}: the output is not written over the input\n")
+    metered = examples / "studies/five-cells-alinea.toml"
+    assert told("join", metered, metered, "--share", 800, "-o", both)[0] == 1
+
+
 def test_load(examples, told, tmp_path):
     path = examples / "studies/five-cells.toml"
     assert told("load", path, "--seed", 0, "--peak", 180, "--ramp-peak", 90, "-o", tmp_path / "a.csv")[0] == 0

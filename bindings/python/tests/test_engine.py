@@ -126,9 +126,25 @@ def test_a_release_put(printed):
     assert refusal(engine.run, engine.put(printed, 1, 2, 2201)) == (9, 1, 2)  # 1,700 wait after step 0 and 500 arrive
 
 
+def test_two_roads_joined(printed, examples):
+    rows = printed.rows.copy()
+    rows[:, 0] = 0
+    down = engine.write(printed.road, engine.Start(0, printed.start.held, printed.start.queue), rows)
+    both = engine.join(printed, down.data, 650)
+    assert both.column("share").tolist() == [750, 650, 750, 0] and both.start.gate_queue == 3000
+    assert both.rows.tolist() == [[1000, 0, 0, 500, 300, 0, 0, 500, 300]] * 3
+    assert refusal(engine.join, printed, down, 1001) == (5, 0, 2)
+    assert refusal(engine.join, printed, printed, 650) == (21, 0, 0)
+    assert refusal(engine.join, b"", down, 650) == refusal(engine.join, printed, b"", 650) == (1, 0, 0)
+    up, down, whole = (examples / f"rocade-sud{x}.rec" for x in ("-upstream", "-downstream", ""))
+    assert engine.join(up.read_bytes(), down.read_bytes(), 890).data == whole.read_bytes()
+    assert refusal(engine.join, printed, down.read_bytes(), 0) == (20, 0, 0)
+    assert refusal(engine.join, whole.read_bytes(), down.read_bytes(), 0) == (22, 0, 0)
+
+
 def test_refusals_have_words(examples):
     numbers = list(engine.MEANING)
-    assert numbers == sorted(numbers) and {*range(1, 20), 23, 24, 25} <= set(numbers) <= {*range(1, 27)}
+    assert numbers == sorted(numbers) and {*range(1, 26)} <= set(numbers) <= {*range(1, 27)}
     for path in examples.glob("refused-*.rec"):
         with pytest.raises(engine.Refused) as caught:
             engine.run(path.read_bytes())
@@ -139,7 +155,8 @@ def test_refusals_have_words(examples):
 
 
 def test_what_is_no_number_of_its_kind():
-    for call in (lambda: engine.demand(-1, 0, 0), lambda: engine.load(1 << 32, 1, 1), lambda: engine.wanted(0, 0, 0, [-1]), lambda: engine.grant(1, [1.5], [1])):
+    for call in (lambda: engine.demand(-1, 0, 0), lambda: engine.load(1 << 32, 1, 1), lambda: engine.wanted(0, 0, 0, [-1]), lambda: engine.grant(1, [1.5], [1]),
+                 lambda: engine.join(b"", b"", 1 << 16)):
         with pytest.raises((ValueError, TypeError)):
             call()
 

@@ -1,7 +1,7 @@
 //! The operations with lists of their own: what is wanted, or the refusal.
 
 use crate::lent::{
-    fill_into, grant_into, history_into, load_into, put_into, read, rows_into, run_into,
+    fill_into, grant_into, history_into, join_into, load_into, put_into, read, rows_into, run_into,
     run_weighted_into, wanted_into, write_into,
 };
 use crate::refused::Refused;
@@ -203,4 +203,23 @@ pub fn put_wanted(
         record.copy_from_slice(&changed);
     }
     Ok(table)
+}
+
+/// Two neighbouring roads as one record: upstream's cells, then downstream's, with an onward share for the joint, in thousandths.
+/// Downstream's gate, which must have neither queue nor arrivals, is dropped; all else stands as it was.
+///
+/// ```
+/// let upstream = include_bytes!("../../../examples/rocade-sud-upstream.rec");
+/// let downstream = include_bytes!("../../../examples/rocade-sud-downstream.rec");
+/// let joined = nobyaluk::join(upstream, downstream, 890)?;
+/// assert_eq!(joined, include_bytes!("../../../examples/rocade-sud.rec"));
+/// let refused = nobyaluk::join(downstream, upstream, 890).unwrap_err();
+/// assert_eq!(refused.to_string(), "refused 21: of two roads to join: the second gate has a queue or an arrival");
+/// # Ok::<(), nobyaluk::Refused>(())
+/// ```
+pub fn join(upstream: &[u8], downstream: &[u8], share: u16) -> Result<Vec<u8>, Refused> {
+    let mut target = vec![0; BYTES];
+    let written = join_into(upstream, downstream, share, &mut target).ok()?;
+    target.truncate(written.count as usize);
+    Ok(target)
 }

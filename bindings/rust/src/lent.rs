@@ -233,6 +233,23 @@ pub fn put_into(record: &mut [u8], step: usize, cell: usize, release: u32) -> Re
     unsafe { raw::nobyaluk_put(record.as_mut_ptr(), record.len(), step, cell, release) }
 }
 
+/// Joins two neighbouring roads' records, with an onward share for the joint, and writes the record to the front of a target.
+/// A refusal of reading is the upstream record's, if it has one.
+#[must_use = "it may be a refusal: `ok()`"]
+pub fn join_into(upstream: &[u8], downstream: &[u8], share: u16, target: &mut [u8]) -> Written {
+    unsafe {
+        raw::nobyaluk_join(
+            upstream.as_ptr(),
+            upstream.len(),
+            downstream.as_ptr(),
+            downstream.len(),
+            share,
+            target.as_mut_ptr(),
+            target.len(),
+        )
+    }
+}
+
 /// One step by a row of the record's order. A refusal names its cell, and no step: the state has only how many are done.
 ///
 /// ```

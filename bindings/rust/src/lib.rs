@@ -14,6 +14,7 @@
 //! | a stated load | [`load`] | [`load_into`] |
 //! | releases for a wanted queue | [`wanted`], [`put_wanted`] | [`wanted_into`] |
 //! | ramps of one street; a release put | [`grant`]; [`put`] | [`grant_into`]; [`put_into`] |
+//! | two roads joined | [`join`] | [`join_into`] |
 //! | stepping | | [`step`] |
 //!
 //! The rules of one place are refused by nothing: [`demand`], [`supply`], [`outflow`], [`open_capacity`], [`wish`],

@@ -99,6 +99,15 @@ extern "C" {
         cell: usize,
         release: u32,
     ) -> Released;
+    pub fn nobyaluk_join(
+        upstream: *const u8,
+        upstream_bytes: usize,
+        downstream: *const u8,
+        downstream_bytes: usize,
+        share: u16,
+        target: *mut u8,
+        bytes: usize,
+    ) -> Written;
     pub fn nobyaluk_step(
         road: Road,
         state: State,

@@ -1,7 +1,7 @@
 //! Calls with lists of their own on any input: they answer, and after a refusal the record is as it was.
 use nobyaluk::{
-    fill, grant, judge, load, put, put_wanted, read, row, rows, run, run_weighted, step, wanted,
-    write, Lanes, Law, Road, Start, State, Weights,
+    fill, grant, join, judge, load, put, put_wanted, read, row, rows, run, run_weighted, step,
+    wanted, write, Lanes, Law, Road, Start, State, Weights,
 };
 use std::path::PathBuf;
 
@@ -69,6 +69,39 @@ fn every_record_is_answered() {
         }
     }
     assert!(accepted > 20 && refused > 20, "{accepted} and {refused}");
+}
+
+/// Two records that both read join where T, version and seconds agree and the second gate is idle; all others are refused.
+#[test]
+fn every_pair_of_records_is_answered() {
+    let records = records();
+    let idle = |record: &[u8]| {
+        let mut record = record.to_vec();
+        for at in [12, 64, 84, 104] {
+            record
+                .iter_mut()
+                .skip(at)
+                .take(4)
+                .for_each(|byte| *byte = 0);
+        }
+        record
+    };
+    let mut joined = 0;
+    for (k, up) in records.iter().enumerate() {
+        let down = idle(&records[(7 * k + 1) % records.len()]);
+        for share in [0, 1_000, 1_001, u16::MAX] {
+            match join(up, &down, share) {
+                Ok(record) => {
+                    joined += 1;
+                    let n = read(up).road.n + read(&down).road.n;
+                    assert_eq!((read(&record).number, read(&record).road.n), (0, n));
+                    assert!(share <= 1_000);
+                }
+                Err(refused) => assert!([1, 2, 3, 4, 5, 6, 19, 20, 21].contains(&refused.number)),
+            }
+        }
+    }
+    assert!(joined > 20, "{joined}");
 }
 
 #[test]

@@ -1,5 +1,5 @@
 //! Every example through the safe calls. `trials/` holds the same calls to the reference.
-use nobyaluk::{judge, put_wanted, run, version, Run, VERSION};
+use nobyaluk::{join, judge, put_wanted, run, version, Run, VERSION};
 use std::collections::BTreeMap;
 use std::fs;
 use std::path::PathBuf;
@@ -90,6 +90,16 @@ fn a_town_s_ceiling_on_rocade_sud() {
         assert_eq!(first_held_back(&before, cell), by_alinea, "{cell}");
     }
     assert_eq!(whole.ended.state.gate_time, before.ended.state.gate_time);
+}
+
+/// Rocade Sud, cut after cell 9 into two studies, is joined again byte for byte.
+#[test]
+fn two_stretches_of_rocade_sud_are_the_whole() {
+    let records: BTreeMap<_, _> = examples().into_iter().collect();
+    let [up, down, whole] =
+        ["-upstream", "-downstream", ""].map(|part| &records[&format!("rocade-sud{part}")]);
+    assert!(join(up, down, 890).unwrap() == *whole);
+    assert!(join(up, down, 889).unwrap() != *whole);
 }
 
 /// The first step after step 0 in which a cell sends less than its demand.

@@ -1,7 +1,7 @@
-//! Loading, a wanted queue, a street and putting a release, by numbers worked out on paper.
+//! Loading, a wanted queue, a street, putting a release and joining, by numbers worked out on paper.
 use nobyaluk::{
-    fill_kinds_into, grant_into, load_into, put, put_into, read, row, rows, rows_into, run,
-    wanted_into, wish, wish_of_kind, Law,
+    fill_kinds_into, grant_into, join, join_into, load_into, put, put_into, read, row, rows,
+    rows_into, run, wanted_into, wish, wish_of_kind, Law,
 };
 use std::path::PathBuf;
 
@@ -80,6 +80,66 @@ fn a_release_put() {
         9,
         "1,700 wait after step 0 and 500 arrive"
     );
+}
+
+/// The printed run as it is and, for its downstream neighbour, without a gate queue and gate arrivals.
+fn neighbours() -> (Vec<u8>, Vec<u8>) {
+    let up = printed_run();
+    let mut down = up.clone();
+    for at in [12, 64, 84, 104] {
+        down[at..at + 4].fill(0);
+    }
+    (up, down)
+}
+
+#[test]
+fn two_roads_joined() {
+    let (up, down) = neighbours();
+    let mut target = [0xA5; 240];
+    let answer = join_into(&up, &down, 650, &mut target);
+    assert_eq!((answer.number, answer.place, answer.count), (0, 0, 220));
+    assert_eq!(target[220..], [0xA5; 20], "bytes beyond the record");
+    let joined = read(&target[..220]).ok().unwrap();
+    assert_eq!((joined.steps, joined.road.n), (3, 4));
+    assert_eq!(joined.road.share[..4], [750, 650, 750, 0]);
+    assert_eq!(joined.road.gate_capacity, 2_000);
+    assert_eq!(joined.state.gate_queue, 3_000);
+    assert_eq!(joined.state.held[..4], [2_000, 4_000, 2_000, 4_000]);
+    let row = [1_000, 0, 0, 500, 300, 0, 0, 500, 300];
+    assert_eq!(rows(&target[..220]).unwrap(), row.repeat(3));
+    assert_eq!(join(&up, &down, 650).unwrap(), target[..220]);
+}
+
+/// Each refusal of joining, in order; the target stays.
+#[test]
+fn roads_that_do_not_join() {
+    let (up, down) = neighbours();
+    let verdict = |up: &[u8], down: &[u8], share, room| {
+        let mut target = vec![0xA5; room];
+        let answer = join_into(up, down, share, &mut target);
+        assert!(answer.count == 0 && target.iter().all(|&byte| byte == 0xA5));
+        (answer.number, answer.place)
+    };
+    let mut full = down.clone();
+    full[32] = 1; // cell 1 holds more than its jam count
+    let shorter = |record: &[u8]| {
+        let mut record = record[..104].to_vec();
+        (record[3], record[7]) = (100, 2);
+        record
+    };
+    let (few, no_record) = (shorter(&down), &up[1..]);
+    assert_eq!(verdict(no_record, &full, 1_001, 0), (1, 0));
+    assert_eq!(verdict(&full, no_record, 1_001, 0), (5, 1));
+    assert_eq!(verdict(&up, &full, 1_001, 0), (5, 1));
+    assert_eq!(verdict(&up, &shorter(&up), 1_001, 0), (5, 2));
+    assert_eq!(verdict(&up, &shorter(&up), 650, 0), (20, 0));
+    assert_eq!(verdict(&up, &few, 650, 240), (20, 0));
+    assert_eq!(verdict(&up, &up, 650, 0), (21, 0));
+    assert_eq!(verdict(&up, &down, 650, 219), (15, 0));
+    let twice = |road: Vec<u8>, _| join(&road, &road, 1_000).unwrap();
+    let most = (0..5).fold(down, twice);
+    assert_eq!(read(&most).road.n, 64);
+    assert_eq!(verdict(&up, &most, 0, 0), (22, 0));
 }
 
 /// Kinds from 3 on are fixed rates; numbers that a law doesn't use may be anything; past the ends of both lists stands rate 0.

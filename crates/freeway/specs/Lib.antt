@@ -2,4 +2,5 @@ pub mod Versions
 pub mod Twice
 pub mod WantedRun
 pub mod PutRun
+pub mod JoinedRun
 pub mod Promises

@@ -31,7 +31,7 @@ use Rattle.model.specs.Runs.{engineAfter}
 use Rattle.model.specs.Improved.{Improved}
 use Rattle.model.specs.Conserve as conservation
 use Rattle.model.specs.Edges as edges
-use Rattle.reading.specs.Reading.{readingOf, firstReadingOf, refusedOf, studyOf}
+use Rattle.reading.specs.Reading.{readingOf, firstReadingOf, refusedOf, acceptedOf, studyOf}
 use Rattle.reading.specs.Found.{Accepted}
 use Rattle.reading.specs.Within as within
 use Rattle.reading.specs.Versions as versions
@@ -39,6 +39,8 @@ use Rattle.put.specs.Put.{puttingOf, releasedRecord}
 use Rattle.put.specs.Theorems as puts
 use Rattle.writing.specs.Writing.{writingOf, targetAfter}
 use Rattle.writing.specs.Saved as saving
+use Rattle.joining.specs.Joining.{joinedRoad, joinedStart, joiningOf, joinedTarget}
+use Rattle.joining.specs.Theorems as joins
 use Rattle.schedules.specs.Schedules.{judgingOf, runningOf, listAfter, stepsMade}
 use Rattle.schedules.specs.Demand.{Taken, Promised, WeightedDemand, Reaches, Ahead}
 use Rattle.schedules.specs.Whole as whole
@@ -51,6 +53,7 @@ use Rattle.schedules.specs.Unclosed as unclosed
 use Rattle.filling.specs.Filling.{fillingOf, recordAfter, filledList}
 use Rattle.filling.specs.Theorems as filling
 use Rattle.freeway.specs.PutRun as putting
+use Rattle.freeway.specs.JoinedRun as joinedRun
 
 -- 01, one step. The outflow is the greatest that the demand allows and whose entering part finds room
 pub outflow-greatest : (b F room d y : ℕ) → y ≤ d → enteringOf b F y ≤ room → y ≤ outflowOf b F room d
@@ -149,6 +152,35 @@ pub raised : (s t lanes : List ℕ) → Taken s lanes → Taken t lanes → Impr
     → k ≤ stepsMade (studyOf s lanes) (runningOf s lanes list) → k ≤ stepsMade (studyOf t lanes) (runningOf t lanes out)
     → Ahead (studyOf s lanes .road) (engineAfter (studyOf t lanes) k) (engineAfter (studyOf s lanes) k)
 raised = improving.improved-steps
+
+-- request 9. The result reads without refusal, as upstream's cells, then downstream's, with the stated share at the joint
+pub joined : (up down : List ℕ) (share : ℕ) (target : List ℕ) → joiningOf up down share target .number ≡ 0
+    → readingOf (joins.joinedBytes up down share target)
+    ≡ acceptedOf (readingOf up .steps) (joinedRoad (readingOf up .road) (readingOf down .road) share)
+    (joinedStart (readingOf up .road .n) (readingOf down .road .n) (readingOf up .state) (readingOf down .state))
+joined = joins.joined-reads
+
+-- the second gate is dropped, and all else stands as it was, place by place
+pub joined-stands : (up down : List ℕ) (share : ℕ) (target : List ℕ) → joiningOf up down share target .number ≡ 0
+    → joins.Stands share (readingOf up) (readingOf down) (readingOf (joins.joinedBytes up down share target))
+joined-stands = joins.joined-stands
+
+-- rows joined step by step
+pub joined-row : (up down : List ℕ) (share : ℕ) (target : List ℕ) → joiningOf up down share target .number ≡ 0 → (t : ℕ) → t < readingOf up .steps
+    → joins.RowStands up down (joins.joinedBytes up down share target) t
+joined-row = joins.joined-row-stands
+
+-- its refusals, each with all that comes before it; no refusal touches the target
+pub joined-ends : (up down : List ℕ) (share : ℕ) (target : List ℕ)
+    → joins.Ends up down share target (joiningOf up down share target) (joinedTarget up down share target)
+joined-ends = joins.ends
+
+-- since it reads, demand 3 holds of it
+pub joined-compared : (up down : List ℕ) (share : ℕ) (target : List ℕ) → joiningOf up down share target .number ≡ 0 → (lanes : List ℕ)
+    → Taken (joins.joinedBytes up down share target) lanes → (list : List ℕ)
+    → Promised (joins.joinedBytes up down share target) lanes (listAfter (joins.joinedBytes up down share target) lanes list)
+    (runningOf (joins.joinedBytes up down share target) lanes list)
+joined-compared = joinedRun.joined-promised
 
 -- request 10. The table found obeys, and no table that obeys has a smaller running sum after any step; it is the only such one
 pub least : (start ceiling rate : ℕ) (arrivals table : List ℕ) → wantedOf start ceiling rate arrivals (length table) .found ≡ true

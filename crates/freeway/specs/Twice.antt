@@ -1,19 +1,16 @@
 -- Theorem across filling and writing: a record's bytes are settled by what is read of it, so filling a filled record again changes no byte. Assumes nothing.
 use mathlib.Core.Path.{_≡_, refl, sym, ap, _∙_, subst⁻¹}
 use mathlib.Core.Bool.{Bool, true, false}
-use mathlib.Core.List.{List}
+use mathlib.Core.List.{List, []}
 use Prim.Native.Nat.{ℕ, _<_}
 use lib.Dec.{eqb}
 use borrow.Author.Tests.{eqb-true}
 use Rattle.numbers.specs.Lists.{at}
-use Rattle.rows.specs.Rows.{concatOf}
-use Rattle.rows.specs.Tables.{rowAt}
-use Rattle.rows.specs.TablesLaws.{concat-row}
-use Rattle.road.specs.Road.{startIn}
-use Rattle.fields.specs.Fields.{rowNumbers, recordRow}
-use Rattle.fields.specs.FieldsLaws.{length-row}
+use Rattle.road.specs.Road.{startState, startIn}
+use Rattle.road.specs.Study.{study}
+use Rattle.fields.specs.Fields.{recordRow}
 use Rattle.reading.specs.Reading.{ReadAnswer, readingOf, studyOf}
-use Rattle.putting.specs.Record.{recordOf, given}
+use Rattle.putting.specs.Record.{recordOf}
 use Rattle.writing.specs.Again.{same-bytes}
 use Rattle.meter.specs.declared.Law.{Law}
 use Rattle.filling.specs.Filling.{fillingOf, recordAfter}
@@ -27,22 +24,18 @@ Bytes s = (i : ℕ) → at s i < 256
 -- two records that read the same, row by row too, have the same bytes
 module _ (s t : List ℕ) (small : Bytes s) (little : Bytes t) (reads : readingOf s .number ≡ 0) (same : readingOf t ≡ readingOf s)
     (rows : (k : ℕ) → k < readingOf s .steps → recordRow t (readingOf s .road .n) k ≡ recordRow s (readingOf s .road .n) k) where
-  abbrev all : List ℕ
-  all = concatOf (recordRow s (readingOf s .road .n)) (readingOf s .steps)
+  abbrev all : ℕ → List ℕ
+  all = recordRow s (readingOf s .road .n)
 
-  row-of : (k : ℕ) → k < readingOf s .steps → rowAt all (rowNumbers (readingOf s .road .n)) k ≡ recordRow s (readingOf s .road .n) k
-  row-of k l = concat-row (recordRow s (readingOf s .road .n)) (rowNumbers (readingOf s .road .n)) (length-row s (readingOf s .road .n)) (readingOf s .steps) k l
-
-  other-row : (k : ℕ) → k < readingOf t .steps → rowAt all (rowNumbers (readingOf t .road .n)) k ≡ recordRow t (readingOf t .road .n) k
+  other-row : (k : ℕ) → k < readingOf t .steps → recordRow s (readingOf s .road .n) k ≡ recordRow t (readingOf t .road .n) k
   other-row =
-      subst⁻¹ (λ (x : ReadAnswer). (k : ℕ) → k < x .steps → rowAt all (rowNumbers (x .road .n)) k ≡ recordRow t (x .road .n) k) same
-      (λ k l. row-of k l ∙ sym (rows k l))
+      subst⁻¹ (λ (x : ReadAnswer). (k : ℕ) → k < x .steps → recordRow s (readingOf s .road .n) k ≡ recordRow t (x .road .n) k) same (λ k l. sym (rows k l))
 
   pub same-record : t ≡ s
   same-record =
       sym (same-bytes t little (ap (λ (x : ReadAnswer). x .number) same ∙ reads) all other-row)
-      ∙ ap (λ (x : ReadAnswer). recordOf (given (x .road) (x .steps) (startIn (x .state)) all)) same
-      ∙ same-bytes s small reads all row-of
+      ∙ ap (λ (x : ReadAnswer). recordOf (study (x .road) (startState (startIn (x .state))) (x .steps) all [])) same
+      ∙ same-bytes s small reads all (λ k l. refl)
 
 -- filling twice changes nothing
 module _ (laws : List Law) (bytes lanes list : List ℕ) where

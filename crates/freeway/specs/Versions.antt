@@ -31,11 +31,11 @@ module _ (road : Road) (version seconds T : ℕ) (start : Start) (rows target ot
   -- what is read back differs in version and seconds alone
   pub written-restamped : Restamped (studyOf (savedOf road T start rows target) lanes) (studyOf (savedOf (stamped version seconds road) T start rows other) lanes)
   written-restamped = record {
-    road = rw (keptS .reads, keptT .reads) refl;
-    start = rw (keptS .reads, keptT .reads) refl;
-    steps = rw (keptS .reads, keptT .reads) refl;
+    road = rw (keptS .back .reads, keptT .back .reads) refl;
+    start = rw (keptS .back .reads, keptT .back .reads) refl;
+    steps = rw (keptS .back .reads, keptT .back .reads) refl;
     rows = λ k l.
-        let m : k < T = rw (keptS .reads) at l in
+        let m : k < T = rw (keptS .back .reads) at l in
         saved-rows (stamped version seconds road) T start rows other keptT lanes k m ∙ sym (saved-rows road T start rows target keptS lanes k m);
     lanes = refl;
   }
@@ -43,8 +43,8 @@ module _ (road : Road) (version seconds T : ℕ) (start : Start) (rows target ot
   -- so a table of lanes that one is taken with suits the other
   takenT : Taken (savedOf road T start rows target) lanes → Taken (savedOf (stamped version seconds road) T start rows other) lanes
   takenT h = record {
-    reads = ap (λ (a : ReadAnswer). a .number) (keptT .reads);
-    opens = rw (keptT .reads) (rw (keptS .reads) at (h .opens));
+    reads = ap (λ (a : ReadAnswer). a .number) (keptT .back .reads);
+    opens = rw (keptT .back .reads) (rw (keptS .back .reads) at (h .opens));
   }
 
   -- and they are run and judged alike

@@ -13,6 +13,7 @@ pub use flow::outflow_by_halves;
 pub use flow::room;
 pub use flow::supply;
 pub use history::history;
+pub use joining::join;
 pub use judging::judge;
 pub use lanes::open_capacity;
 pub use load::load;

@@ -13,7 +13,7 @@ ghost use Rattle.putting.specs.Record.{headerOf, cellOf, numbersOf, cell
 ghost use Rattle.putting.specs.Putting.{Rows, Fits};
 
 // The header: the count of bytes after its first field, the version, n, T, the version's seconds, the gate's capacity and queue.
-fn put_header(
+pub fn put_header(
     target: &mut [u8],
     version: u8,
     n: usize,
@@ -62,7 +62,7 @@ fn put_cell(
 }
 
 // The cells, one after the other.
-fn put_cells(target: &mut [u8], at: usize, road: Road, start: Start) -> usize
+pub fn put_cells(target: &mut [u8], at: usize, road: Road, start: Start) -> usize
     requires { ⌜ (road .n ≤ mostCells) × (at + road .n * cellSize ≤ length (now target)) ⌝ }
     ensures { λ e. ⌜ Puts (now (target .entry)) at (concatOf (cellBytes road (startState start)) (road .n)) (now (target .exit)) e ⌝ }
 {
@@ -88,7 +88,7 @@ fn put_cells(target: &mut [u8], at: usize, road: Road, start: Start) -> usize
 }
 
 // The numbers of a row, one after the other.
-fn put_row(target: &mut [u8], at: usize, row: &[u32]) -> usize
+pub fn put_row(target: &mut [u8], at: usize, row: &[u32]) -> usize
     requires { ⌜ at + length (now row) * numberSize ≤ length (now target) ⌝ }
     ensures { λ e. ⌜ Puts (now (target .entry)) at (numbersOf (now (row .entry)) (length (now (row .entry)))) (now (target .exit)) e ⌝ }
 {

@@ -1,6 +1,6 @@
 -- A record that was read and is written again has the same bytes. Assumes nothing.
 use mathlib.Core.Path.{_≡_, refl, ap, _∙_}
-use mathlib.Core.List.{List, _++_}
+use mathlib.Core.List.{List, [], _++_}
 use Prim.Native.Nat.{ℕ, _+_, _-_, _*_, _≤_, _<_}
 use native.Mathlib.Omega.{arith}
 use lib.ListN.{length, take, drop}
@@ -8,11 +8,10 @@ use lib.Seq.{take-all}
 use Rattle.numbers.specs.Lists.{at}
 use Rattle.rows.specs.Rows.{concatOf}
 use Rattle.rows.specs.Concat.{concat-same}
-use Rattle.rows.specs.Tables.{rowAt}
 use Rattle.rows.specs.TablesLaws.{row-ends}
 use Rattle.road.specs.declared.Road.{Road}
 use Rattle.road.specs.Road.{startState, startIn}
-use Rattle.road.specs.Study.{Study}
+use Rattle.road.specs.Study.{Study, study}
 use Rattle.fields.specs.Fields.{countSize, versionOf, secondsSize, headerSize, gateQueueOffset, cellSize, shortSize, numberSize}
 use Rattle.fields.specs.Fields.{rowNumbers, rowSize, rowStart, numberOf, recordRow, bytesOf}
 use Rattle.fields.specs.FieldsLaws.{Column, row-at}
@@ -22,10 +21,10 @@ use Rattle.reading.specs.Reading.{ReadAnswer, readingOf}
 use Rattle.reading.specs.Found.{Accepted}
 use Rattle.reading.specs.Numbers.{Numbers, read-numbers}
 use Rattle.reading.specs.Within.{read-within}
-use Rattle.putting.specs.Record.{headerOf, cellOf, headerBytes, cellBytes, rowBytes, recordOf, given}
+use Rattle.putting.specs.Record.{headerOf, cellOf, headerBytes, cellBytes, rowBytes, recordOf}
 
-module _ (s : List ℕ) (small : (i : ℕ) → at s i < 256) (reads : readingOf s .number ≡ 0) (rows : List ℕ)
-    (same : (t : ℕ) → t < readingOf s .steps → rowAt rows (rowNumbers (readingOf s .road .n)) t ≡ recordRow s (readingOf s .road .n) t) where
+module _ (s : List ℕ) (small : (i : ℕ) → at s i < 256) (reads : readingOf s .number ≡ 0) (rows : ℕ → List ℕ)
+    (same : (t : ℕ) → t < readingOf s .steps → rows t ≡ recordRow s (readingOf s .road .n) t) where
   abbrev x : ReadAnswer
   x = readingOf s
 
@@ -36,7 +35,7 @@ module _ (s : List ℕ) (small : (i : ℕ) → at s i < 256) (reads : readingOf 
   T = x .steps
 
   abbrev a : Study
-  a = given (x .road) (x .steps) (startIn (x .state)) rows
+  a = study (x .road) (startState (startIn (x .state))) (x .steps) rows []
 
   numbers : Numbers s (readingOf s .steps) (readingOf s .road) (readingOf s .state)
   numbers = read-numbers s (readingOf s) refl reads
@@ -139,7 +138,7 @@ module _ (s : List ℕ) (small : (i : ℕ) → at s i < 256) (reads : readingOf 
       concat-same (rowBytes n (a .rows)) (λ t. partOf s (h + n * cellSize + t * rowSize n) (rowSize n)) T row
       ∙ part-concat s (h + n * cellSize) (rowSize n) T
 
-  pub same-bytes : recordOf (given (readingOf s .road) (readingOf s .steps) (startIn (readingOf s .state)) rows) ≡ s
+  pub same-bytes : recordOf (study (readingOf s .road) (startState (startIn (readingOf s .state))) (readingOf s .steps) rows []) ≡ s
   unfolding recordOf
   same-bytes =
       let e : h + (n * cellSize + T * rowSize n) ≡ length s = omega (arith, within .size) in

@@ -1,4 +1,4 @@
--- A record that was written is read back. Assumes nothing.
+-- The record's bytes of a study within the limits are read back. Assumes nothing.
 use mathlib.Core.Path.{_≡_, refl, sym, ap, _∙_}
 use mathlib.Core.Bool.{Bool, true, false, _&&_}
 use mathlib.Core.List.{List}
@@ -13,52 +13,54 @@ use Rattle.numbers.specs.First.{oneOf, allOf}
 use Rattle.numbers.specs.FirstLaws.{all-true}
 use Rattle.numbers.specs.Tests.{le-head, le-then}
 use Rattle.rows.specs.RowsLaws.{fill-same, fill-own}
-use Rattle.rows.specs.Tables.{rowAt}
-use Rattle.rows.specs.TablesLaws.{row-length}
 use Rattle.road.specs.declared.Road.{Road}
 use Rattle.road.specs.declared.State.{State}
-use Rattle.road.specs.declared.Start.{Start}
-use Rattle.road.specs.Road.{mostCells, mostSteps, mostBytes, mostRate, mostSeconds, zeros, startState}
+use Rattle.road.specs.Road.{mostCells, mostSteps, mostBytes, mostRate, mostSeconds, zeros, startState, startIn}
 use Rattle.road.specs.Study.{Study}
 use Rattle.fields.specs.Fields.{secondVersion, countSize, secondsSize, headerSize, gateCapacityOffset, gateQueueOffset, cellSize, shortSize, numberSize, rowSize}
 use Rattle.fields.specs.Fields.{rowNumbers, rowStart, numberOf, versionOf, secondsOf, fieldOf, columnOf, entryOf, recordRow}
 use Rattle.fields.specs.FieldsLaws.{seconds-second, seconds-none, length-row, row-at}
 use Rattle.fields.specs.BytesLaws.{Field, field-number}
 use Rattle.limits.specs.Limits.{placeOk, rowOk}
-use Rattle.limits.specs.LimitsLaws.{RoadOk, StateOk, RowOk, places-road, places-state, place-ok, row-facts, row-ok}
+use Rattle.limits.specs.LimitsLaws.{RoadOk, StateOk, RowOk, place-ok, row-ok}
 use Rattle.header.specs.Header.{cellsOf, stepsOf, sizeOf, bothVersions, leastSize, lengthOk, cellsAndStepsOk, secondsOk}
 use Rattle.reading.specs.Reading.{roadOf, startOf, stepOk}
 use Rattle.reading.specs.Reading.{acceptedOf, readingBy, readingOf}
-use Rattle.header.specs.HeaderLaws.{known-most, least-both}
-use Rattle.putting.specs.Record.{headerBytes, cellBytes, recordOf, given}
+use Rattle.header.specs.HeaderLaws.{Counts, known-most, least-both}
+use Rattle.putting.specs.Record.{recordSize, headerBytes, cellBytes, recordOf}
 use Rattle.putting.specs.Putting.{length-record}
-use Rattle.writing.specs.Accepted.{Accepted}
 use Rattle.writing.specs.Cut.{cutOf, keptSeconds, cutRoad, cutState, kept-ok, cut-road, cut-state, cut-row}
 use Rattle.writing.specs.Stands.{HeaderFields, header-fields, CellFields, cell-fields, in-header, in-cell, in-row}
 
-module _ (road : Road) (T : ℕ) (start : Start) (rows : List ℕ) (room : ℕ) (ok : Accepted (given road T start rows) (length rows) room) where
-  abbrev a : Study
-  a = given road T start rows
+-- a study within the limits: its version is known, its record is short enough, and its road, its state before step 0 and each row are within theirs
+pub record Recordable (a : Study) : Type 0 where
+  pub version : oneOf bothVersions (a .road .version) ≡ true
+  pub counts : Counts (a .road .n) (a .steps)
+  pub seconds : secondsOk (a .road .version) (a .road .seconds) ≡ true
+  pub size : recordSize a ≤ mostBytes
+  pub road : RoadOk (a .road)
+  pub start : StateOk (a .road) (startState (startIn (a .start)))
+  pub row : (t : ℕ) → t < a .steps → RowOk (a .road) (a .rows t)
 
+module _ (a : Study) (ok : Recordable a) where
   abbrev s : List ℕ
   s = recordOf a
+
+  abbrev road : Road
+  road = a .road
 
   abbrev n : ℕ
   n = road .n
 
-  -- what was given is within the limits
-  road-ok : RoadOk road
-  road-ok = places-road road (startState start) (ok .places) (ok .counts .someCells) (ok .counts .cells)
+  abbrev T : ℕ
+  T = a .steps
 
-  state-ok : StateOk road (startState start)
-  state-ok = places-state road (startState start) (ok .places) (omega arith) (omega arith)
-
-  given-row : (t : ℕ) → t < T → RowOk road (rowAt rows (rowNumbers (road .n)) t)
-  given-row t l =
-      row-facts road (rowAt rows (rowNumbers n) t) (row-length rows (rowNumbers n) t T l (ok .all)) (road-ok .ramp) (ok .rows t l)
+  -- the state before step 0
+  abbrev start : State
+  start = startState (startIn (a .start))
 
   -- the header
-  header : HeaderFields (headerBytes (given road T start rows)) (road .version) (road .n) T (road .seconds) (road .«gate_capacity») (start .«gate_queue»)
+  header : HeaderFields (headerBytes a) (a .road .version) (a .road .n) (a .steps) (a .road .seconds) (a .road .«gate_capacity») (a .start .«gate_queue»)
   header = header-fields (road .version) n T (road .seconds) (road .«gate_capacity») (start .«gate_queue»)
 
   count-read : numberOf s 0 countSize ≡ sizeOf (road .version) n T - countSize
@@ -95,22 +97,22 @@ module _ (road : Road) (T : ℕ) (start : Start) (rows : List ℕ) (room : ℕ) 
   capacity-read : numberOf s (gateCapacityOffset (versionOf s)) numberSize ≡ road .«gate_capacity»
   capacity-read =
       field-number s (gateCapacityOffset (road .version)) (gateCapacityOffset (versionOf s)) numberSize (road .«gate_capacity») (omega (arith, layout))
-      (omega (arith, road-ok .gate)) (in-header a (omega arith) (header .gateCapacity))
+      (omega (arith, ok .road .gate)) (in-header a (omega arith) (header .gateCapacity))
 
   queue-read : numberOf s (gateQueueOffset (versionOf s)) numberSize ≡ start .«gate_queue»
   queue-read =
       field-number s (gateQueueOffset (road .version)) (gateQueueOffset (versionOf s)) numberSize (start .«gate_queue») (omega (arith, layout))
-      (omega (arith, state-ok .gateQueue)) (in-header a (omega arith) (header .gateQueue))
+      (omega (arith, ok .start .gateQueue)) (in-header a (omega arith) (header .gateQueue))
 
   -- the cells
-  cell : (i : ℕ) → CellFields (cellBytes road (startState start) i) (at (road .speed) i) (at (road .wave) i) (at (road .share) i) (at (road .ramp) i)
-      (at (road .jam) i) (at (road .capacity) i) (at (start .held) i) (at (start .queue) i)
+  cell : (i : ℕ) → CellFields (cellBytes (a .road) (a .start) i) (at (a .road .speed) i) (at (a .road .wave) i) (at (a .road .share) i)
+      (at (a .road .ramp) i) (at (a .road .jam) i) (at (a .road .capacity) i) (at (a .start .held) i) (at (a .start .queue) i)
   cell i = cell-fields _ _ _ _ _ _ _ _
 
   -- a column of a record of n cells, by what stands in each
   column : (offset w : ℕ) (l : List ℕ) → offset + w ≤ cellSize
-      → ((i : ℕ) → i < road .n → (at l i < 256 ^ w) × Field (cellBytes road (startState start) i) offset w (at l i))
-      → columnOf (recordOf (given road T start rows)) offset w (cellsOf (recordOf (given road T start rows))) ≡ cutOf (road .n) l
+      → ((i : ℕ) → i < a .road .n → (at l i < 256 ^ w) × Field (cellBytes (a .road) (a .start) i) offset w (at l i))
+      → columnOf (recordOf a) offset w (cellsOf (recordOf a)) ≡ cutOf (a .road .n) l
   column offset w l fits h =
       ap (columnOf s offset w) cells-read
       ∙ fill-same (fieldOf s offset w) (λ i. at l i) n zeros
@@ -125,39 +127,39 @@ module _ (road : Road) (T : ℕ) (start : Start) (rows : List ℕ) (room : ℕ) 
   long x most l m = omega arith
 
   speed-read : columnOf s 0 shortSize (cellsOf s) ≡ cutOf n (road .speed)
-  speed-read = column 0 shortSize (road .speed) (omega arith) (λ i l. (short _ _ (road-ok .speed i l) (omega arith), cell i .speedField))
+  speed-read = column 0 shortSize (road .speed) (omega arith) (λ i l. (short _ _ (ok .road .speed i l) (omega arith), cell i .speedField))
 
   wave-read : columnOf s 2 shortSize (cellsOf s) ≡ cutOf n (road .wave)
-  wave-read = column 2 shortSize (road .wave) (omega arith) (λ i l. (short _ _ (road-ok .wave i l) (omega arith), cell i .waveField))
+  wave-read = column 2 shortSize (road .wave) (omega arith) (λ i l. (short _ _ (ok .road .wave i l) (omega arith), cell i .waveField))
 
   share-read : columnOf s 4 shortSize (cellsOf s) ≡ cutOf n (road .share)
-  share-read = column 4 shortSize (road .share) (omega arith) (λ i l. (short _ _ (road-ok .share i l) (omega arith), cell i .shareField))
+  share-read = column 4 shortSize (road .share) (omega arith) (λ i l. (short _ _ (ok .road .share i l) (omega arith), cell i .shareField))
 
   ramp-read : columnOf s 6 shortSize (cellsOf s) ≡ cutOf n (road .ramp)
-  ramp-read = column 6 shortSize (road .ramp) (omega arith) (λ i l. (short _ _ (road-ok .ramp i l) (omega arith), cell i .rampField))
+  ramp-read = column 6 shortSize (road .ramp) (omega arith) (λ i l. (short _ _ (ok .road .ramp i l) (omega arith), cell i .rampField))
 
   jam-read : columnOf s 8 numberSize (cellsOf s) ≡ cutOf n (road .jam)
-  jam-read = column 8 numberSize (road .jam) (omega arith) (λ i l. (long _ _ (road-ok .jam i l) (omega arith), cell i .jamField))
+  jam-read = column 8 numberSize (road .jam) (omega arith) (λ i l. (long _ _ (ok .road .jam i l) (omega arith), cell i .jamField))
 
   capacities-read : columnOf s 12 numberSize (cellsOf s) ≡ cutOf n (road .capacity)
-  capacities-read = column 12 numberSize (road .capacity) (omega arith) (λ i l. (long _ _ (road-ok .capacity i l) (omega arith), cell i .capacityField))
+  capacities-read = column 12 numberSize (road .capacity) (omega arith) (λ i l. (long _ _ (ok .road .capacity i l) (omega arith), cell i .capacityField))
 
   held-read : columnOf s 16 numberSize (cellsOf s) ≡ cutOf n (start .held)
   held-read = column 16 numberSize (start .held) (omega arith)
-      (λ i l. (long (at (start .held) i) mostRate (omega (arith, state-ok .held i l, road-ok .jam i l)) (omega arith), cell i .heldField))
+      (λ i l. (long (at (start .held) i) mostRate (omega (arith, ok .start .held i l, ok .road .jam i l)) (omega arith), cell i .heldField))
 
   queues-read : columnOf s 20 numberSize (cellsOf s) ≡ cutOf n (start .queue)
-  queues-read = column 20 numberSize (start .queue) (omega arith) (λ i l. (long _ _ (state-ok .queue i l) (omega arith), cell i .queueField))
+  queues-read = column 20 numberSize (start .queue) (omega arith) (λ i l. (long _ _ (ok .start .queue i l) (omega arith), cell i .queueField))
 
   road-read : roadOf s ≡ cutRoad road
   road-read =
       rw (speed-read, wave-read, share-read, ramp-read, jam-read, capacities-read, cells-read, capacity-read, seconds-read, version-read)
 
-  start-read : startOf s ≡ cutState n (startState start)
+  start-read : startOf s ≡ cutState n start
   start-read = rw (held-read, queues-read, queue-read, fill-own zeros n)
 
   -- the rows
-  number-rate : (row : List ℕ) → RowOk road row → (k : ℕ) → k < rowNumbers (road .n) → at row k ≤ mostRate
+  number-rate : (row : List ℕ) → RowOk (a .road) row → (k : ℕ) → k < rowNumbers (a .road .n) → at row k ≤ mostRate
   number-rate row h zero l = h .gate
   number-rate row h (suc k) l = go (k / 2) (k % 2) (omega arith) (omega arith)
     where
@@ -165,17 +167,17 @@ module _ (road : Road) (T : ℕ) (start : Start) (rows : List ℕ) (room : ℕ) 
       go i zero e m = let f : suc k ≡ 2 * i + 1 = omega arith in rw f (h .arrivals i (omega arith))
       go i (suc j) e m = let f : suc k ≡ 2 * i + 2 = omega arith in rw f (h .release i (omega arith))
 
-  entry-read : (t : ℕ) → t < T → (k : ℕ) → k < rowNumbers (road .n)
-      → entryOf (recordOf (given road T start rows)) (road .n) t k ≡ at (rowAt rows (rowNumbers (road .n)) t) k
+  entry-read : (t : ℕ) → t < a .steps → (k : ℕ) → k < rowNumbers (a .road .n)
+      → entryOf (recordOf a) (a .road .n) t k ≡ at (a .rows t) k
   entry-read t l k m =
       field-number s (headerSize (road .version) + (n * cellSize + (t * rowSize n + (k * numberSize + 0)))) (rowStart (versionOf s) n t + numberSize * k) numberSize _
       (omega (arith, layout))
-      (long _ _ (number-rate (rowAt rows (rowNumbers n) t) (given-row t l) k m) (omega arith)) (in-row a t k l m)
+      (long _ _ (number-rate (a .rows t) (ok .row t l) k m) (omega arith)) (in-row a t k l m)
 
-  pub rows-read : (t : ℕ) → t < T → recordRow (recordOf (given road T start rows)) (road .n) t ≡ rowAt rows (rowNumbers (road .n)) t
+  pub rows-read : (t : ℕ) → t < a .steps → recordRow (recordOf a) (a .road .n) t ≡ a .rows t
   rows-read t l =
-      ext-getD 0 (recordRow s n t) (rowAt rows (rowNumbers n) t)
-      (length-row s n t ∙ sym (row-length rows (rowNumbers n) t T l (ok .all)))
+      ext-getD 0 (recordRow s n t) (a .rows t)
+      (length-row s n t ∙ sym (ok .row t l .numbers))
       (λ k m.
       let h : k < rowNumbers n = omega (arith, length-row s n t) in
       row-at s n t k h ∙ entry-read t l k h)
@@ -210,16 +212,16 @@ module _ (road : Road) (T : ℕ) (start : Start) (rows : List ℕ) (room : ℕ) 
   places-read : allOf (placeOk (roadOf s) (startOf s)) (cellsOf s + 1) ≡ true
   places-read =
       rw (road-read, start-read, cells-read)
-      (all-true (placeOk (cutRoad road) (cutState n (startState start))) (n + 1)
-      (place-ok (cutRoad road) (cutState n (startState start)) (cut-road road road-ok) (cut-state road (startState start) road-ok state-ok)))
+      (all-true (placeOk (cutRoad road) (cutState n start)) (n + 1)
+      (place-ok (cutRoad road) (cutState n start) (cut-road road (ok .road)) (cut-state road start (ok .road) (ok .start))))
 
   steps-fit : allOf (stepOk s (roadOf s)) (stepsOf s) ≡ true
   steps-fit =
       rw (road-read, steps-read)
       (all-true (stepOk s (cutRoad road)) T (λ t l.
-      rw (rows-read t l) (row-ok (cutRoad road) (rowAt rows (rowNumbers n) t) (cut-road road road-ok) (cut-row road (rowAt rows (rowNumbers n) t) road-ok (given-row t l)))))
+      rw (rows-read t l) (row-ok (cutRoad road) (a .rows t) (cut-road road (ok .road)) (cut-row road (a .rows t) (ok .road) (ok .row t l)))))
 
-  pub reads-back : readingOf (recordOf (given road T start rows)) ≡ acceptedOf T (cutRoad road) (cutState (road .n) (startState start))
+  pub reads-back : readingOf (recordOf a) ≡ acceptedOf (a .steps) (cutRoad (a .road)) (cutState (a .road .n) (startState (startIn (a .start))))
   unfolding readingBy
   reads-back =
       rw (long-enough, known-read, counts-read, seconds-fit, size-read, places-read, steps-fit)

@@ -2,7 +2,7 @@
 -- written again has the same bytes; bytes beyond the record are untouched, and a refusal leaves the target unchanged. Assumes nothing.
 use mathlib.Core.Path.{_≡_, refl, sym, ap, _∙_}
 use mathlib.Core.Bool.{true}
-use mathlib.Core.List.{List}
+use mathlib.Core.List.{List, []}
 use Prim.Native.Nat.{ℕ, _+_, _*_, _≤_, _<_}
 use native.Mathlib.Omega.{arith}
 use lib.ListN.{length, take, drop}
@@ -10,25 +10,24 @@ use lib.Seq.{take-at, drop-at}
 use Rattle.numbers.specs.Lists.{at}
 use Rattle.numbers.specs.FirstLaws.{first-none}
 use Rattle.rows.specs.Tables.{rowAt}
+use Rattle.rows.specs.TablesLaws.{row-length}
 use Rattle.road.specs.declared.Road.{Road}
-use Rattle.road.specs.declared.State.{State}
 use Rattle.road.specs.declared.Start.{Start}
-use Rattle.road.specs.Road.{zeros, startState, startIn}
+use Rattle.road.specs.Road.{startState, startIn}
 use Rattle.road.specs.Study.{Study}
 use Rattle.fields.specs.Fields.{secondVersion, rowNumbers, recordRow}
 use Rattle.limits.specs.Limits.{placeOk, rowOk}
-use Rattle.limits.specs.LimitsLaws.{place-ok, row-ok}
+use Rattle.limits.specs.LimitsLaws.{places-road, places-state, place-ok, row-facts, row-ok}
 use Rattle.header.specs.Header.{sizeOf}
 use Rattle.reading.specs.Reading.{acceptedOf, readingOf, studyOf}
-use Rattle.reading.specs.Numbers.{read-numbers}
-use Rattle.reading.specs.Within.{read-within}
 use Rattle.putting.specs.Record.{recordOf, given}
 use Rattle.putting.specs.Putting.{length-record}
 use Rattle.writing.specs.Writing.{WriteAnswer, written, givenOk, writingOf, targetAfter}
 use Rattle.writing.specs.Checks.{answer-written, by-given}
-use Rattle.writing.specs.Accepted.{given-accepted, refused-count, target-refused, target-written}
+use Rattle.writing.specs.Accepted.{Accepted, given-accepted, refused-count, target-refused, target-written}
 use Rattle.writing.specs.Cut.{cutRoad, cutState, kept-second, kept-none}
-use Rattle.writing.specs.ReadBack.{reads-back, rows-read}
+use Rattle.writing.specs.ReadBack.{Recordable, reads-back, rows-read}
+use Rattle.writing.specs.Kept.{read-size, read-recordable}
 use Rattle.writing.specs.Again.{same-bytes}
 
 -- the record's bytes in the target
@@ -41,14 +40,28 @@ pub record ReadsBack (road : Road) (T : ℕ) (start : Start) (rows : List ℕ) (
   pub reads : readingOf (take count after) ≡ acceptedOf T (cutRoad road) (cutState (road .n) (startState start))
   pub row : (t : ℕ) → t < T → recordRow (take count after) (road .n) t ≡ rowAt rows (rowNumbers (road .n)) t
 
+-- what was given without a refusal is within the limits
+recordable : (road : Road) (T : ℕ) (start : Start) (rows : List ℕ) (room : ℕ)
+    → Accepted (given road T start rows) (length rows) room → Recordable (given road T start rows)
+recordable road T start rows room ok =
+    let r = places-road road (startState start) (ok .places) (ok .counts .someCells) (ok .counts .cells) in
+    record {
+      version = ok .version;
+      counts = ok .counts;
+      seconds = ok .seconds;
+      size = ok .size;
+      road = r;
+      start = places-state road (startState start) (ok .places) (omega arith) (omega arith);
+      row = λ t l.
+          row-facts road (rowAt rows (rowNumbers (road .n)) t) (row-length rows (rowNumbers (road .n)) t T l (ok .all)) (r .ramp) (ok .rows t l);
+    }
+
 module _ (road : Road) (T : ℕ) (start : Start) (rows target : List ℕ) where
   -- where writing isn't refused
   pub record Saved : Type 0 where
     pub count : writingOf road T start rows target .count ≡ sizeOf (road .version) (road .n) T
-    -- reading the first `count` bytes isn't refused and gives version, n, T and the values given up to cell n, 0 past it (cut-at, cut-past)
-    pub reads : readingOf (savedOf road T start rows target) ≡ acceptedOf T (cutRoad road) (cutState (road .n) (startState start))
-    -- and each row's numbers are those given
-    pub row : (t : ℕ) → t < T → recordRow (savedOf road T start rows target) (road .n) t ≡ rowAt rows (rowNumbers (road .n)) t
+    -- the first `count` bytes read back as what was given (cut-at, cut-past)
+    pub back : ReadsBack road T start rows (writingOf road T start rows target .count) (targetAfter road T start rows target)
     -- bytes beyond the record are untouched
     pub beyond : drop (sizeOf (road .version) (road .n) T) (targetAfter road T start rows target) ≡ drop (sizeOf (road .version) (road .n) T) target
 
@@ -56,6 +69,7 @@ module _ (road : Road) (T : ℕ) (start : Start) (rows target : List ℕ) where
   saved h =
       let ok = given-accepted road T start rows target h in
       let a = given road T start rows in
+      let within = recordable road T start rows (length target) ok in
       let size : writingOf road T start rows target .count ≡ sizeOf (road .version) (road .n) T =
       sym (ap (λ (x : WriteAnswer). x .count) (by-given road T start rows target)) ∙ ap (λ (x : WriteAnswer). x .count) (ok .answer) in
       let bytes : savedOf road T start rows target ≡ recordOf (given road T start rows) =
@@ -63,8 +77,10 @@ module _ (road : Road) (T : ℕ) (start : Start) (rows target : List ℕ) where
       (take-at (recordOf a) (drop (sizeOf (road .version) (road .n) T) target) (writingOf road T start rows target .count) (length-record a ∙ sym size)) in
       record {
         count = size;
-        reads = ap readingOf bytes ∙ reads-back road T start rows (length target) ok;
-        row = λ t l. ap (λ (s : List ℕ). recordRow s (road .n) t) bytes ∙ rows-read road T start rows (length target) ok t l;
+        back = record {
+          reads = ap readingOf bytes ∙ reads-back a within;
+          row = λ t l. ap (λ (s : List ℕ). recordRow s (road .n) t) bytes ∙ rows-read a within t l;
+        };
         beyond = rw (target-written road T start rows target h)
             (drop-at (recordOf a) (drop (sizeOf (road .version) (road .n) T) target) (sizeOf (road .version) (road .n) T) (length-record a));
       }
@@ -74,7 +90,7 @@ module _ (road : Road) (T : ℕ) (start : Start) (rows target : List ℕ) where
       → a .number ≡ 0 → ReadsBack road T start rows (a .count) after
   reads-as-given ea et z =
       let k = saved (ap (λ (x : WriteAnswer). x .number) (sym ea) ∙ z) in
-      rw (ea, et) (record { reads = k .reads; row = k .row })
+      rw (ea, et) (k .back)
 
   -- what writing promises: the answer, the target at exit, and that it reads back
   abbrev pub Promise : WriteAnswer → List ℕ → Type 0
@@ -93,51 +109,26 @@ module _ (road : Road) (T : ℕ) (start : Start) (rows target : List ℕ) where
 
   -- so running and judging a written record, under any table of lanes, is running and judging what was given: their study has its road, start, T and rows
   pub saved-road : Saved → (lanes : List ℕ) → studyOf (savedOf road T start rows target) lanes .road ≡ cutRoad road
-  saved-road k lanes = rw (k .reads)
+  saved-road k lanes = rw (k .back .reads)
 
   pub saved-start : Saved → (lanes : List ℕ) → studyOf (savedOf road T start rows target) lanes .start ≡ cutState (road .n) (startState start)
-  saved-start k lanes = rw (k .reads)
+  saved-start k lanes = rw (k .back .reads)
 
   pub saved-steps : Saved → (lanes : List ℕ) → studyOf (savedOf road T start rows target) lanes .steps ≡ T
-  saved-steps k lanes = rw (k .reads)
+  saved-steps k lanes = rw (k .back .reads)
 
   pub saved-rows : Saved → (lanes : List ℕ) (t : ℕ) → t < T → studyOf (savedOf road T start rows target) lanes .rows t ≡ rowAt rows (rowNumbers (road .n)) t
-  saved-rows k lanes t l = rw (k .reads) (k .row t l)
+  saved-rows k lanes t l = rw (k .back .reads) (k .back .row t l)
 
   -- it keeps the version, and in version 2 the seconds; in version 1 they are 0
   pub saved-version : Saved → readingOf (savedOf road T start rows target) .road .version ≡ road .version
-  saved-version k = rw (k .reads)
+  saved-version k = rw (k .back .reads)
 
   pub saved-seconds : Saved → road .version ≡ secondVersion → readingOf (savedOf road T start rows target) .road .seconds ≡ road .seconds
-  saved-seconds k e = rw (k .reads) (kept-second (road .version) (road .seconds) e)
+  saved-seconds k e = rw (k .back .reads) (kept-second (road .version) (road .seconds) e)
 
   pub saved-untimed : Saved → (road .version ≡ secondVersion → ⊥) → readingOf (savedOf road T start rows target) .road .seconds ≡ 0
-  saved-untimed k h = rw (k .reads) (kept-none (road .version) (road .seconds) h)
-
--- a state before step 0 is that of its start
-start-state : (q : State) → q .done ≡ 0 → q .«gate_time» ≡ 0 → q .«road_time» ≡ 0 → q .«ramp_time» ≡ 0
-    → q .«gate_cumulative» ≡ 0 → q .cumulative ≡ zeros
-    → startState (startIn q) ≡ q
-start-state q d u v w g c =
-    sym (ap (λ (x : ℕ). made x (q .«gate_time») (q .«road_time») (q .«ramp_time») (q .«gate_cumulative») (q .cumulative)) d
-    ∙ ap (λ (x : ℕ). made 0 x (q .«road_time») (q .«ramp_time») (q .«gate_cumulative») (q .cumulative)) u
-    ∙ ap (λ (x : ℕ). made 0 0 x (q .«ramp_time») (q .«gate_cumulative») (q .cumulative)) v
-    ∙ ap (λ (x : ℕ). made 0 0 0 x (q .«gate_cumulative») (q .cumulative)) w
-    ∙ ap (λ (x : ℕ). made 0 0 0 0 x (q .cumulative)) g
-    ∙ ap (λ (l : List ℕ). made 0 0 0 0 0 l) c)
-  where
-    made : ℕ → ℕ → ℕ → ℕ → ℕ → List ℕ → State
-    made done gate road ramp out cumulative = record {
-      done = done;
-      «gate_time» = gate;
-      «road_time» = road;
-      «ramp_time» = ramp;
-      «gate_queue» = q .«gate_queue»;
-      «gate_cumulative» = out;
-      held = q .held;
-      queue = q .queue;
-      cumulative = cumulative;
-    }
+  saved-untimed k h = rw (k .back .reads) (kept-none (road .version) (road .seconds) h)
 
 -- a record that reads without refusal, written again from what reading gave and its rows
 module _ (s : List ℕ) (small : (i : ℕ) → at s i < 256) (reads : readingOf s .number ≡ 0) (rows target : List ℕ)
@@ -156,20 +147,18 @@ module _ (s : List ℕ) (small : (i : ℕ) → at s i < 256) (reads : readingOf 
   -- it isn't refused, and counts the record's bytes
   pub again-answer : writingOf (readingOf s .road) (readingOf s .steps) (startIn (readingOf s .state)) rows target ≡ written (length s)
   again-answer =
-      let w = read-within s (readingOf s) refl reads in
-      let n = read-numbers s (readingOf s) refl reads in
-      let e = start-state (readingOf s .state) (n .done) (n .gateTime) (n .roadTime) (n .rampTime) (n .gateCumulative) (n .cumulative) in
-      let places : (p : ℕ) → p < road .n + 1 → placeOk road (startState start) p ≡ true = rw e (place-ok road (readingOf s .state) (w .road) (w .state)) in
+      let w = read-recordable s reads [] in
+      let places : (p : ℕ) → p < road .n + 1 → placeOk road (startState start) p ≡ true = place-ok road (startState start) (w .road) (w .start) in
       let fits : (t : ℕ) → t < T → givenOk (given road T start rows) t ≡ true =
       λ t l. (rw (same t l) (row-ok road (recordRow s (road .n) t) (w .road) (w .row t l))) in
-      let size : sizeOf (road .version) (road .n) T ≡ length s = ap (λ (v : ℕ). sizeOf v (road .n) T) (n .version) ∙ sym (w .size) in
+      let size = read-size s reads in
       sym (by-given road T start rows target)
       ∙ sym (answer-written (given road T start rows) (length rows) (length target)
       (record {
         version = w .version;
-        counts = record { someCells = w .road .some; cells = w .road .cells; someSteps = w .someSteps; steps = w .steps };
+        counts = w .counts;
         seconds = w .seconds;
-        size = omega (arith, size, w .bytes);
+        size = w .size;
         all = all;
       })
       (road .n + 1) (sym (first-none (placeOk road (startState start)) (road .n + 1) places)) refl
@@ -180,5 +169,5 @@ module _ (s : List ℕ) (small : (i : ℕ) → at s i < 256) (reads : readingOf 
   pub again-bytes : take (length s) (targetAfter (readingOf s .road) (readingOf s .steps) (startIn (readingOf s .state)) rows target) ≡ s
   again-bytes =
       let h : writingOf road T start rows target .number ≡ 0 = ap (λ (x : WriteAnswer). x .number) again-answer in
-      let e : recordOf (given road T start rows) ≡ s = same-bytes s small reads rows same in
+      let e : recordOf (given road T start rows) ≡ s = same-bytes s small reads (rowAt rows (rowNumbers (road .n))) same in
       rw (target-written road T start rows target h, e) (take-at s (drop (sizeOf (road .version) (road .n) T) target) (length s) refl)

@@ -54,7 +54,7 @@ fn first_row(ramp: [u16; 64], n: usize, rows: &[u32], steps: usize) -> usize
     t
 }
 
-fn refused(refusal: Refusal, place: usize) -> Written
+pub fn refused(refusal: Refusal, place: usize) -> Written
     ensures { λ a. ⌜ writeAnswer a ≡ unwritten (refusalNumber refusal) place ⌝ }
 {
     Written {

@@ -98,6 +98,7 @@ pub fn alter(case: &mut Case, dice: &mut Dice) {
         Case::Wanted(input) => input.alter(dice),
         Case::Grant(input) => input.alter(dice),
         Case::Put(input) => input.alter(dice),
+        Case::Join(input) => input.alter(dice),
     }
 }
 

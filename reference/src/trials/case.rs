@@ -1,6 +1,7 @@
 //! A case: what one operation is asked. Lists and targets are lent by the one who
 //! asks; a case says how long they are.
 
+use super::joins::JoinInput;
 use super::loads::LoadInput;
 use super::puts::PutInput;
 use super::streets::GrantInput;
@@ -66,6 +67,7 @@ pub enum Case {
     Wanted(WantedInput),
     Grant(GrantInput),
     Put(PutInput),
+    Join(JoinInput),
 }
 
 /// What stepping takes.

@@ -4,6 +4,7 @@ use super::case::{
     Case, FillInput, LeafInput, PresentInput, StepInput, WeighInput, WriteInput, MAX_LANES,
     MAX_LIST, MAX_RECORD, MAX_ROW, MAX_ROWS, MAX_TARGET,
 };
+use super::joins::JoinInput;
 use super::loads::LoadInput;
 use super::puts::PutInput;
 use super::streets::GrantInput;
@@ -128,6 +129,13 @@ impl Cases {
     pub fn put(&mut self, input: &PutInput) {
         assert!(input.record.len() <= MAX_RECORD);
         self.list.push(Case::Put(input.clone()));
+    }
+
+    pub fn join(&mut self, input: &JoinInput) {
+        let counts = [input.upstream.len(), input.downstream.len()];
+        assert!(counts.iter().all(|&count| count <= MAX_RECORD));
+        assert!(input.length <= MAX_TARGET);
+        self.list.push(Case::Join(input.clone()));
     }
 
     /// These bytes read, run with a list of this length, and judged with a

@@ -4,6 +4,7 @@
 pub mod case;
 pub mod cases;
 pub mod dice;
+pub mod joins;
 pub mod loads;
 pub mod puts;
 pub mod source;
@@ -68,5 +69,7 @@ pub fn all_cases() -> Vec<Case> {
     // Group 14: the grants of a street, refusal 24, and a release put into a record.
     streets::add(&mut cases);
     puts::add(&mut cases, &trials);
+    // Group 15: two roads joined, refusals 20 to 22.
+    joins::add(&mut cases, &trials);
     cases.list
 }

@@ -5,6 +5,7 @@ use super::cells::STYLES;
 use super::closed_steps;
 use super::closures;
 use super::dice::Dice;
+use super::joins::{self, JoinInput};
 use super::judged;
 use super::leaves;
 use super::loads;
@@ -22,7 +23,7 @@ use crate::model::Road;
 use crate::record;
 
 pub fn case(dice: &mut Dice) -> Case {
-    match dice.upto(42) {
+    match dice.upto(45) {
         0..=6 => run(dice),
         7..=14 => judge(dice),
         15..=18 => Case::Step(Box::new(step(dice))),
@@ -38,6 +39,7 @@ pub fn case(dice: &mut Dice) -> Case {
         37 | 38 => Case::Wanted(wanted_queues::random(dice)),
         39 => Case::Grant(streets::random(dice)),
         40 | 41 => Case::Put(puts::random(trial(dice).record, dice)),
+        42..=44 => Case::Join(join(dice)),
         _ => Case::Capacity {
             capacity: dice.any_size(u64::from(Road::MAX_RATE)) as u32,
             built: dice.bits() as u8,
@@ -164,6 +166,15 @@ fn fill(dice: &mut Dice) -> FillInput {
     }
     input.record = either_version(input.record, dice);
     input
+}
+
+/// Two roads, or one cut in two, which has at least two cells.
+fn join(dice: &mut Dice) -> JoinInput {
+    let trial = trial(dice);
+    match trial.n > 1 && dice.one_in(2) {
+        true => joins::cut_somewhere(&trial.record, dice),
+        false => joins::random(turn(dice), dice),
+    }
 }
 
 /// Bytes, n and T to take rows from: a record's, or any bytes with steps about the

@@ -277,7 +277,7 @@ pub fn random(k: usize, dice: &mut Dice) -> WriteInput {
 }
 
 /// Numbers up to 1,000,000 of any size, 0 for a cell without a ramp.
-fn any_row(road: &Road, dice: &mut Dice) -> Vec<u32> {
+pub fn any_row(road: &Road, dice: &mut Dice) -> Vec<u32> {
     let mut row = vec![dice.any_size(1_000_000) as u32];
     for i in 0..road.n {
         for _ in 0..2 {

@@ -3,6 +3,7 @@
 use crate::support::{judge, record_of, without_comments};
 use reference::as_text::text_of;
 use reference::fill::fill;
+use reference::join::{cut, join};
 use reference::lanes_text::table_of;
 use reference::laws::laws_of;
 use reference::print::{judgement_line, printed_run, printed_under};
@@ -152,6 +153,17 @@ fn the_page_of_rocade_sud_says_who_waits_where() {
     }
     let filled = rows.iter().map(|row| row[0].clone()).skip(1);
     assert_eq!(filled.collect::<BTreeSet<_>>(), named(".laws.txt"));
+}
+
+/// Rocade Sud cut after cell 9, and joined again.
+#[test]
+fn two_stretches_of_rocade_sud_are_the_whole() {
+    let [up, down, whole] =
+        ["-upstream", "-downstream", ""].map(|part| bytes_of(&format!("rocade-sud{part}.rec")));
+    assert!(cut(&whole, 9) == (up.clone(), down.clone(), 890));
+    let mut target = vec![0; whole.len()];
+    assert_eq!(join(&up, &down, 890, &mut target).count, whole.len());
+    assert!(target == whole);
 }
 
 #[test]

@@ -7,6 +7,7 @@ mod compare;
 mod edges;
 mod examples;
 mod filling;
+mod joining;
 mod laws_text;
 mod loading;
 mod order;

@@ -1,6 +1,7 @@
 //! The trials: what the cases hold.
 
 use crate::support::*;
+use reference::join::join;
 use reference::print::printed_schedule;
 use reference::put::put;
 use reference::record::read;
@@ -80,6 +81,11 @@ fn answered(case: &Case) -> (&'static str, u32) {
             let (mut record, step, cell) = (x.record.clone(), x.step as usize, x.cell as usize);
             ("put", put(&mut record, step, cell, x.release).number)
         }
+        Case::Join(x) => {
+            let mut target = vec![0; x.length];
+            let written = join(&x.upstream, &x.downstream, x.share, &mut target);
+            ("join", written.number)
+        }
     }
 }
 
@@ -110,7 +116,7 @@ fn the_first_cases_are_those_of_the_printed_run() {
 #[test]
 fn there_are_enough_cases_of_each_kind() {
     let cases = made();
-    assert_eq!(cases.len(), 12_239);
+    assert_eq!(cases.len(), 12_977);
     for (kind, least) in [
         ("read", 400),
         ("step", 400),
@@ -126,6 +132,7 @@ fn there_are_enough_cases_of_each_kind() {
         ("wanted, none", 600),
         ("grant", 800),
         ("put", 500),
+        ("join", 700),
     ] {
         assert!(count(cases, kind, None) >= least, "{kind}");
     }
@@ -176,6 +183,8 @@ fn every_refusal_occurs(cases: &[Case]) {
     assert_eq!(found("wanted"), [0, 23].into());
     assert_eq!(found("grant"), [0, 24].into());
     assert_eq!(found("put"), (0..=6).chain([19]).collect());
+    let join = (0..=6).chain([15]).chain(19..=22).collect();
+    assert_eq!(found("join"), join);
 }
 
 #[test]
@@ -199,6 +208,27 @@ fn a_source_s_case_comes_from_the_seed_and_its_number_alone() {
     let numbers = (0..300).rev().step_by(7);
     assert!(numbers.clone().all(|k| one.case(k) == same.case(k)));
     assert!(numbers.filter(|&k| one.case(k) != other.case(k)).count() > 35);
+}
+
+/// Joined records of 65,536 bytes and of 64 cells, cuts in both versions, and each
+/// refusal of joining several times.
+#[test]
+fn joins_are_at_every_bound() {
+    let joins = made().iter().filter_map(|case| match case {
+        Case::Join(input) => Some(input),
+        _ => None,
+    });
+    let joined: Vec<Vec<u8>> = joins.filter_map(|input| input.joined()).collect();
+    assert!(joined.iter().all(|record| read(record).number == 0));
+    assert!(joined.iter().any(|record| record.len() == 65_536));
+    for (version, n) in [(1, 64), (2, 64), (1, 2), (2, 2)] {
+        let found = |record: &&Vec<u8>| (record[4], record[5]) == (version, n);
+        assert!(joined.iter().filter(found).count() > 3, "{version} {n}");
+    }
+    for (number, least) in [(0, 250), (5, 60), (15, 30), (20, 60), (21, 40), (22, 25)] {
+        let found = count(made(), "join", Some(number));
+        assert!(found >= least, "{number}: {found}");
+    }
 }
 
 #[test]

@@ -1,0 +1,31 @@
+-- Theorem across joining and running: the joined record is run under every table of lanes for its cells and steps, and carries demand 3. Assumes nothing.
+use mathlib.Core.Path.{_≡_, ap}
+use mathlib.Core.List.{List, []}
+use Prim.Native.Nat.{ℕ, _+_}
+use Rattle.reading.specs.Reading.{ReadAnswer, readingOf}
+use Rattle.model.specs.Step.{tableFault}
+use Rattle.joining.specs.Joining.{joiningOf}
+use Rattle.joining.specs.Theorems.{joinedBytes, joined-reads}
+use Rattle.schedules.specs.Schedules.{runningOf, listAfter}
+use Rattle.schedules.specs.Readable.{taken-open}
+use Rattle.schedules.specs.Demand.{Taken, Promised}
+use Rattle.schedules.specs.Whole.{promised}
+
+module _ (up down : List ℕ) (share : ℕ) (target : List ℕ) (joined : joiningOf up down share target .number ≡ 0) where
+  -- with the empty table it is opened always
+  pub joined-open : Taken (joinedBytes up down share target) []
+  joined-open = taken-open (joinedBytes up down share target) (ap (λ (x : ReadAnswer). x .number) (joined-reads up down share target joined))
+
+  -- and with one for n cells and T steps, n counting those of both
+  pub joined-taken : (lanes : List ℕ) → tableFault lanes (readingOf up .road .n + readingOf down .road .n) (readingOf up .steps) .number ≡ 0
+      → Taken (joinedBytes up down share target) lanes
+  joined-taken lanes h = record {
+    reads = ap (λ (x : ReadAnswer). x .number) (joined-reads up down share target joined);
+    opens = rw (joined-reads up down share target joined) h;
+  }
+
+  -- demand 3 holds of it
+  pub joined-promised : (lanes : List ℕ) → Taken (joinedBytes up down share target) lanes → (list : List ℕ)
+      → Promised (joinedBytes up down share target) lanes (listAfter (joinedBytes up down share target) lanes list)
+      (runningOf (joinedBytes up down share target) lanes list)
+  joined-promised lanes taken list = promised (joinedBytes up down share target) lanes taken list

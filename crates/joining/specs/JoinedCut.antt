@@ -1,0 +1,407 @@
+-- Theorem: a record that reads, cut into two records after any cell but its last and joined again, is the same bytes. Assumes nothing.
+use mathlib.Core.Path.{_≡_, refl, sym, ap, subst, _∙_}
+use mathlib.Core.Bool.{cond}
+use mathlib.Core.Logic.{⊎-elim}
+use mathlib.Core.List.{List, [], _∷_}
+use Prim.Native.Nat.{ℕ, suc, _+_, _-_, _*_, _≤_, _<_}
+use native.Mathlib.Nat.{mul-le-mul-left}
+use native.Mathlib.Omega.{arith}
+use lib.Dec.{eqb}
+use lib.ListN.{length, take, drop, length-drop}
+use lib.Seq.{length-take-le, getD-take, getD-drop}
+use borrow.Author.Tests.{eq-eqb, ne-eqb}
+use Rattle.numbers.specs.Lists.{at}
+use Rattle.numbers.specs.Tests.{order}
+use Rattle.rows.specs.Rows.{fillOf}
+use Rattle.rows.specs.RowsLaws.{fill-at, fill-own}
+use Rattle.flow.specs.Flow.{whole}
+use Rattle.road.specs.declared.Road.{Road}
+use Rattle.road.specs.declared.State.{State}
+use Rattle.road.specs.Road.{mostCells, mostBytes, mostRate, zeros, startState, startIn}
+use Rattle.road.specs.RoadLaws.{length-zeros, zeros-at}
+use Rattle.road.specs.Study.{Study, study}
+use Rattle.fields.specs.Fields.{rowNumbers, rowSize, recordRow}
+use Rattle.fields.specs.FieldsLaws.{length-row}
+use Rattle.limits.specs.LimitsLaws.{RoadOk, StateOk, RowOk}
+use Rattle.header.specs.Header.{sizeOf}
+use Rattle.reading.specs.Reading.{ReadAnswer, acceptedOf, readingOf, studyOf}
+use Rattle.reading.specs.Numbers.{Numbers, read-numbers}
+use Rattle.putting.specs.Record.{recordOf}
+use Rattle.writing.specs.Writing.{written}
+use Rattle.writing.specs.Cut.{cutOf, keptSeconds, cutRoad, cutState}
+use Rattle.writing.specs.ReadBack.{Recordable, reads-back, rows-read}
+use Rattle.writing.specs.Kept.{read-recordable, read-kept}
+use Rattle.joining.specs.Joining.{joiningOf, joinedTarget}
+use Rattle.joining.specs.JoinedColumns.{Joined, JoinedShares, JoinedNumbers, cut-own}
+use Rattle.joining.specs.Theorems.{Stands}
+use Rattle.joining.specs.JoinedParts.{Parts, parts-answer, parts-joined}
+
+-- the m entries of a column from cell k on, and 0 past them
+abbrev pub partOf : ℕ → ℕ → List ℕ → List ℕ
+partOf k m l = fillOf (λ i. at l (k + i)) m zeros
+
+-- the shares of the first k cells, of which the last is now the road's last
+abbrev pub upperShare : ℕ → List ℕ → ℕ → ℕ
+upperShare k l i = cond (eqb (i + 1) k) 0 (at l (0 + i))
+
+-- m cells of a road from cell k on, behind a gate of this capacity, with these shares
+abbrev pub partRoad : ℕ → ℕ → ℕ → List ℕ → Road → Road
+partRoad k m gate share r = record {
+  n = m;
+  version = r .version;
+  seconds = r .seconds;
+  «gate_capacity» = gate;
+  speed = partOf k m (r .speed);
+  wave = partOf k m (r .wave);
+  share = share;
+  ramp = partOf k m (r .ramp);
+  jam = partOf k m (r .jam);
+  capacity = partOf k m (r .capacity);
+}
+
+abbrev pub partStart : ℕ → ℕ → ℕ → State → State
+partStart k m gate q = startState (record { «gate_queue» = gate; held = partOf k m (q .held); queue = partOf k m (q .queue) })
+
+-- the first k cells of a study, with its gate; and the others, behind a gate of capacity 0 without queue or arrivals
+abbrev pub upperOf : ℕ → Study → Study
+upperOf k a =
+    study (partRoad 0 k (a .road .«gate_capacity») (fillOf (upperShare k (a .road .share)) k zeros) (a .road)) (partStart 0 k (a .start .«gate_queue») (a .start))
+    (a .steps) (λ t. take (rowNumbers k) (a .rows t)) []
+
+abbrev pub lowerOf : ℕ → Study → Study
+lowerOf k a =
+    study (partRoad k (a .road .n - k) 0 (partOf k (a .road .n - k) (a .road .share)) (a .road)) (partStart k (a .road .n - k) 0 (a .start))
+    (a .steps) (λ t. 0 ∷ drop (rowNumbers k) (a .rows t)) []
+
+pub part-at : (k m : ℕ) (l : List ℕ) → m ≤ mostCells → (i : ℕ) → i < m → at (partOf k m l) i ≡ at l (k + i)
+part-at k m l h i b = fill-at (λ j. at l (k + j)) m zeros i b (omega (arith, length-zeros))
+
+-- a part of a road within its limits is within them, where its gate, its shares and its number of cells are
+module _ (r : Road) (ok : RoadOk r) (k m gate : ℕ) (share : List ℕ) (some : 1 ≤ m) (within : k + m ≤ r .n) (gated : gate ≤ mostRate)
+    (shared : (i : ℕ) → i < m → at share i ≤ whole) (last : (i : ℕ) → i + 1 ≡ m → at share i ≡ 0) where
+  few : m ≤ mostCells
+  few = omega (arith, ok .cells)
+
+  entry : (l : List ℕ) (i : ℕ) → i < m → at (partOf k m l) i ≡ at l (k + i)
+  entry l i b = part-at k m l few i b
+
+  below : (l : List ℕ) (most : ℕ) → ((i : ℕ) → i < r .n → at l i ≤ most) → (i : ℕ) → i < m → at (partOf k m l) i ≤ most
+  below l most h i b = omega (arith, entry l i b, h (k + i) (omega arith))
+
+  pub part-road : RoadOk (partRoad k m gate share r)
+  part-road = record {
+    some = some;
+    cells = few;
+    gate = gated;
+    speed = below (r .speed) whole (ok .speed);
+    wave = below (r .wave) whole (ok .wave);
+    share = shared;
+    last = last;
+    ramp = below (r .ramp) 1 (ok .ramp);
+    jam = below (r .jam) mostRate (ok .jam);
+    capacity = below (r .capacity) mostRate (ok .capacity);
+  }
+
+  pub part-start : (q : State) (queue : ℕ) → StateOk r (startState (startIn q)) → queue ≤ q .«gate_queue»
+      → StateOk (partRoad k m gate share r) (partStart k m queue q)
+  part-start q queue h l = record {
+    done = omega arith;
+    total = omega arith;
+    gateQueue = omega (arith, h .gateQueue);
+    gateCumulative = omega arith;
+    held = λ i b. omega (arith, entry (q .held) i b, entry (r .jam) i b, h .held (k + i) (omega arith));
+    queue = λ i b. omega (arith, entry (q .queue) i b, h .queue (k + i) (omega arith));
+    noRamp = λ i b e. entry (q .queue) i b ∙ h .noRamp (k + i) (omega arith) (sym (entry (r .ramp) i b) ∙ e);
+    cumulative = λ i b. omega (arith, zeros-at i);
+  }
+
+  -- a row whose cells' numbers are the road's
+  pub part-row : (row all : List ℕ) → RowOk r all → length row ≡ rowNumbers m → at row 0 ≤ mostRate
+      → ((j : ℕ) → j < 2 * m → at row (1 + j) ≡ at all (1 + 2 * k + j)) → RowOk (partRoad k m gate share r) row
+  part-row row all h long gate same =
+      let arrives : (i : ℕ) → i < m → at row (2 * i + 1) ≡ at all (2 * (k + i) + 1) =
+      λ i b.
+      (let e : 1 + 2 * i ≡ 2 * i + 1 = omega arith in
+      let f : 1 + 2 * k + 2 * i ≡ 2 * (k + i) + 1 = omega arith in
+      ap (at row) (sym e) ∙ same (2 * i) (omega arith) ∙ ap (at all) f) in
+      let goes : (i : ℕ) → i < m → at row (2 * i + 2) ≡ at all (2 * (k + i) + 2) =
+      λ i b.
+      (let e : 1 + (2 * i + 1) ≡ 2 * i + 2 = omega arith in
+      let f : 1 + 2 * k + (2 * i + 1) ≡ 2 * (k + i) + 2 = omega arith in
+      ap (at row) (sym e) ∙ same (2 * i + 1) (omega arith) ∙ ap (at all) f) in
+      record {
+        numbers = long;
+        gate = gate;
+        arrivals = λ i b. omega (arith, arrives i b, h .arrivals (k + i) (omega arith));
+        release = λ i b. omega (arith, goes i b, h .release (k + i) (omega arith));
+        noArrivals = λ i b e. arrives i b ∙ h .noArrivals (k + i) (omega arith) (sym (entry (r .ramp) i b) ∙ e);
+        noRelease = λ i b e. goes i b ∙ h .noRelease (k + i) (omega arith) (sym (entry (r .ramp) i b) ∙ e);
+      }
+
+  pub part-cut : (f : ℕ → ℕ) → share ≡ fillOf f m zeros → keptSeconds (r .version) (r .seconds) ≡ r .seconds
+      → cutRoad (partRoad k m gate share r) ≡ partRoad k m gate share r
+  part-cut f e s =
+      let own : cutOf m share ≡ share = ap (cutOf m) e ∙ cut-own f m few ∙ sym e in
+      rw (
+        s,
+        cut-own (λ i. at (r .speed) (k + i)) m few,
+        cut-own (λ i. at (r .wave) (k + i)) m few,
+        own,
+        cut-own (λ i. at (r .ramp) (k + i)) m few,
+        cut-own (λ i. at (r .jam) (k + i)) m few,
+        cut-own (λ i. at (r .capacity) (k + i)) m few,
+      )
+
+pub start-part : (k m gate : ℕ) (q : State) → m ≤ mostCells → cutState m (partStart k m gate q) ≡ partStart k m gate q
+start-part k m gate q few =
+    rw (cut-own (λ i. at (q .held) (k + i)) m few, cut-own (λ i. at (q .queue) (k + i)) m few, fill-own zeros m)
+
+-- a record that reads, of more than k cells
+module _ (s : List ℕ) (reads : readingOf s .number ≡ 0) (k : ℕ) (some : 1 ≤ k) (less : k < readingOf s .road .n) where
+  abbrev z : ReadAnswer
+  z = readingOf s
+
+  abbrev a : Study
+  a = studyOf s []
+
+  abbrev r : Road
+  r = z .road
+
+  abbrev m : ℕ
+  m = r .n - k
+
+  abbrev upperShares : List ℕ
+  upperShares = fillOf (upperShare k (r .share)) k zeros
+
+  abbrev lowerShares : List ℕ
+  lowerShares = partOf k m (r .share)
+
+  whole-ok : Recordable (studyOf s [])
+  whole-ok = read-recordable s reads []
+
+  cells : readingOf s .road .n ≤ mostCells
+  cells = whole-ok .road .cells
+
+  -- the shares of both
+  upper-share : (i : ℕ) → i < k → at (fillOf (upperShare k (readingOf s .road .share)) k zeros) i ≡ upperShare k (readingOf s .road .share) i
+  upper-share i l = fill-at (upperShare k (r .share)) k zeros i l (omega (arith, length-zeros, cells, less))
+
+  upper-last : (i : ℕ) → i + 1 ≡ k → at (fillOf (upperShare k (readingOf s .road .share)) k zeros) i ≡ 0
+  upper-last i e = upper-share i (omega arith) ∙ rw (eq-eqb (i + 1) k e)
+
+  upper-other : (i : ℕ) → i + 1 < k → at (fillOf (upperShare k (readingOf s .road .share)) k zeros) i ≡ at (readingOf s .road .share) i
+  upper-other i l =
+      let e : 0 + i ≡ i = omega arith in
+      upper-share i (omega arith) ∙ rw (ne-eqb (i + 1) k (λ e. omega arith), e)
+
+  upper-most : (i : ℕ) → i < k → at (fillOf (upperShare k (readingOf s .road .share)) k zeros) i ≤ whole
+  upper-most i l = ⊎-elim
+      (λ (h : k ≤ i + 1). omega (arith, upper-last i (omega arith)))
+      (λ (h : i + 1 < k). omega (arith, upper-other i h, whole-ok .road .share i (omega (arith, less))))
+      (order k (i + 1))
+
+  lower-share : (i : ℕ) → i < readingOf s .road .n - k → at (partOf k (readingOf s .road .n - k) (readingOf s .road .share)) i ≡ at (readingOf s .road .share) (k + i)
+  lower-share = part-at k m (r .share) (omega (arith, cells))
+
+  lower-last : (i : ℕ) → i + 1 ≡ readingOf s .road .n - k → at (partOf k (readingOf s .road .n - k) (readingOf s .road .share)) i ≡ 0
+  lower-last i e = lower-share i (omega arith) ∙ whole-ok .road .last (k + i) (omega (arith, less))
+
+  lower-most : (i : ℕ) → i < readingOf s .road .n - k → at (partOf k (readingOf s .road .n - k) (readingOf s .road .share)) i ≤ whole
+  lower-most i l = omega (arith, lower-share i l, whole-ok .road .share (k + i) (omega arith))
+
+  -- fewer cells are fewer bytes
+  fewer : (c : ℕ) → c ≤ readingOf s .road .n → sizeOf (readingOf s .road .version) c (readingOf s .steps) ≤ mostBytes
+  fewer c l =
+      let w : rowSize c ≤ rowSize (r .n) = omega arith in
+      omega (arith, whole-ok .size, mul-le-mul-left (z .steps) w)
+
+  -- their rows
+  upper-row : (t : ℕ) → t < readingOf s .steps
+      → RowOk (partRoad 0 k (readingOf s .road .«gate_capacity») (fillOf (upperShare k (readingOf s .road .share)) k zeros) (readingOf s .road))
+      (take (rowNumbers k) (recordRow s (readingOf s .road .n) t))
+  upper-row t l =
+      let all = recordRow s (r .n) t in
+      let h = whole-ok .row t l in
+      let first : at (take (rowNumbers k) all) 0 ≡ at all 0 = getD-take (rowNumbers k) all 0 0 (omega arith) in
+      part-row r (whole-ok .road) 0 k (r .«gate_capacity») upperShares some (omega (arith, less)) (whole-ok .road .gate) upper-most upper-last
+      (take (rowNumbers k) all) all h (length-take-le (rowNumbers k) all (omega (arith, h .numbers, less)))
+      (omega (arith, first, h .gate))
+      (λ j b.
+      let e : 1 + j ≡ 1 + 2 * 0 + j = omega arith in
+      getD-take (rowNumbers k) all (1 + j) 0 (omega arith) ∙ ap (at all) e)
+
+  lower-number : (t j : ℕ) → at (0 ∷ drop (rowNumbers k) (recordRow s (readingOf s .road .n) t)) (1 + j) ≡ at (recordRow s (readingOf s .road .n) t) (1 + 2 * k + j)
+  lower-number t j =
+      let all = recordRow s (r .n) t in
+      let e : 1 + j ≡ suc j = omega arith in
+      ap (at (0 ∷ drop (rowNumbers k) all)) e ∙ getD-drop (rowNumbers k) all j 0
+
+  lower-length : (t : ℕ) → length (0 ∷ drop (rowNumbers k) (recordRow s (readingOf s .road .n) t)) ≡ rowNumbers (readingOf s .road .n - k)
+  lower-length t =
+      let all = recordRow s (r .n) t in
+      omega (arith, length-drop (rowNumbers k) all, length-row s (r .n) t, less)
+
+  lower-row : (t : ℕ) → t < readingOf s .steps
+      → RowOk (partRoad k (readingOf s .road .n - k) 0 (partOf k (readingOf s .road .n - k) (readingOf s .road .share)) (readingOf s .road))
+      (0 ∷ drop (rowNumbers k) (recordRow s (readingOf s .road .n) t))
+  lower-row t l =
+      let all = recordRow s (r .n) t in
+      let h = whole-ok .row t l in
+      part-row r (whole-ok .road) k m 0 lowerShares (omega (arith, less)) (omega (arith, less)) (omega arith) lower-most lower-last
+      (0 ∷ drop (rowNumbers k) all) all h (lower-length t) (omega arith)
+      (λ j b. lower-number t j)
+
+  -- both are within the limits
+  upper-ok : Recordable (upperOf k (studyOf s []))
+  upper-ok = record {
+    version = whole-ok .version;
+    counts = record { someCells = some; cells = omega (arith, cells, less); someSteps = whole-ok .counts .someSteps; steps = whole-ok .counts .steps };
+    seconds = whole-ok .seconds;
+    size = fewer k (omega (arith, less));
+    road = part-road r (whole-ok .road) 0 k (r .«gate_capacity») upperShares some (omega (arith, less)) (whole-ok .road .gate) upper-most upper-last;
+    start = part-start r (whole-ok .road) 0 k (r .«gate_capacity») upperShares some (omega (arith, less)) (whole-ok .road .gate) upper-most upper-last
+        (z .state) (z .state .«gate_queue») (whole-ok .start) (omega arith);
+    row = upper-row;
+  }
+
+  lower-ok : Recordable (lowerOf k (studyOf s []))
+  lower-ok = record {
+    version = whole-ok .version;
+    counts = record {
+      someCells = omega (arith, less);
+      cells = omega (arith, cells);
+      someSteps = whole-ok .counts .someSteps;
+      steps = whole-ok .counts .steps;
+    };
+    seconds = whole-ok .seconds;
+    size = fewer m (omega arith);
+    road = part-road r (whole-ok .road) k m 0 lowerShares (omega (arith, less)) (omega (arith, less)) (omega arith) lower-most lower-last;
+    start = part-start r (whole-ok .road) k m 0 lowerShares (omega (arith, less)) (omega (arith, less)) (omega arith) lower-most lower-last
+        (z .state) 0 (whole-ok .start) (omega arith);
+    row = lower-row;
+  }
+
+  -- so both read
+  abbrev up : List ℕ
+  up = recordOf (upperOf k (studyOf s []))
+
+  abbrev down : List ℕ
+  down = recordOf (lowerOf k (studyOf s []))
+
+  abbrev upperRead : ReadAnswer
+  upperRead = acceptedOf (z .steps) (partRoad 0 k (r .«gate_capacity») upperShares r) (partStart 0 k (z .state .«gate_queue») (z .state))
+
+  abbrev lowerRead : ReadAnswer
+  lowerRead = acceptedOf (z .steps) (partRoad k m 0 lowerShares r) (partStart k m 0 (z .state))
+
+  upper-reads : readingOf (recordOf (upperOf k (studyOf s []))) ≡ upperRead
+  upper-reads =
+      let road = part-cut r (whole-ok .road) 0 k (r .«gate_capacity») upperShares some (omega (arith, less)) (whole-ok .road .gate) upper-most upper-last
+      (upperShare k (r .share)) refl (read-kept s reads) in
+      let start = start-part 0 k (z .state .«gate_queue») (z .state) (omega (arith, cells, less)) in
+      reads-back (upperOf k a) upper-ok ∙ rw (road, start)
+
+  lower-reads : readingOf (recordOf (lowerOf k (studyOf s []))) ≡ lowerRead
+  lower-reads =
+      let road = part-cut r (whole-ok .road) k m 0 lowerShares (omega (arith, less)) (omega (arith, less)) (omega arith) lower-most lower-last
+      (λ i. at (r .share) (k + i)) refl (read-kept s reads) in
+      let start = start-part k m 0 (z .state) (omega (arith, cells)) in
+      reads-back (lowerOf k a) lower-ok ∙ rw (road, start)
+
+  -- and are the record's parts
+  column : (l : List ℕ) → ((i : ℕ) → readingOf s .road .n ≤ i → at l i ≡ 0)
+      → Joined k (readingOf s .road .n - k) (partOf 0 k l) (partOf k (readingOf s .road .n - k) l) l
+  column l past = record {
+    upper = λ i b.
+        let e : 0 + i ≡ i = omega arith in
+        sym (part-at 0 k l (omega (arith, cells, less)) i b ∙ ap (at l) e);
+    lower = λ i b. sym (part-at k m l (omega (arith, cells)) i b);
+    past = λ i b. past i (omega (arith, less));
+  }
+
+  numbers : Numbers s (readingOf s .steps) (readingOf s .road) (readingOf s .state)
+  numbers = read-numbers s (readingOf s) refl reads
+
+  shares : JoinedShares (at (readingOf s .road .share) (k - 1)) k (readingOf s .road .n - k) upperShares lowerShares (readingOf s .road .share)
+  shares = record {
+    upper = λ i b. sym (upper-other i b);
+    joint = λ i e. let f : i ≡ k - 1 = omega arith in ap (at (r .share)) f;
+    lower = λ i b. sym (lower-share i b);
+    past = λ i b. numbers .share .past i (omega (arith, less));
+  }
+
+  stands : Stands (at (readingOf s .road .share) (k - 1)) upperRead lowerRead (readingOf s)
+  stands = record {
+    cells = omega (arith, less);
+    steps = (refl, refl);
+    version = (refl, refl);
+    seconds = (refl, refl);
+    gateCapacity = refl;
+    gateQueue = refl;
+    speed = column (r .speed) (numbers .speed .past);
+    wave = column (r .wave) (numbers .wave .past);
+    shares = shares;
+    ramp = column (r .ramp) (numbers .ramp .past);
+    jam = column (r .jam) (numbers .jam .past);
+    capacity = column (r .capacity) (numbers .capacity .past);
+    held = column (z .state .held) (numbers .held .past);
+    queue = column (z .state .queue) (numbers .queue .past);
+  }
+
+  row : (t : ℕ) → JoinedNumbers k (readingOf s .road .n - k) (take (rowNumbers k) (recordRow s (readingOf s .road .n) t))
+      (0 ∷ drop (rowNumbers k) (recordRow s (readingOf s .road .n) t)) (recordRow s (readingOf s .road .n) t)
+  row t =
+      let all = recordRow s (r .n) t in
+      let front : (j : ℕ) → j < rowNumbers k → at all j ≡ at (take (rowNumbers k) all) j = λ j b. (sym (getD-take (rowNumbers k) all j 0 b)) in
+      let back : (i j : ℕ) → i ≡ rowNumbers k + j → at all i ≡ at (0 ∷ drop (rowNumbers k) all) (j + 1) =
+      λ i j e. (let f : 1 + j ≡ j + 1 = omega arith in ap (at all) e ∙ sym (lower-number t j) ∙ ap (at (0 ∷ drop (rowNumbers k) all)) f) in
+      record {
+        numbers = length-row s (r .n) t ∙ omega (arith, less);
+        gate = front 0 (omega arith);
+        upperArrivals = λ i b. front (2 * i + 1) (omega arith);
+        upperRelease = λ i b. front (2 * i + 2) (omega arith);
+        lowerArrivals = λ i b. back (2 * (k + i) + 1) (2 * i) (omega arith);
+        lowerRelease = λ i b.
+            let e : 2 * i + 1 + 1 ≡ 2 * i + 2 = omega arith in
+            back (2 * (k + i) + 2) (2 * i + 1) (omega arith) ∙ ap (at (0 ∷ drop (rowNumbers k) all)) e;
+      }
+
+  upper-taken : (t : ℕ) → t < readingOf s .steps → recordRow up (readingOf up .road .n) t ≡ take (rowNumbers k) (recordRow s (readingOf s .road .n) t)
+  upper-taken t l = ap (λ (x : ReadAnswer). recordRow up (x .road .n) t) upper-reads ∙ rows-read (upperOf k a) upper-ok t l
+
+  lower-taken : (t : ℕ) → t < readingOf s .steps → recordRow down (readingOf down .road .n) t ≡ 0 ∷ drop (rowNumbers k) (recordRow s (readingOf s .road .n) t)
+  lower-taken t l = ap (λ (x : ReadAnswer). recordRow down (x .road .n) t) lower-reads ∙ rows-read (lowerOf k a) lower-ok t l
+
+  pub cut-parts : Parts s (recordOf (upperOf k (studyOf s []))) (recordOf (lowerOf k (studyOf s []))) (at (readingOf s .road .share) (k - 1))
+  cut-parts = record {
+    reads = reads;
+    both = record { upper = ap (λ (x : ReadAnswer). x .number) upper-reads; lower = ap (λ (x : ReadAnswer). x .number) lower-reads };
+    stands =
+        subst (λ (x : ReadAnswer). Stands (at (r .share) (k - 1)) x (readingOf down) z) (sym upper-reads)
+        (subst (λ (y : ReadAnswer). Stands (at (r .share) (k - 1)) upperRead y z) (sym lower-reads) stands);
+    row = λ t l.
+        subst (λ (x : List ℕ). JoinedNumbers (readingOf up .road .n) (readingOf down .road .n) x (recordRow down (readingOf down .road .n) t) (recordRow s (r .n) t))
+        (sym (upper-taken t l))
+        (subst (λ (y : List ℕ). JoinedNumbers (readingOf up .road .n) (readingOf down .road .n) (take (rowNumbers k) (recordRow s (r .n) t)) y (recordRow s (r .n) t))
+        (sym (lower-taken t l))
+        (subst (λ (c : ℕ). JoinedNumbers c (readingOf down .road .n) (take (rowNumbers k) (recordRow s (r .n) t))
+        (0 ∷ drop (rowNumbers k) (recordRow s (r .n) t)) (recordRow s (r .n) t))
+        (sym (ap (λ (x : ReadAnswer). x .road .n) upper-reads))
+        (subst (λ (c : ℕ). JoinedNumbers k c (take (rowNumbers k) (recordRow s (r .n) t)) (0 ∷ drop (rowNumbers k) (recordRow s (r .n) t)) (recordRow s (r .n) t))
+        (sym (ap (λ (y : ReadAnswer). y .road .n) lower-reads)) (row t))));
+    idle = record {
+      queue = ap (λ (y : ReadAnswer). y .state .«gate_queue») lower-reads;
+      arrivals = λ t l. ap (λ (q : List ℕ). at q 0) (lower-taken t (subst (λ (T : ℕ). t < T) (ap (λ (y : ReadAnswer). y .steps) lower-reads) l));
+    };
+  }
+
+  -- joined again with the share that the joint had, they are the record
+  module _ (small : (i : ℕ) → at s i < 256) (target : List ℕ) (room : length s ≤ length target) where
+    pub cut-answer : joiningOf (recordOf (upperOf k (studyOf s []))) (recordOf (lowerOf k (studyOf s []))) (at (readingOf s .road .share) (k - 1)) target
+        ≡ written (length s)
+    cut-answer = parts-answer s up down (at (r .share) (k - 1)) small cut-parts target room
+
+    pub cut-joined : take (length s)
+        (joinedTarget (recordOf (upperOf k (studyOf s []))) (recordOf (lowerOf k (studyOf s []))) (at (readingOf s .road .share) (k - 1)) target)
+        ≡ s
+    cut-joined = parts-joined s up down (at (r .share) (k - 1)) small cut-parts target room

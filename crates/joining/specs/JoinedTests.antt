@@ -1,0 +1,61 @@
+-- What the tests of 20, 21 and 22 say, as facts. Assumes nothing.
+use mathlib.Core.Path.{_≡_}
+use mathlib.Core.Bool.{true}
+use Prim.Native.Nat.{ℕ, _≤_, _<_}
+use lib.Dec.{eqb}
+use borrow.Author.Tests.{leb-true, le-leb, eqb-true, eq-eqb}
+use Rattle.numbers.specs.Lists.{at}
+use Rattle.numbers.specs.Tests.{le-head, eq-head, le-then, eq-then}
+use Rattle.numbers.specs.FirstLaws.{all-at, all-true}
+use Rattle.road.specs.Road.{mostCells, mostBytes}
+use Rattle.road.specs.Study.{Study}
+use Rattle.putting.specs.Record.{recordSize}
+use Rattle.joining.specs.Joining.{alike, gateIdle, joinedFits}
+
+-- 20 doesn't apply: T, version and seconds are the same
+pub record Alike (a b : Study) : Type 0 where
+  pub steps : a .steps ≡ b .steps
+  pub version : a .road .version ≡ b .road .version
+  pub seconds : a .road .seconds ≡ b .road .seconds
+
+-- 21 doesn't apply: the gate has no queue and, in no step, an arrival
+pub record Idle (b : Study) : Type 0 where
+  pub queue : b .start .«gate_queue» ≡ 0
+  pub arrivals : (t : ℕ) → t < b .steps → at (b .rows t) 0 ≡ 0
+
+-- 22 doesn't apply: at most 64 cells and 65,536 bytes
+pub record Small (a : Study) : Type 0 where
+  pub cells : a .road .n ≤ mostCells
+  pub bytes : recordSize a ≤ mostBytes
+
+module _ (a b : Study) where
+  pub alike-facts : alike a b ≡ true → Alike a b
+  alike-facts h =
+      let t = eq-head (a .steps) (b .steps) _ h in
+      let v = eq-head (a .road .version) (b .road .version) _ (t .1) in
+      record { steps = t .0; version = v .0; seconds = eqb-true (a .road .seconds) (b .road .seconds) (v .1) }
+
+  pub facts-alike : Alike a b → alike a b ≡ true
+  facts-alike h =
+      eq-then (a .steps) (b .steps) _ (h .steps)
+      (eq-then (a .road .version) (b .road .version) _ (h .version) (eq-eqb (a .road .seconds) (b .road .seconds) (h .seconds)))
+
+module _ (b : Study) where
+  pub idle-facts : gateIdle b ≡ true → Idle b
+  idle-facts h =
+      let q = eq-head (b .start .«gate_queue») 0 _ h in
+      record { queue = q .0; arrivals = λ t l. eqb-true (at (b .rows t) 0) 0 (all-at (λ t. eqb (at (b .rows t) 0) 0) (b .steps) (q .1) t l) }
+
+  pub facts-idle : Idle b → gateIdle b ≡ true
+  facts-idle h =
+      eq-then (b .start .«gate_queue») 0 _ (h .queue)
+      (all-true (λ t. eqb (at (b .rows t) 0) 0) (b .steps) (λ t l. eq-eqb (at (b .rows t) 0) 0 (h .arrivals t l)))
+
+module _ (a : Study) where
+  pub small-facts : joinedFits a ≡ true → Small a
+  small-facts h =
+      let n = le-head (a .road .n) mostCells _ h in
+      record { cells = n .0; bytes = leb-true (recordSize a) mostBytes (n .1) }
+
+  pub facts-small : Small a → joinedFits a ≡ true
+  facts-small h = le-then (a .road .n) mostCells _ (h .cells) (le-leb (recordSize a) mostBytes (h .bytes))

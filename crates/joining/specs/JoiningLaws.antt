@@ -1,0 +1,242 @@
+-- Laws of joining's tests and answers, in the code's order. Assumes nothing.
+use mathlib.Core.Path.{_≡_, refl, sym, ap, _∙_}
+use mathlib.Core.Bool.{Bool, true, false, _&&_}
+use mathlib.Core.List.{List, [], _++_}
+use Prim.Native.Nat.{ℕ, _+_, _≤_, _<_}
+use native.Mathlib.Omega.{arith}
+use lib.Dec.{leb, eqb}
+use lib.ListN.{length, drop}
+use borrow.Author.Tests.{leb-true, le-leb, lt-leb, eq-eqb, ne-eqb}
+use borrow.Author.Count.{below-more, below-none}
+use Rattle.numbers.specs.Lists.{at}
+use Rattle.numbers.specs.First.{firstFrom, firstOf, allOf}
+use Rattle.numbers.specs.FirstLaws.{all-true, all-fails}
+use Rattle.numbers.specs.Tests.{le-head}
+use Rattle.rows.specs.Placed.{Puts}
+use Rattle.flow.specs.Flow.{whole}
+use Rattle.road.specs.declared.Road.{Road}
+use Rattle.road.specs.declared.Start.{Start}
+use Rattle.road.specs.Road.{mostCells, mostSteps, mostBytes, zeros, startState, startIn}
+use Rattle.road.specs.Study.{Study, study}
+use Rattle.fields.specs.Fields.{numberSize, numberOf, versionOf, secondsSize, rowStart, entryStart, recordRow}
+use Rattle.fields.specs.FieldsLaws.{row-at}
+use Rattle.header.specs.Header.{sizeOf}
+use Rattle.reading.specs.Reading.{ReadAnswer, readingOf, studyBy}
+use Rattle.reading.specs.Within.{read-within}
+use Rattle.reading.specs.Headers.{Steps}
+use Rattle.putting.specs.Record.{recordSize, recordOf}
+use Rattle.putting.specs.Putting.{length-record, record-stands}
+use Rattle.writing.specs.Writing.{WriteAnswer, unwritten, written}
+use Rattle.joining.specs.Joining.{joinedStudy, alike, gateIdle, joinedFits, joiningBy, joiningOf, joinedTarget}
+use Rattle.joining.specs.Theorems.{ReadsJoined, joins-only, reads-as-joined}
+use Rattle.joining.specs.BytesLaws.{Joins}
+
+-- a road of n cells and T steps without rows, whose numbers are 0 but for the gate's queue
+abbrev blank : ℕ → ℕ → ℕ → Study
+blank n T queue = study (record {
+  n = n;
+  version = 1;
+  seconds = 0;
+  «gate_capacity» = 0;
+  speed = zeros;
+  wave = zeros;
+  share = zeros;
+  ramp = zeros;
+  jam = zeros;
+  capacity = zeros;
+}) (record {
+  done = 0;
+  «gate_time» = 0;
+  «road_time» = 0;
+  «ramp_time» = 0;
+  «gate_queue» = queue;
+  «gate_cumulative» = 0;
+  held = zeros;
+  queue = zeros;
+  cumulative = zeros;
+}) T (λ _. []) []
+
+-- two roads of 40 cells, without room, meet what comes first of 5 at cell 40, 20, 21 and 22; two of 32 cells meet 15
+on-paper : (joiningBy (blank 40 1 0) (blank 40 2 1) 1001 0 ≡ unwritten 5 40)
+    × ((joiningBy (blank 40 1 0) (blank 40 2 1) 1000 0 ≡ unwritten 20 0)
+    × ((joiningBy (blank 40 1 0) (blank 40 1 1) 1000 0 ≡ unwritten 21 0)
+    × ((joiningBy (blank 40 1 0) (blank 40 1 0) 1000 0 ≡ unwritten 22 0) × (joiningBy (blank 32 1 0) (blank 32 1 0) 1000 0 ≡ unwritten 15 0))))
+unfolding firstOf firstFrom secondsSize
+on-paper = (refl, (refl, (refl, (refl, refl))))
+
+-- 21 in the bytes: the gate has no arrival in step t; no queue and, in no step, an arrival
+abbrev pub noArrival : List ℕ → ℕ → ℕ → Bool
+noArrival s n t = eqb (at (recordRow s n t) 0) 0
+
+abbrev pub idleBy : List ℕ → ℕ → ℕ → ℕ → Bool
+idleBy s n T queue = eqb queue 0 && allOf (noArrival s n) T
+
+-- the gate's arrivals, where the code reads them
+pub gate-number : (s : List ℕ) (n t : ℕ) {start x : ℕ} → start ≡ rowStart (versionOf s) n t → x ≡ numberOf s start numberSize
+    → x ≡ at (recordRow s n t) 0
+gate-number s n t {start} {x} e k =
+    let z : start ≡ entryStart (versionOf s) n t 0 = omega (arith, e) in
+    k ∙ ap (λ (i : ℕ). numberOf s i numberSize) z ∙ sym (row-at s n t 0 (omega arith))
+
+-- the loop over the steps: none of the first t has an arrival
+pub record Idle (s : List ℕ) (n T queue t : ℕ) : Type 0 where
+  pub within : t ≤ T
+  pub none : queue ≡ 0
+  pub before : (j : ℕ) → j < t → noArrival s n j ≡ true
+
+pub idle-queue : (s : List ℕ) (n T queue : ℕ) → (queue ≡ 0 → ⊥) → false ≡ idleBy s n T queue
+idle-queue s n T queue h = rw (ne-eqb queue 0 h)
+
+module _ {s : List ℕ} {n T queue : ℕ} where
+  pub idle-none : queue ≡ 0 → Idle s n T queue 0
+  idle-none e = record { within = omega arith; none = e; before = below-none _ }
+
+  module _ {t : ℕ} (h : Idle s n T queue t) where
+    pub idle-stop : {x : ℕ} → t < T → x ≡ at (recordRow s n t) 0 → (x ≡ 0 → ⊥) → false ≡ idleBy s n T queue
+    idle-stop {x} l e k =
+        let f : noArrival s n t ≡ false = ne-eqb (at (recordRow s n t) 0) 0 (λ z. k (e ∙ z)) in
+        rw (eq-eqb queue 0 (h .none), all-fails (noArrival s n) T t l f)
+
+    pub idle-more : {x : ℕ} → t < T → x ≡ at (recordRow s n t) 0 → x ≡ 0 → Idle s n T queue (t + 1)
+    idle-more l e k = record {
+      within = omega arith;
+      none = h .none;
+      before = below-more _ _ (h .before) (eq-eqb (at (recordRow s n t) 0) 0 (sym e ∙ k));
+    }
+
+    pub idle-end : T ≤ t → true ≡ idleBy s n T queue
+    idle-end l = rw (eq-eqb queue 0 (h .none), all-true (noArrival s n) T (λ j m. h .before j (omega arith)))
+
+-- what the tests ask of two records that read
+pub record Joinable (road : Road) (T : ℕ) (down : List ℕ) (next : Road) (nextT : ℕ) : Type 0 where
+  pub cells : road .n ≤ mostCells
+  pub steps : T ≤ mostSteps
+  pub downstream : Steps down (next .n) nextT
+
+-- 22's test: too many cells, or else the size's
+module _ (version n T : ℕ) where
+  pub too-many : mostCells < n → false ≡ leb n mostCells && leb (sizeOf version n T) mostBytes
+  too-many h = rw (lt-leb n mostCells h)
+
+  pub by-size : {x : ℕ} → n ≤ mostCells → x ≡ sizeOf version n T → leb x mostBytes ≡ leb n mostCells && leb (sizeOf version n T) mostBytes
+  by-size h e = rw (le-leb n mostCells h, e)
+
+  pub within-bytes : leb n mostCells && leb (sizeOf version n T) mostBytes ≡ true → sizeOf version n T ≤ mostBytes
+  within-bytes h = leb-true (sizeOf version n T) mostBytes (le-head n mostCells (leb (sizeOf version n T) mostBytes) h .1)
+
+-- the answers, in the code's order
+module _ (a b : Study) (share room : ℕ) where
+  abbrev joined : Study
+  joined = joinedStudy a b share
+
+  pub answer-share : whole < share → unwritten 5 (a .road .n) ≡ joiningBy a b share room
+  answer-share h = rw (lt-leb share whole h)
+
+  module _ (h : share ≤ whole) where
+    pub answer-differ : alike a b ≡ false → unwritten 20 0 ≡ joiningBy a b share room
+    answer-differ f = rw (le-leb share whole h, f)
+
+    module _ (k : alike a b ≡ true) where
+      pub answer-gate : gateIdle b ≡ false → unwritten 21 0 ≡ joiningBy a b share room
+      answer-gate f = rw (le-leb share whole h, k, f)
+
+      module _ (g : gateIdle b ≡ true) where
+        pub answer-size : joinedFits joined ≡ false → unwritten 22 0 ≡ joiningBy a b share room
+        answer-size f = rw (le-leb share whole h, k, g, f)
+
+        module _ (f : joinedFits joined ≡ true) where
+          pub answer-short : room < recordSize joined → unwritten 15 0 ≡ joiningBy a b share room
+          answer-short l = rw (le-leb share whole h, k, g, f, lt-leb (recordSize joined) room l)
+
+          pub answer-written : recordSize joined ≤ room → written (recordSize joined) ≡ joiningBy a b share room
+          answer-written l = rw (le-leb share whole h, k, g, f, le-leb (recordSize joined) room l)
+
+-- what joining answers, and what it leaves of the target; without a refusal that reads as the joined road
+pub record Left (up down : List ℕ) (share : ℕ) (target : List ℕ) (a : WriteAnswer) (left : List ℕ) : Type 0 where
+  pub says : a ≡ joiningOf up down share target
+  pub leaves : left ≡ joinedTarget up down share target
+
+pub promise : {up down : List ℕ} {share : ℕ} {target : List ℕ} {a b : WriteAnswer} {left : List ℕ} → Left up down share target a left → b ≡ a
+    → (b ≡ joiningOf up down share target)
+    × ((left ≡ joinedTarget up down share target) × (b .number ≡ 0 → ReadsJoined up down share (b .count) left))
+promise {up} {down} {share} {target} h e =
+    let says = e ∙ h .says in
+    (says, (h .leaves, λ z. reads-as-joined up down share target says (h .leaves) z))
+
+-- each end of it
+module _ (up down : List ℕ) (share : ℕ) (target : List ℕ) where
+  left-refused : (a : WriteAnswer) → (a .number ≡ 0 → ⊥) → a ≡ joiningOf up down share target → Left up down share target a target
+  unfolding joinedTarget
+  left-refused a n e = record { says = e; leaves = rw (← e, ne-eqb (a .number) 0 n) }
+
+  module _ {x : ReadAnswer} (e : x ≡ readingOf up) where
+    pub ends-upstream : (x .number ≡ 0 → ⊥) → Left up down share target (unwritten (x .number) (x .place)) target
+    unfolding joiningOf
+    ends-upstream n = left-refused (unwritten (x .number) (x .place)) n (rw (← e, ne-eqb (x .number) 0 n))
+
+    module _ (z : x .number ≡ 0) {y : ReadAnswer} (f : y ≡ readingOf down) where
+      pub ends-downstream : (y .number ≡ 0 → ⊥) → Left up down share target (unwritten (y .number) (y .place)) target
+      unfolding joiningOf
+      ends-downstream n =
+          left-refused (unwritten (y .number) (y .place)) n (rw (← e, ← f, eq-eqb (x .number) 0 z, ne-eqb (y .number) 0 n))
+
+      module _ (w : y .number ≡ 0) where
+        abbrev first : Study
+        first = studyBy up [] (x .road) (x .state) (x .steps)
+
+        abbrev second : Study
+        second = studyBy down [] (y .road) (y .state) (y .steps)
+
+        by-studies : joiningBy first second share (length target) ≡ joiningOf up down share target
+        unfolding joiningOf
+        by-studies = rw (← e, ← f, eq-eqb (x .number) 0 z, eq-eqb (y .number) 0 w)
+
+        pub ends-refused : {a : WriteAnswer} → a ≡ joiningBy first second share (length target) → (a .number ≡ 0 → ⊥)
+            → Left up down share target a target
+        ends-refused {a} k n = left-refused a n (k ∙ by-studies)
+
+        pub joinable : Joinable (x .road) (x .steps) down (y .road) (y .steps)
+        joinable =
+            let u = read-within up x e z in
+            let v = read-within down y f w in
+            record { cells = u .road .cells; steps = u .steps; downstream = record { most = v .road .cells; held = omega (arith, v .size) } }
+
+        module _ {a : WriteAnswer} (k : a ≡ joiningBy first second share (length target)) (o : a .number ≡ 0) where
+          unrefused : joiningOf up down share target .number ≡ 0
+          unrefused = ap (λ (b : WriteAnswer). b .number) (sym (k ∙ by-studies)) ∙ o
+
+          enough : recordSize (joinedStudy first second share) ≤ length target
+          enough = rw (e, f) (joins-only up down share target unrefused .room)
+
+          pub joins : Joins up (x .road) (x .steps) down (y .road) target
+          joins =
+              let u = read-within up x e z in
+              let v = read-within down y f w in
+              let p = joins-only up down share target unrefused in
+              let same : x .steps ≡ y .steps = rw (e, f) (p .alike .steps) in
+              let t = ap (λ (T : ℕ). sizeOf (versionOf down) (y .road .n) T) same in
+              let most : x .road .n + y .road .n ≤ mostCells = rw (e, f) (p .small .cells) in
+              record {
+                some = u .road .some;
+                counts = record { someCells = omega (arith, u .road .some); cells = most; someSteps = u .someSteps; steps = u .steps };
+                upstream = record { most = u .road .cells; held = omega (arith, u .size) };
+                downstream = record { most = v .road .cells; held = omega (arith, t, v .size) };
+                room = enough;
+              }
+
+          target-joined : joinedTarget up down share target
+              ≡ recordOf (joinedStudy first second share) ++ drop (recordSize (joinedStudy first second share)) target
+          unfolding joinedTarget
+          target-joined = rw (eq-eqb (joiningOf up down share target .number) 0 unrefused, ← e, ← f)
+
+          pub ends-joined : {s q : Start} {after : List ℕ} {end : ℕ} → s ≡ startIn (x .state) → q ≡ startIn (y .state)
+              → Puts target 0 (recordOf (joinedStudy (studyBy up [] (x .road) (startState s) (x .steps))
+              (studyBy down [] (y .road) (startState q) (x .steps)) share)) after end
+              → Left up down share target a after
+          ends-joined {s} {q} {after} {end} es eq p =
+              let j = joinedStudy first second share in
+              let r : Puts target 0 (recordOf j) after end = rw (es, eq) at p in
+              record {
+                says = k ∙ by-studies;
+                leaves = record-stands j target after end (length-record j) enough r .1 ∙ sym target-joined;
+              }

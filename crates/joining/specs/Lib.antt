@@ -1,0 +1,9 @@
+pub mod Joining
+pub mod JoinedColumns
+pub mod JoinedLimits
+pub mod JoinedTests
+pub mod Theorems
+pub mod JoinedParts
+pub mod JoinedCut
+pub mod BytesLaws
+pub mod JoiningLaws

@@ -1,0 +1,295 @@
+-- docs/MODEL.md, 'Joining': what joining two neighbouring roads promises, sentence by sentence. Assumes nothing.
+use mathlib.Core.Path.{_≡_, refl, sym, ap, subst, _∙_}
+use mathlib.Core.Bool.{Bool, true, false, cond}
+use mathlib.Core.List.{List, [], _++_}
+use Prim.Native.Nat.{ℕ, _+_, _≤_, _<_}
+use native.Mathlib.Omega.{arith}
+use lib.Dec.{leb, eqb}
+use lib.ListN.{length, take, drop}
+use lib.Seq.{take-at, drop-at}
+use borrow.Author.Tests.{leb-true, leb-false, eqb-true, eqb-false}
+use Rattle.numbers.specs.Lists.{at}
+use Rattle.numbers.specs.First.{unless}
+use Rattle.flow.specs.Flow.{whole}
+use Rattle.road.specs.Study.{Study}
+use Rattle.fields.specs.Fields.{recordRow}
+use Rattle.fields.specs.FieldsLaws.{length-row}
+use Rattle.reading.specs.Reading.{ReadAnswer, acceptedOf, readingOf, studyOf}
+use Rattle.putting.specs.Record.{recordSize, recordOf}
+use Rattle.putting.specs.Putting.{length-record}
+use Rattle.writing.specs.Writing.{WriteAnswer, unwritten, written}
+use Rattle.writing.specs.ReadBack.{Recordable, reads-back, rows-read}
+use Rattle.writing.specs.Kept.{read-recordable, read-kept}
+use Rattle.joining.specs.Joining.{joinedRoad, joinedStart, joinedRow, alike, gateIdle, joinedFits, joinedOf, joiningOf, joinedTarget}
+use Rattle.joining.specs.JoinedColumns.{Joined, JoinedShares, JoinedNumbers, column-joined, shares-joined, row-joined}
+use Rattle.joining.specs.JoinedLimits.{road-cut, start-cut, study-joined}
+use Rattle.joining.specs.JoinedTests.{Alike, Idle, Small, alike-facts, facts-alike, idle-facts, facts-idle, small-facts, facts-small}
+
+-- both records read without refusal
+pub record Both (up down : List ℕ) : Type 0 where
+  pub upper : readingOf up .number ≡ 0
+  pub lower : readingOf down .number ≡ 0
+
+-- what no refusal asks
+pub record Asked (up down : List ℕ) (share : ℕ) (target : List ℕ) : Type 0 where
+  pub both : Both up down
+  pub stated : share ≤ whole
+  pub alike : Alike (studyOf up []) (studyOf down [])
+  pub idle : Idle (studyOf down [])
+  pub small : Small (joinedOf up down share)
+  pub room : recordSize (joinedOf up down share) ≤ length target
+
+-- 'Each input must first read without refusal, upstream first. A joint's share above 1,000 is 5 at the upstream road's last cell. Then come 20, 21 and 22,
+-- all before 15': the ends of joining, each refusal with all that comes before it, and what each leaves of the target
+pub data Ends (up down : List ℕ) (share : ℕ) (target : List ℕ) : WriteAnswer → List ℕ → Type 0 where
+  upperUnread : (readingOf up .number ≡ 0 → ⊥) → Ends up down share target (unwritten (readingOf up .number) (readingOf up .place)) target
+  lowerUnread : readingOf up .number ≡ 0 → (readingOf down .number ≡ 0 → ⊥)
+      → Ends up down share target (unwritten (readingOf down .number) (readingOf down .place)) target
+  above : Both up down → whole < share → Ends up down share target (unwritten 5 (readingOf up .road .n)) target
+  unlike : Both up down → share ≤ whole → (Alike (studyOf up []) (studyOf down []) → ⊥) → Ends up down share target (unwritten 20 0) target
+  busy : Both up down → share ≤ whole → Alike (studyOf up []) (studyOf down []) → (Idle (studyOf down []) → ⊥)
+      → Ends up down share target (unwritten 21 0) target
+  large : Both up down → share ≤ whole → Alike (studyOf up []) (studyOf down []) → Idle (studyOf down []) → (Small (joinedOf up down share) → ⊥)
+      → Ends up down share target (unwritten 22 0) target
+  short : Both up down → share ≤ whole → Alike (studyOf up []) (studyOf down []) → Idle (studyOf down []) → Small (joinedOf up down share)
+      → length target < recordSize (joinedOf up down share) → Ends up down share target (unwritten 15 0) target
+  joined : Asked up down share target
+      → Ends up down share target (written (recordSize (joinedOf up down share)))
+      (recordOf (joinedOf up down share) ++ drop (recordSize (joinedOf up down share)) target)
+
+-- a test that passes does not fail
+never : {t : Bool} → t ≡ true → t ≡ false → ⊥
+never h k = let z : _≡_ {A = ℕ} 0 1 = cc in omega arith
+
+module _ (up down : List ℕ) (share : ℕ) (target : List ℕ) where
+  abbrev a : Study
+  a = studyOf up []
+
+  abbrev b : Study
+  b = studyOf down []
+
+  abbrev j : Study
+  j = joinedOf up down share
+
+  -- the answer by its tests
+  abbrev saying : (q r s t u v w : Bool) → WriteAnswer
+  saying q r s t u v w =
+      unless q (unwritten (readingOf up .number) (readingOf up .place))
+      (unless r (unwritten (readingOf down .number) (readingOf down .place))
+      (unless s (unwritten 5 (a .road .n))
+      (unless t (unwritten 20 0) (unless u (unwritten 21 0) (unless v (unwritten 22 0) (unless w (unwritten 15 0) (written (recordSize j))))))))
+
+  pub ends : Ends up down share target (joiningOf up down share target) (joinedTarget up down share target)
+  unfolding joiningOf joinedTarget
+  ends = go (eqb (readingOf up .number) 0) (eqb (readingOf down .number) 0) (leb share whole) (alike a b) (gateIdle b) (joinedFits j)
+      (leb (recordSize j) (length target)) refl refl refl refl refl refl refl
+    where
+      both : eqb (readingOf up .number) 0 ≡ true → eqb (readingOf down .number) 0 ≡ true → Both up down
+      both p q = record { upper = eqb-true _ 0 p; lower = eqb-true _ 0 q }
+
+      go : (q r s t u v w : Bool) → eqb (readingOf up .number) 0 ≡ q → eqb (readingOf down .number) 0 ≡ r → leb share whole ≡ s → alike a b ≡ t
+          → gateIdle b ≡ u → joinedFits j ≡ v → leb (recordSize j) (length target) ≡ w
+          → Ends up down share target (saying q r s t u v w)
+          (cond (eqb (saying q r s t u v w .number) 0) (recordOf j ++ drop (recordSize j) target) target)
+      go false r s t u v w eq er es et eu ev ew = rw eq (upperUnread (eqb-false (readingOf up .number) 0 eq))
+      go true false s t u v w eq er es et eu ev ew = rw er (lowerUnread (eqb-true _ 0 eq) (eqb-false (readingOf down .number) 0 er))
+      go true true false t u v w eq er es et eu ev ew = above (both eq er) (leb-false share whole es)
+      go true true true false u v w eq er es et eu ev ew = unlike (both eq er) (leb-true share whole es) (λ h. never (facts-alike a b h) et)
+      go true true true true false v w eq er es et eu ev ew =
+          busy (both eq er) (leb-true share whole es) (alike-facts a b et) (λ h. never (facts-idle b h) eu)
+      go true true true true true false w eq er es et eu ev ew =
+          large (both eq er) (leb-true share whole es) (alike-facts a b et) (idle-facts b eu) (λ h. never (facts-small j h) ev)
+      go true true true true true true false eq er es et eu ev ew =
+          short (both eq er) (leb-true share whole es) (alike-facts a b et) (idle-facts b eu) (small-facts j ev) (leb-false (recordSize j) (length target) ew)
+      go true true true true true true true eq er es et eu ev ew = joined (record {
+        both = both eq er;
+        stated = leb-true share whole es;
+        alike = alike-facts a b et;
+        idle = idle-facts b eu;
+        small = small-facts j ev;
+        room = leb-true (recordSize j) (length target) ew;
+      })
+
+-- no refusal comes exactly where all that is asked holds
+joined-asked : {up down : List ℕ} {share : ℕ} {target : List ℕ} {a : WriteAnswer} {after : List ℕ} → Ends up down share target a after → a .number ≡ 0
+    → Asked up down share target
+    × ((a ≡ written (recordSize (joinedOf up down share)))
+    × (after ≡ recordOf (joinedOf up down share) ++ drop (recordSize (joinedOf up down share)) target))
+joined-asked (Ends.upperUnread h) e = absurd (h e)
+joined-asked (Ends.lowerUnread q h) e = absurd (h e)
+joined-asked (Ends.above q h) e = absurd (omega arith)
+joined-asked (Ends.unlike q s h) e = absurd (omega arith)
+joined-asked (Ends.busy q s l h) e = absurd (omega arith)
+joined-asked (Ends.large q s l i h) e = absurd (omega arith)
+joined-asked (Ends.short q s l i m h) e = absurd (omega arith)
+joined-asked (Ends.joined q) e = (q, (refl, refl))
+
+asked-joined : {up down : List ℕ} {share : ℕ} {target : List ℕ} {a : WriteAnswer} {after : List ℕ} → Ends up down share target a after
+    → Asked up down share target → a ≡ written (recordSize (joinedOf up down share))
+asked-joined (Ends.upperUnread h) k = absurd (h (k .both .upper))
+asked-joined (Ends.lowerUnread q h) k = absurd (h (k .both .lower))
+asked-joined (Ends.above q h) k = absurd (omega (arith, k .stated))
+asked-joined (Ends.unlike q s h) k = absurd (h (k .alike))
+asked-joined (Ends.busy q s l h) k = absurd (h (k .idle))
+asked-joined (Ends.large q s l i h) k = absurd (h (k .small))
+asked-joined (Ends.short q s l i m h) k = absurd (omega (arith, k .room))
+asked-joined (Ends.joined q) k = refl
+
+pub joins-if : (up down : List ℕ) (share : ℕ) (target : List ℕ) → Asked up down share target
+    → joiningOf up down share target ≡ written (recordSize (joinedOf up down share))
+joins-if up down share target = asked-joined (ends up down share target)
+
+-- 'No refusal touches the target', and it counts 0 bytes
+refused-left : {up down : List ℕ} {share : ℕ} {target : List ℕ} {a : WriteAnswer} {after : List ℕ} → Ends up down share target a after → (a .number ≡ 0 → ⊥)
+    → (after ≡ target) × (a .count ≡ 0)
+refused-left (Ends.upperUnread h) n = (refl, refl)
+refused-left (Ends.lowerUnread q h) n = (refl, refl)
+refused-left (Ends.above q h) n = (refl, refl)
+refused-left (Ends.unlike q s h) n = (refl, refl)
+refused-left (Ends.busy q s l h) n = (refl, refl)
+refused-left (Ends.large q s l i h) n = (refl, refl)
+refused-left (Ends.short q s l i m h) n = (refl, refl)
+refused-left (Ends.joined q) n = absurd (n refl)
+
+pub unjoined : (up down : List ℕ) (share : ℕ) (target : List ℕ) → (joiningOf up down share target .number ≡ 0 → ⊥)
+    → (joinedTarget up down share target ≡ target) × (joiningOf up down share target .count ≡ 0)
+unjoined up down share target = refused-left (ends up down share target)
+
+-- the joined record's bytes in the target
+abbrev pub joinedBytes : List ℕ → List ℕ → ℕ → List ℕ → List ℕ
+joinedBytes up down share target = take (joiningOf up down share target .count) (joinedTarget up down share target)
+
+-- 'Upstream cells, then downstream cells, with a stated onward share for the joint. The second gate is dropped, and all else stands as it was':
+-- a reading z beside the readings x of upstream and y of downstream
+pub record Stands (share : ℕ) (x y z : ReadAnswer) : Type 0 where
+  pub cells : z .road .n ≡ x .road .n + y .road .n
+  pub steps : (z .steps ≡ x .steps) × (z .steps ≡ y .steps)
+  pub version : (z .road .version ≡ x .road .version) × (z .road .version ≡ y .road .version)
+  pub seconds : (z .road .seconds ≡ x .road .seconds) × (z .road .seconds ≡ y .road .seconds)
+  -- the gate is upstream's
+  pub gateCapacity : z .road .«gate_capacity» ≡ x .road .«gate_capacity»
+  pub gateQueue : z .state .«gate_queue» ≡ x .state .«gate_queue»
+  -- the cells
+  pub speed : Joined (x .road .n) (y .road .n) (x .road .speed) (y .road .speed) (z .road .speed)
+  pub wave : Joined (x .road .n) (y .road .n) (x .road .wave) (y .road .wave) (z .road .wave)
+  pub shares : JoinedShares share (x .road .n) (y .road .n) (x .road .share) (y .road .share) (z .road .share)
+  pub ramp : Joined (x .road .n) (y .road .n) (x .road .ramp) (y .road .ramp) (z .road .ramp)
+  pub jam : Joined (x .road .n) (y .road .n) (x .road .jam) (y .road .jam) (z .road .jam)
+  pub capacity : Joined (x .road .n) (y .road .n) (x .road .capacity) (y .road .capacity) (z .road .capacity)
+  -- the start
+  pub held : Joined (x .road .n) (y .road .n) (x .state .held) (y .state .held) (z .state .held)
+  pub queue : Joined (x .road .n) (y .road .n) (x .state .queue) (y .state .queue) (z .state .queue)
+
+-- 'rows joined step by step': each row of the bytes beside those of both
+abbrev pub RowStands : List ℕ → List ℕ → List ℕ → ℕ → Type 0
+RowStands up down bytes t =
+    JoinedNumbers (readingOf up .road .n) (readingOf down .road .n)
+    (recordRow up (readingOf up .road .n) t) (recordRow down (readingOf down .road .n) t) (recordRow bytes (readingOf bytes .road .n) t)
+
+-- where joining isn't refused
+module _ (up down : List ℕ) (share : ℕ) (target : List ℕ) (h : joiningOf up down share target .number ≡ 0) where
+  abbrev x : ReadAnswer
+  x = readingOf up
+
+  abbrev y : ReadAnswer
+  y = readingOf down
+
+  abbrev n : ℕ
+  n = x .road .n
+
+  abbrev m : ℕ
+  m = y .road .n
+
+  abbrev result : Study
+  result = joinedOf up down share
+
+  pub joins-only : Asked up down share target
+  joins-only = joined-asked (ends up down share target) h .0
+
+  -- 'What is returned and the bytes beyond are as in writing': the record's bytes are counted, and those beyond are untouched
+  pub joined-count : joiningOf up down share target .count ≡ recordSize (joinedOf up down share)
+  joined-count = ap (λ (q : WriteAnswer). q .count) (joined-asked (ends up down share target) h .1 .0)
+
+  after : joinedTarget up down share target ≡ recordOf (joinedOf up down share) ++ drop (recordSize (joinedOf up down share)) target
+  after = joined-asked (ends up down share target) h .1 .1
+
+  pub joined-beyond : drop (recordSize (joinedOf up down share)) (joinedTarget up down share target) ≡ drop (recordSize (joinedOf up down share)) target
+  joined-beyond =
+      ap (drop (recordSize result)) after
+      ∙ drop-at (recordOf result) (drop (recordSize result) target) (recordSize result) (length-record result)
+
+  -- the bytes counted are the joined study's record
+  pub joined-bytes : joinedBytes up down share target ≡ recordOf (joinedOf up down share)
+  joined-bytes =
+      ap (take (joiningOf up down share target .count)) after
+      ∙ take-at (recordOf result) (drop (recordSize result) target) (joiningOf up down share target .count) (length-record result ∙ sym joined-count)
+
+  within : Recordable (joinedOf up down share)
+  within =
+      let k = joins-only in
+      study-joined (studyOf up []) (studyOf down []) share (read-recordable up (k .both .upper) []) (read-recordable down (k .both .lower) [])
+      (k .stated) (k .alike .steps) (k .small .cells) (k .small .bytes)
+
+  -- 'The result reads without refusal': as the joined road, start and T
+  pub joined-reads : readingOf (joinedBytes up down share target)
+      ≡ acceptedOf (readingOf up .steps) (joinedRoad (readingOf up .road) (readingOf down .road) share)
+      (joinedStart (readingOf up .road .n) (readingOf down .road .n) (readingOf up .state) (readingOf down .state))
+  joined-reads =
+      let k = joins-only in
+      let u = read-recordable up (k .both .upper) [] .road in
+      let d = read-recordable down (k .both .lower) [] .road in
+      let road = road-cut (x .road) (y .road) share u d (k .stated) (k .small .cells) (read-kept up (k .both .upper)) in
+      let start = start-cut (x .road) (y .road) share u d (k .stated) (k .small .cells) (x .state) (y .state) in
+      ap readingOf joined-bytes ∙ reads-back result within ∙ rw (road, start)
+
+  -- and its rows are upstream's, each followed by downstream's without its gate
+  pub joined-rows : (t : ℕ) → t < readingOf up .steps
+      → recordRow (joinedBytes up down share target) (readingOf up .road .n + readingOf down .road .n) t
+      ≡ joinedRow (recordRow up (readingOf up .road .n) t) (recordRow down (readingOf down .road .n) t)
+  joined-rows t l = ap (λ (s : List ℕ). recordRow s (n + m) t) joined-bytes ∙ rows-read result within t l
+
+  -- 'all else stands as it was'
+  pub joined-stands : Stands share (readingOf up) (readingOf down) (readingOf (joinedBytes up down share target))
+  joined-stands =
+      let k = joins-only in
+      let most = k .small .cells in
+      subst (λ (z : ReadAnswer). Stands share (readingOf up) (readingOf down) z) (sym joined-reads) (record {
+        cells = refl;
+        steps = (refl, k .alike .steps);
+        version = (refl, k .alike .version);
+        seconds = (refl, k .alike .seconds);
+        gateCapacity = refl;
+        gateQueue = refl;
+        speed = column-joined n m most (x .road .speed) (y .road .speed);
+        wave = column-joined n m most (x .road .wave) (y .road .wave);
+        shares = shares-joined n m most (x .road .share) (y .road .share) share;
+        ramp = column-joined n m most (x .road .ramp) (y .road .ramp);
+        jam = column-joined n m most (x .road .jam) (y .road .jam);
+        capacity = column-joined n m most (x .road .capacity) (y .road .capacity);
+        held = column-joined n m most (x .state .held) (y .state .held);
+        queue = column-joined n m most (x .state .queue) (y .state .queue);
+      })
+
+  pub joined-row-stands : (t : ℕ) → t < readingOf up .steps → RowStands up down (joinedBytes up down share target) t
+  joined-row-stands t l =
+      let rows : recordRow (joinedBytes up down share target) (readingOf (joinedBytes up down share target) .road .n) t
+      ≡ joinedRow (recordRow up n t) (recordRow down m t) =
+      ap (λ (c : ℕ). recordRow (joinedBytes up down share target) c t) (joined-stands .cells) ∙ joined-rows t l in
+      subst (λ (row : List ℕ). JoinedNumbers n m (recordRow up n t) (recordRow down m t) row) (sym rows)
+      (row-joined n m (recordRow up n t) (recordRow down m t) (length-row up n t) (length-row down m t))
+
+-- the first `count` bytes of a target, as joining leaves it, read as the joined road, start and T; and each row is both's
+pub record ReadsJoined (up down : List ℕ) (share count : ℕ) (left : List ℕ) : Type 0 where
+  pub reads : readingOf (take count left)
+      ≡ acceptedOf (readingOf up .steps) (joinedRoad (readingOf up .road) (readingOf down .road) share)
+      (joinedStart (readingOf up .road .n) (readingOf down .road .n) (readingOf up .state) (readingOf down .state))
+  pub row : (t : ℕ) → t < readingOf up .steps
+      → recordRow (take count left) (readingOf up .road .n + readingOf down .road .n) t
+      ≡ joinedRow (recordRow up (readingOf up .road .n) t) (recordRow down (readingOf down .road .n) t)
+
+-- as an answer and the target at exit tell it
+pub reads-as-joined : (up down : List ℕ) (share : ℕ) (target : List ℕ) {a : WriteAnswer} {after : List ℕ} → a ≡ joiningOf up down share target
+    → after ≡ joinedTarget up down share target → a .number ≡ 0 → ReadsJoined up down share (a .count) after
+reads-as-joined up down share target ea et z =
+    let h : joiningOf up down share target .number ≡ 0 = ap (λ (q : WriteAnswer). q .number) (sym ea) ∙ z in
+    rw (ea, et) (record { reads = joined-reads up down share target h; row = joined-rows up down share target h })
