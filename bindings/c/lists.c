@@ -1,4 +1,4 @@
-/* Calls the operations on lent lists by numbers worked out on paper: cc lists.c libexports.a && ./a.out */
+/* Calls the operations on lent lists, and reading for a caller with limits of its own, by numbers worked out on paper: cc lists.c libexports.a && ./a.out */
 #include "nobyaluk.h"
 #include <stdio.h>
 #include <string.h>
@@ -38,6 +38,8 @@ static void grants(void) {
 
 static void puts_release(uint8_t *record, size_t bytes) {
     uint32_t rows[15];
+    hold("a caller's limits", nobyaluk_read_within(record, bytes, 2, 124).number == 0 && nobyaluk_read_within(record, bytes, 8, 4096).steps == 3);
+    hold("26", nobyaluk_read_within(record, bytes, 1, 124).number == 26 && nobyaluk_read_within(record, bytes, 2, 123).number == 26);
     nobyaluk_released a = nobyaluk_put(record, bytes, 0, 3, 7);
     hold("5", a.number == 5 && a.place == 3);
     a = nobyaluk_put(record, bytes, 3, 2, 7);

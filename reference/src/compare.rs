@@ -3,6 +3,7 @@
 use crate::fill;
 use crate::model::Road;
 use crate::print;
+use crate::record::Caller;
 use crate::trials::{self, case::Case};
 use std::collections::BTreeSet;
 use std::io::{ErrorKind, Write};
@@ -49,6 +50,7 @@ fn records_of(case: Case) -> Vec<Vec<u8>> {
             vec![input.record, filled]
         }
         Case::Weigh(input) => vec![input.record],
+        Case::Within(input) => vec![input.record],
         Case::Put(input) => vec![input.record_after()],
         Case::Join(input) => input.joined().into_iter().collect(),
         Case::Step(_)
@@ -74,15 +76,15 @@ fn too_long() -> [Vec<u8>; 2] {
     })
 }
 
-/// Runs the program on each record. The first difference is the error.
-pub fn compare(program: &str, records: &[Named]) -> Result<String, String> {
+/// Runs a caller's program on each record. The first difference is the error.
+pub fn compare(program: &str, caller: Caller, records: &[Named]) -> Result<String, String> {
     for Named { name, record } in records {
         let said = |message: String| format!("{name} ({} bytes): {message}", record.len());
         let output = output_of(program, record).map_err(|e| said(format!("{program}: {e}")))?;
         if !output.status.success() {
             return Err(said(format!("{program} ended with {}", output.status)));
         }
-        let wanted = print::printed_run(record).into_bytes();
+        let wanted = print::printed_within(record, caller).into_bytes();
         if let Some(difference) = difference(&output.stdout, &wanted) {
             return Err(said(format!("{program} prints another text, {difference}")));
         }

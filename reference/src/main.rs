@@ -6,15 +6,20 @@
 //!     reference record [TEXT [RECORD]]      a text into a record
 //!     reference text [RECORD [TEXT]]        a record into a text
 //!     reference run [RECORD [LANES]]        a run printed whole, with lanes closed
+//!     reference exercise [RECORD]           a run printed whole, of at most 8 cells
+//!                                           and 4,096 bytes
 //!     reference judge RECORD SCHEDULE       a schedule's numbers judged
 //!     reference schedule < RECORD           a run's own rows as a schedule
 //!     reference fill RECORD LAWS [LANES]    the record filled by meter laws
 //!     reference compare PROGRAM RECORD...   a program's print beside its own,
 //!                                           on these and on the trials' records
+//!     reference compare --exercise PROGRAM RECORD...
+//!                                           the same of the exercise program
 //!     reference ctm-records DIR             those records and their prints
 
 use reference::answer::Answer;
 use reference::model::Road;
+use reference::record::Caller;
 use reference::{as_text, compare, fill, judge, lanes_text, laws, print, record, refusals, text};
 use std::fs::{self, File};
 use std::io::{self, Read, Write};
@@ -26,10 +31,11 @@ const USAGE: &str = "usage:
   reference record [TEXT [RECORD]]
   reference text [RECORD [TEXT]]
   reference run [RECORD [LANES]]
+  reference exercise [RECORD]
   reference judge RECORD SCHEDULE
   reference schedule < RECORD
   reference fill RECORD LAWS [LANES]
-  reference compare PROGRAM RECORD...
+  reference compare [--exercise] PROGRAM RECORD...
   reference ctm-records DIR
 ";
 
@@ -53,11 +59,18 @@ fn main() -> ExitCode {
         ["run", record, lanes] => {
             read_lanes(lanes).and_then(|table| run_record(Some(record), &table))
         }
+        ["exercise"] => exercise(None),
+        ["exercise", record] => exercise(Some(record)),
         ["judge", record, schedule] => judge_files(record, schedule),
         ["schedule"] => convert(&[], read_record, print_schedule),
         ["fill", record, laws] => fill_files(record, laws, None).and_then(print_out),
         ["fill", record, laws, lanes] => fill_files(record, laws, Some(lanes)).and_then(print_out),
-        ["compare", program, ref records @ ..] => compare_program(program, records),
+        ["compare", "--exercise", program, ref records @ ..] => {
+            compare_program(program, Caller::EXERCISE, records)
+        }
+        ["compare", program, ref records @ ..] if program != "--exercise" => {
+            compare_program(program, Caller::FULL, records)
+        }
         ["ctm-records", dir] => write_records(Path::new(dir)),
         _ => {
             eprint!("{USAGE}");
@@ -162,6 +175,14 @@ fn run_record(name: Option<&str>, table: &[u8]) -> Result<(), String> {
     passed(&answer)
 }
 
+/// As `run_record`, within the limits of the exercise program.
+fn exercise(name: Option<&str>) -> Result<(), String> {
+    let record = read_record(name)?;
+    let (printed, answer) = print::printed_within_with_answer(&record, Caller::EXERCISE);
+    print_out(printed.into_bytes())?;
+    passed(&answer)
+}
+
 /// The table of lanes of a file.
 fn read_lanes(name: &str) -> Made {
     let bytes = read_text(Some(name))?;
@@ -187,8 +208,8 @@ fn fill_files(name: &str, laws_name: &str, lanes: Option<&str>) -> Made {
     Ok(filled)
 }
 
-/// Compares on the named files and on the trials' records.
-fn compare_program(program: &str, files: &[&str]) -> Result<(), String> {
+/// Compares a caller's program on the named files and on the trials' records.
+fn compare_program(program: &str, caller: Caller, files: &[&str]) -> Result<(), String> {
     let mut records = Vec::new();
     for name in files {
         let record = read_record(Some(name))?;
@@ -196,7 +217,7 @@ fn compare_program(program: &str, files: &[&str]) -> Result<(), String> {
         records.push(compare::Named { name, record });
     }
     records.extend(compare::records());
-    print_out(compare::compare(program, &records)?.into_bytes())
+    print_out(compare::compare(program, caller, &records)?.into_bytes())
 }
 
 /// NAME.rec and NAME.out for each of the trials' records.

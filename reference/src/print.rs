@@ -2,7 +2,7 @@
 
 use crate::answer::Answer;
 use crate::model::{self, State};
-use crate::record;
+use crate::record::{self, Caller};
 use crate::run;
 use crate::step;
 use std::fmt::Write;
@@ -14,7 +14,23 @@ pub fn printed_run(record: &[u8]) -> String {
     printed_under(record, &[])
 }
 
-/// The same under a table of lanes.
+/// What the program of a caller with its own limits prints.
+pub fn printed_within(record: &[u8], caller: Caller) -> String {
+    let (printed, _) = printed_within_with_answer(record, caller);
+    printed
+}
+
+/// The same, with the answer. What the caller takes is printed as the full program does.
+pub fn printed_within_with_answer(record: &[u8], caller: Caller) -> (String, Answer) {
+    let reading = record::read_within(record, caller);
+    if reading.number != 0 {
+        let answer = Answer::without_state(reading.number, reading.place);
+        return (refusal_line(&answer), answer);
+    }
+    printed_with_answer(record, &[])
+}
+
+/// What is printed under a table of lanes.
 pub fn printed_under(record: &[u8], table: &[u8]) -> String {
     let (printed, _) = printed_with_answer(record, table);
     printed

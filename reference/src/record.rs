@@ -1,4 +1,4 @@
-//! Reading a record: refusals 1, 2, 3, 19, 4, 5 and 6, in this order.
+//! Reading a record: refusals 1, 2, 3, 19, 4, 26, 5 and 6, in this order.
 //!
 //! Version 2 has a step's seconds in two bytes after byte 7, and all that follows
 //! stands two bytes later.
@@ -17,6 +17,31 @@ pub fn head_bytes(version: u8) -> usize {
     match version {
         2 => 18,
         _ => 16,
+    }
+}
+
+/// The most that a caller takes. Numbers above a record's own limits change nothing.
+#[derive(Clone, Copy, Debug, PartialEq, Eq)]
+pub struct Caller {
+    pub cells: usize,
+    pub bytes: usize,
+}
+
+impl Caller {
+    /// The full program, which meets no refusal 26.
+    pub const FULL: Caller = Caller {
+        cells: Road::MAX_CELLS,
+        bytes: Road::MAX_BYTES,
+    };
+    /// The exercise program.
+    pub const EXERCISE: Caller = Caller {
+        cells: 8,
+        bytes: 4_096,
+    };
+
+    /// Whether it takes a record of so many cells and bytes.
+    fn takes(self, cells: usize, bytes: usize) -> bool {
+        cells <= self.cells && bytes <= self.bytes
     }
 }
 
@@ -48,7 +73,12 @@ impl Reading {
 
 /// Reads a record.
 pub fn read(record: &[u8]) -> Reading {
-    if let Some(number) = frame_fault(record) {
+    read_within(record, Caller::FULL)
+}
+
+/// Reads a record for a caller with its own limits.
+pub fn read_within(record: &[u8], caller: Caller) -> Reading {
+    if let Some(number) = frame_fault(record, caller) {
         return Reading::refused(number, 0);
     }
     let n = cells_of(record);
@@ -127,8 +157,8 @@ pub fn put_row(record: &mut [u8], n: usize, step: usize, row: &[u32]) {
     }
 }
 
-/// Refusals 1 to 4 and 19: the record's frame.
-fn frame_fault(record: &[u8]) -> Option<u32> {
+/// Refusals 1 to 4, 19 and 26: the record's frame.
+fn frame_fault(record: &[u8], caller: Caller) -> Option<u32> {
     let version = version_of(record);
     if record.len() < head_bytes(version) || record.len() > Road::MAX_BYTES {
         return Some(1);
@@ -148,6 +178,9 @@ fn frame_fault(record: &[u8]) -> Option<u32> {
     }
     if record.len() != size(version, n, steps) {
         return Some(4);
+    }
+    if !caller.takes(n, record.len()) {
+        return Some(26);
     }
     None
 }

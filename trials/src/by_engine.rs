@@ -5,7 +5,7 @@ use reference::answer::Answer;
 use reference::load::Loaded;
 use reference::model::{Road, Start, State};
 use reference::put::Put;
-use reference::record::Reading;
+use reference::record::{Caller, Reading};
 use reference::step::{Lanes, Stepped};
 use reference::trials::case::LawInput;
 use reference::wanted::{Asked, Wanted};
@@ -89,6 +89,16 @@ fn weights_for(weights: &Weights) -> nobyaluk::Weights {
     }
 }
 
+fn reading_of(reading: nobyaluk::Reading) -> Reading {
+    Reading {
+        number: refusal(reading.number),
+        place: reading.place as usize,
+        road: road_of(reading.road),
+        steps: reading.steps as usize,
+        state: state_of(reading.state),
+    }
+}
+
 fn written_of(written: nobyaluk::Written) -> Written {
     Written {
         number: refusal(written.number),
@@ -114,14 +124,12 @@ fn ended(ended: nobyaluk::Ended) -> Ended {
 
 impl Freeway for Engine {
     fn read(&self, record: &[u8]) -> Reading {
-        let reading = nobyaluk::read(record);
-        Reading {
-            number: refusal(reading.number),
-            place: reading.place as usize,
-            road: road_of(reading.road),
-            steps: reading.steps as usize,
-            state: state_of(reading.state),
-        }
+        reading_of(nobyaluk::read(record))
+    }
+
+    fn read_within(&self, record: &[u8], caller: Caller) -> Reading {
+        let Caller { cells, bytes } = caller;
+        reading_of(nobyaluk::read_within(record, cells, bytes))
     }
 
     fn run(&self, record: &[u8], lanes: &[u8], list: &mut [u32]) -> Ended {

@@ -6,7 +6,7 @@ use reference::join;
 use reference::load::{self, Loaded};
 use reference::model::{self, Road, Start, State};
 use reference::put::{self, Put};
-use reference::record::{self, Reading};
+use reference::record::{self, Caller, Reading};
 use reference::step::{self, Lanes, Stepped};
 use reference::street;
 use reference::trials::case::LawInput;
@@ -30,6 +30,10 @@ fn ended(answer: Answer) -> Ended {
 impl Freeway for Reference {
     fn read(&self, bytes: &[u8]) -> Reading {
         record::read(bytes)
+    }
+
+    fn read_within(&self, bytes: &[u8], caller: Caller) -> Reading {
+        record::read_within(bytes, caller)
     }
 
     fn run(&self, record: &[u8], lanes: &[u8], list: &mut [u32]) -> Ended {

@@ -72,6 +72,9 @@
 //!      u32 B, B bytes of the downstream record
 //!      u32 the joint's share (0 to 65,535)
 //!      u32 L, the target's length
+//! 'B'  reading for a caller with its own limits
+//!      u64 the caller's cells, u64 the caller's bytes
+//!      u32 B, B bytes of a record
 //!
 //! road     u32 n, u32 gate capacity, 64 x (u16 v, w, b, ramp mark), 64 x (u32 J, C),
 //!          u32 version (0 to 255), u32 seconds (0 to 65,535)
@@ -103,6 +106,7 @@ use reference::trials::loads::LoadInput;
 use reference::trials::puts::PutInput;
 use reference::trials::streets::GrantInput;
 use reference::trials::wanted_queues::WantedInput;
+use reference::trials::within::WithinInput;
 use reference::weigh::Weights;
 
 /// Puts the frame of a case after what is there.
@@ -207,6 +211,7 @@ pub fn encode(case: &Case, out: &mut Vec<u8>) {
         Case::Grant(input) => put_grant(out, input),
         Case::Put(input) => put_put(out, input),
         Case::Join(input) => put_join(out, input),
+        Case::Within(input) => put_within(out, input),
     }
 }
 
@@ -316,6 +321,13 @@ fn put_join(out: &mut Vec<u8>, input: &JoinInput) {
     put(out, input.length as u32);
 }
 
+fn put_within(out: &mut Vec<u8>, input: &WithinInput) {
+    out.push(b'B');
+    out.extend(input.cells.to_be_bytes());
+    out.extend(input.bytes.to_be_bytes());
+    put_bytes(out, &input.record);
+}
+
 /// The cases of all frames. The error names the frame, counted from 0.
 pub fn decode(bytes: &[u8]) -> Result<Vec<Case>, String> {
     let mut reader = Reader { bytes, at: 0 };
@@ -411,6 +423,7 @@ impl<'a> Reader<'a> {
             b'A' => Ok(Case::Grant(self.grant()?)),
             b'E' => Ok(Case::Put(self.put()?)),
             b'I' => Ok(Case::Join(self.join()?)),
+            b'B' => Ok(Case::Within(self.within()?)),
             kind => Err(format!("{kind} is not a kind of frame")),
         }
     }
@@ -577,6 +590,14 @@ impl<'a> Reader<'a> {
             step: self.u64("the step")?,
             cell: self.u64("the cell")?,
             release: self.u32("the release")?,
+            record: self.record()?,
+        })
+    }
+
+    fn within(&mut self) -> Result<WithinInput, String> {
+        Ok(WithinInput {
+            cells: self.u64("the caller's cells")?,
+            bytes: self.u64("the caller's bytes")?,
             record: self.record()?,
         })
     }

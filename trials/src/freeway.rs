@@ -4,7 +4,7 @@ use reference::answer::Answer;
 use reference::load::Loaded;
 use reference::model::{Road, Start, State};
 use reference::put::Put;
-use reference::record::Reading;
+use reference::record::{Caller, Reading};
 use reference::step::{Lanes, Stepped};
 use reference::trials::case::LawInput;
 use reference::wanted::{Asked, Wanted};
@@ -36,6 +36,7 @@ pub struct Told<'a> {
 
 pub trait Freeway {
     fn read(&self, record: &[u8]) -> Reading;
+    fn read_within(&self, record: &[u8], caller: Caller) -> Reading;
     fn run(&self, record: &[u8], lanes: &[u8], list: &mut [u32]) -> Ended;
     /// Runs, and gives the weighted sum of present over the steps done.
     fn run_weighted(

@@ -10,6 +10,7 @@ use reference::trials::loads::LoadInput;
 use reference::trials::puts::PutInput;
 use reference::trials::streets::GrantInput;
 use reference::trials::wanted_queues::WantedInput;
+use reference::trials::within::WithinInput;
 use reference::weigh::Weights;
 use std::fmt::Display;
 
@@ -33,6 +34,7 @@ pub fn kind(case: &Case) -> &'static str {
         Case::Grant(_) => "grant",
         Case::Put(_) => "put",
         Case::Join(_) => "join",
+        Case::Within(_) => "read-within",
     }
 }
 
@@ -82,6 +84,7 @@ pub fn case(case: &Case) -> String {
         Case::Grant(input) => grant_text(input),
         Case::Put(input) => put_text(input),
         Case::Join(input) => join_text(input),
+        Case::Within(input) => within_text(input),
     }
 }
 
@@ -293,4 +296,13 @@ fn join_text(input: &JoinInput) -> String {
     } = input;
     let asked = format!("share {share}, target of {length} bytes\n");
     asked + "upstream " + &record_text(upstream) + "downstream " + &record_text(downstream)
+}
+
+fn within_text(input: &WithinInput) -> String {
+    let WithinInput {
+        cells,
+        bytes,
+        record,
+    } = input;
+    format!("at most {cells} cells and {bytes} bytes\n") + &record_text(record)
 }

@@ -25,7 +25,7 @@ fn samples() -> Vec<Case> {
             found.push(case);
         }
     }
-    assert_eq!(found.len(), 17);
+    assert_eq!(found.len(), 18);
     found
 }
 
@@ -61,6 +61,8 @@ fn lists_beyond_their_limits_are_rejected() {
     assert!(error(&[b'G', 0, 0, 0x23, 0x29]).ends_with("9001 is more than 9000"));
     let share = [b'I', 0, 0, 0, 0, 0, 0, 0, 0, 0, 1, 0, 0];
     assert!(error(&share).ends_with("65536 is more than 65535"));
+    let within = [&[b'B'][..], &[0; 16], &[0, 1, 0, 5]].concat();
+    assert!(error(&within).ends_with("65541 is more than 65540"));
     let rows = [b'T', 0, 0, 0, 2, 0, 0, 0, 1, 0, 0, 0x40, 0x81];
     assert!(error(&rows).ends_with("16513 is more than 16512"));
 }

@@ -244,6 +244,9 @@ pub fn answer(freeway: &impl Freeway, case: &Case) -> Whole {
         Case::Grant(input) => grant(freeway, input, &mut whole),
         Case::Put(input) => put(freeway, input, &mut whole),
         Case::Join(input) => join(freeway, input, &mut whole),
+        Case::Within(input) => {
+            whole.put_reading(&freeway.read_within(&input.record, input.caller()));
+        }
     }
     whole
 }

@@ -172,6 +172,17 @@ def test_load(examples, told, tmp_path):
     assert told("load", path, "--seed", "x", "--peak", 1)[0] == told("load", path, "--seed", 1 << 32, "--peak", 1)[0] == 2
 
 
+def test_exercise(examples, told):
+    """An accepted exercise has the same lines as a run; more than 8 cells or 4,096 bytes is refused."""
+    for name in ("printed-run.rec", "classroom.rec", "exercise/road.toml", "exercise/alinea.toml"):
+        status, out, err = told("exercise", examples / name)
+        assert (status, err) == (0, "") and out == told("run", examples / name, "--listing")[1]
+    for name in ("rocade-sud.rec", "studies/rocade-sud.toml"):
+        assert told("exercise", examples / name) == (1, "refused 26 0 0\n", f"nobyaluk: {examples}/{name}: refused 26: {engine.MEANING[26]}\n")
+    assert told("exercise", examples / "printed-run.rec", "--cells", 1)[1] == "refused 26 0 0\n"
+    assert told("exercise", examples / "refused-09-release-above-queue.rec")[:2] == (1, "refused 9 1 2\n")
+
+
 def test_fill_and_convert(examples, told, tmp_path):
     laws = examples / "rocade-sud-alinea.laws.txt"
     assert told("fill", examples / "rocade-sud.rec", laws, "-o", tmp_path / "f.rec", "--seconds", 20)[0] == 0

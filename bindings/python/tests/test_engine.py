@@ -161,6 +161,18 @@ def test_what_is_no_number_of_its_kind():
             call()
 
 
+def test_reading_within_limits(printed, examples):
+    """26 comes above either limit, directly after 4 and before 5; what is accepted is as reading gives it."""
+    small = engine.read_within(printed.data)
+    assert small.rows.tolist() == printed.rows.tolist() and bytes(small.start) == bytes(printed.start)
+    assert engine.read_within(printed.data, 2, 124).steps == 3
+    assert refusal(engine.read_within, printed.data, 1, 124) == refusal(engine.read_within, printed.data, 2, 123) == (26, 0, 0)
+    assert refusal(engine.read_within, (examples / "rocade-sud.rec").read_bytes()) == (26, 0, 0)
+    faulty = (examples / "refused-05-held-above-jam.rec").read_bytes()
+    assert refusal(engine.read_within, faulty)[0] == 5 and refusal(engine.read_within, faulty, 1)[0] == 26
+    assert refusal(engine.read_within, (examples / "refused-04-row-cut-short.rec").read_bytes(), 1)[0] == 4
+
+
 def test_a_record_travels(printed):
     again = pickle.loads(pickle.dumps(printed))
     assert again.data == printed.data and again.rows.tolist() == printed.rows.tolist()

@@ -18,6 +18,18 @@ pub fn read(record: &[u8]) -> Reading {
     unsafe { raw::nobyaluk_read(record.as_ptr(), record.len()) }
 }
 
+/// Reads a record for a caller that takes at most `cells` cells and `most` bytes; more of either is refusal 26, directly after 4.
+///
+/// ```
+/// let record = include_bytes!("../../../examples/exercise-9-cells.rec");
+/// assert_eq!(nobyaluk::read_within(record, 8, 4_096).ok().unwrap_err().number, 26);
+/// assert!(nobyaluk::read_within(record, 9, 4_096).ok().is_ok());
+/// ```
+#[must_use = "it may be a refusal: `ok()`"]
+pub fn read_within(record: &[u8], cells: usize, most: usize) -> Reading {
+    unsafe { raw::nobyaluk_read_within(record.as_ptr(), record.len(), cells, most) }
+}
+
 /// Runs a record under a table of lanes (empty: all open) into a lent list: the engine's own shape.
 #[must_use = "it may be a refusal: `ok()`"]
 pub fn run_into(record: &[u8], lanes: &[u8], list: &mut [u32]) -> Ended {

@@ -7,6 +7,12 @@ use crate::types::{
 extern "C" {
     pub fn nobyaluk_version() -> u32;
     pub fn nobyaluk_read(record: *const u8, bytes: usize) -> Reading;
+    pub fn nobyaluk_read_within(
+        record: *const u8,
+        bytes: usize,
+        most_cells: usize,
+        most_bytes: usize,
+    ) -> Reading;
     pub fn nobyaluk_run(
         record: *const u8,
         bytes: usize,

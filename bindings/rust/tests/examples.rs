@@ -1,5 +1,5 @@
 //! Every example through the safe calls. `trials/` holds the same calls to the reference.
-use nobyaluk::{join, judge, put_wanted, run, version, Run, VERSION};
+use nobyaluk::{join, judge, put_wanted, read, read_within, run, version, Run, VERSION};
 use std::collections::BTreeMap;
 use std::fs;
 use std::path::PathBuf;
@@ -111,4 +111,24 @@ fn first_held_back(run: &Run, cell: usize) -> Option<usize> {
     let less =
         |(held, sent): (&[u32], &[u32])| sent[cell] < nobyaluk::demand(speed, capacity, held[cell]);
     steps.position(less).map(|k| k + 1)
+}
+
+#[test]
+fn a_caller_s_limits_refuse_by_26_and_change_nothing_else() {
+    for (name, record) in examples() {
+        let (full, within) = (read(&record), read_within(&record, 8, 4096));
+        let early = [1, 2, 3, 19, 4].contains(&full.number);
+        if !early && (record[5] > 8 || record.len() > 4096) {
+            assert_eq!((within.number, within.place), (26, 0), "{name}");
+        } else {
+            assert_eq!(within, full, "{name}");
+        }
+        let (cells, bytes) = (usize::from(record[5]), record.len());
+        assert_eq!(read_within(&record, cells, bytes), full, "{name}");
+        assert_eq!(read_within(&record, usize::MAX, usize::MAX), full, "{name}");
+        if !early {
+            assert_eq!(read_within(&record, cells - 1, bytes).number, 26, "{name}");
+            assert_eq!(read_within(&record, cells, bytes - 1).number, 26, "{name}");
+        }
+    }
 }

@@ -31,10 +31,12 @@ use Rattle.model.specs.Runs.{engineAfter}
 use Rattle.model.specs.Improved.{Improved}
 use Rattle.model.specs.Conserve as conservation
 use Rattle.model.specs.Edges as edges
-use Rattle.reading.specs.Reading.{readingOf, firstReadingOf, refusedOf, acceptedOf, studyOf}
+use Rattle.header.specs.Header.{cellsOf}
+use Rattle.reading.specs.Reading.{readingOf, readingWithin, firstReadingOf, refusedOf, acceptedOf, studyOf}
 use Rattle.reading.specs.Found.{Accepted}
 use Rattle.reading.specs.Within as within
 use Rattle.reading.specs.Versions as versions
+use Rattle.reading.specs.Caller as callers
 use Rattle.put.specs.Put.{puttingOf, releasedRecord}
 use Rattle.put.specs.Theorems as puts
 use Rattle.writing.specs.Writing.{writingOf, targetAfter}
@@ -219,3 +221,19 @@ at-most-peak = loads.at-most-peak
 pub goes-on : (seed peak : ℕ) (first second : List ℕ)
     → loadedList seed peak (first ++ second) ≡ loadedList seed peak first ++ loadedList (loadingOf seed peak (length first) .last) peak second
 goes-on = loads.goes-on
+
+-- request 14. For every pair of limits 26 comes exactly where no refusal before it applies and n or the count of bytes is above the pair
+pub caller-beyond : (s : List ℕ) (cells most : ℕ) → callers.Beyond cells most s → readingWithin cells most s ≡ refusedOf 26 0
+caller-beyond = callers.beyond-refused
+
+pub caller-only : (s : List ℕ) (cells most : ℕ) → readingWithin cells most s .number ≡ 26 → callers.Beyond cells most s
+caller-only = callers.refused-beyond
+
+-- a record that keeps within the pair is read as without it; what is printed of it then is said in `printing/PrintedLaws`
+pub caller-same : (s : List ℕ) (cells most : ℕ) → cellsOf s ≤ cells → length s ≤ most → readingWithin cells most s ≡ readingOf s
+caller-same = callers.within-kept
+
+-- enlarging a pair never turns an accepted record away
+pub caller-larger : (s : List ℕ) (cells most more longer : ℕ) → cells ≤ more → most ≤ longer → (readingWithin cells most s .number ≡ 26 → ⊥)
+    → readingWithin more longer s ≡ readingWithin cells most s
+caller-larger = callers.within-larger

@@ -24,6 +24,7 @@ pub use meter::release;
 pub use meter::wish;
 pub use put::put;
 pub use reading::read;
+pub use reading::read_within;
 pub use road::Ended;
 pub use road::Loaded;
 pub use road::Reading;

@@ -1,4 +1,4 @@
--- docs/MODEL.md, 'The operations and their refusals', reading: the header's numbers, and the tests of 1, 2, 3 and 19. Assumes nothing.
+-- docs/MODEL.md, 'The operations and their refusals', reading: the header's numbers, and the tests of 1, 2, 3, 19 and 26. Assumes nothing.
 use mathlib.Core.Bool.{Bool, true, cond, _&&_}
 use mathlib.Core.List.{List, [], _∷_}
 use Prim.Native.Nat.{ℕ, _-_}
@@ -42,3 +42,7 @@ cellsAndStepsOk n T = leb 1 n && (leb n mostCells && (leb 1 T && leb T mostSteps
 -- 19: in version 2 the step's seconds are 1 to 900; in another they are not looked at
 abbrev pub secondsOk : ℕ → ℕ → Bool
 secondsOk version seconds = cond (eqb version secondVersion) (leb 1 seconds && leb seconds mostSeconds) true
+
+-- 26: n and the count of bytes are within what the caller takes
+abbrev pub callerOk : ℕ → ℕ → ℕ → ℕ → Bool
+callerOk cells most n size = leb n cells && leb size most

@@ -2,17 +2,18 @@
 use mathlib.Core.Path.{_≡_, refl}
 use mathlib.Core.Bool.{Bool, true, false, cond, _&&_, _||_}
 use mathlib.Core.List.{List}
+use mathlib.Core.Logic.{_⊎_, inl, inr}
 use Prim.Native.Nat.{ℕ, _-_, _≤_, _<_}
 use native.Mathlib.Omega.{arith}
 use lib.Dec.{leb, eqb}
 use lib.ListN.{length}
-use borrow.Author.Tests.{leb-true, le-leb, lt-leb, eqb-true, eqb-false, eq-eqb, ne-eqb}
+use borrow.Author.Tests.{leb-true, leb-false, le-leb, lt-leb, eqb-true, eqb-false, eq-eqb, ne-eqb}
 use Rattle.numbers.specs.First.{oneOf}
-use Rattle.numbers.specs.Tests.{le-head}
+use Rattle.numbers.specs.Tests.{le-head, le-then}
 use Rattle.road.specs.Road.{mostCells, mostSteps, mostBytes, mostSeconds}
 use Rattle.fields.specs.Fields.{firstVersion, secondVersion, versionOf, countSize, headerSize, numberOf}
 use Rattle.fields.specs.FieldsLaws.{seconds-none, mostSize, start-small}
-use Rattle.header.specs.Header.{sizeOf, bothVersions, leastSize, lengthOk, cellsAndStepsOk, secondsOk}
+use Rattle.header.specs.Header.{cellsOf, stepsOf, sizeOf, bothVersions, leastSize, lengthOk, cellsAndStepsOk, secondsOk, callerOk}
 
 -- both versions are known: in code, by one test or the other
 pub known-both : (version : ℕ) → eqb version firstVersion || eqb version secondVersion ≡ oneOf bothVersions version
@@ -88,3 +89,33 @@ counts-facts n T h =
 -- and then the size fits a machine number
 pub size-small : (version : ℕ) {n T : ℕ} → Counts n T → sizeOf version n T ≤ mostSize
 size-small version {n} {T} c = start-small version n T (c .cells) (c .steps)
+
+-- 26's test, as facts: both numbers are within the caller's, or one is above
+module _ {cells most n size : ℕ} where
+  pub caller-passes : n ≤ cells → size ≤ most → callerOk cells most n size ≡ true
+  caller-passes h k = le-then n cells _ h (le-leb size most k)
+
+  pub caller-facts : callerOk cells most n size ≡ true → (n ≤ cells) × (size ≤ most)
+  caller-facts h = let a = le-head n cells _ h in (a .0, leb-true size most (a .1))
+
+  pub caller-fails : (cells < n) ⊎ (most < size) → callerOk cells most n size ≡ false
+  caller-fails (inl h) = rw (lt-leb n cells h)
+  caller-fails (inr h) = go (leb n cells)
+    where
+      go : (b : Bool) → b && leb size most ≡ false
+      go true = lt-leb size most h
+      go false = refl
+
+  pub caller-above : callerOk cells most n size ≡ false → (cells < n) ⊎ (most < size)
+  caller-above = go (leb n cells) refl
+    where
+      go : (b : Bool) → leb n cells ≡ b → b && leb size most ≡ false → (cells < n) ⊎ (most < size)
+      go false e h = inl (leb-false n cells e)
+      go true e h = inr (leb-false size most h)
+
+-- with 64 and 65,536 it passes wherever 1 and 3 do
+pub caller-full : (known s : List ℕ) → lengthOk known s ≡ true → cellsAndStepsOk (cellsOf s) (stepsOf s) ≡ true
+    → callerOk mostCells mostBytes (cellsOf s) (length s) ≡ true
+caller-full known s h k =
+    let bytes = le-head (length s) mostBytes _ (le-head (leastSize known (versionOf s)) (length s) _ h .1) .0 in
+    caller-passes (counts-facts (cellsOf s) (stepsOf s) k .cells) bytes

@@ -1,8 +1,8 @@
-// The tests of a record's header: its length, its version, its n and T and its seconds.
+// The tests of a record's header: its length, its version, its n and T, its seconds and a caller's own limits.
 use road::Road;
 ghost use mathlib.Core.Path.{_≡_};
 ghost use Rattle.numbers.specs.First.{oneOf};
-ghost use Rattle.header.specs.Header.{bothVersions, lengthOk, cellsAndStepsOk, secondsOk};
+ghost use Rattle.header.specs.Header.{bothVersions, lengthOk, cellsAndStepsOk, secondsOk, callerOk};
 
 // Whether the length is within its limits and the first field counts the bytes after it.
 pub fn length_within(bytes: &[u8]) -> bool
@@ -41,4 +41,11 @@ pub fn seconds_within(version: u8, seconds: u16) -> bool
         return (1 <= seconds) & (seconds <= Road::SECONDS);
     }
     true
+}
+
+// Whether a caller that takes at most `cells` cells and `most` bytes takes n cells and `size` bytes.
+pub fn caller_within(cells: usize, most: usize, n: usize, size: usize) -> bool
+    ensures { λ r. ⌜ r ≡ callerOk cells most n size ⌝ }
+{
+    (n <= cells) & (size <= most)
 }

@@ -22,7 +22,8 @@ use Rattle.model.specs.Rules.{outflowsOf}
 use Rattle.model.specs.Step.{Fault, releasesOf}
 use Rattle.model.specs.Runs.{engineAfter, outflowsAt}
 use Rattle.model.specs.RunsLaws.{StudyOk}
-use Rattle.reading.specs.Reading.{ReadAnswer, readingOf, studyBy}
+use Rattle.reading.specs.Reading.{ReadAnswer, readingWithin, readingOf, studyBy}
+use Rattle.reading.specs.Caller.{within-accepted}
 use Rattle.reading.specs.Table.{mostOutflows}
 use Rattle.schedules.specs.Schedules.{EndAnswer, ended, runEnd}
 use Rattle.schedules.specs.Readable.{Readable}
@@ -30,7 +31,7 @@ use Rattle.running.specs.Ran.{Ran, RanTurn, ran-reached, ran-none, ran-more, ro
 use Rattle.listing.specs.Listing.{mostLine, mostLast, mostTime, headerLine, linesOf, totalLine, vehicleSeconds, secondsLine, refusedLine}
 use Rattle.rows.specs.Placed.{Puts, placed-none, puts-first, puts-more, Room, room, Holds}
 use Rattle.listing.specs.ListingLaws.{header-room, lines-room, total-length, total-room, seconds-length, refused-room}
-use Rattle.printing.specs.Printed.{stepsLines, timeOf, lastOf, printedEnd, printedRun, printedOf}
+use Rattle.printing.specs.Printed.{stepsLines, timeOf, lastOf, printedEnd, printedRun, printedWithin}
 
 -- how long a text may be: a line for each outflow, a header, the line of the totals and that of the seconds
 abbrev pub mostText : ℕ
@@ -212,15 +213,20 @@ module _ {a : Study} {before start-buffer : List ℕ} {start : ℕ} {buffer : Li
       (omega (arith, h .enough, y .same)) in
       record { first = v .first ∙ sym t; within = v .within; counted = v .counted; same = v .same }
 
+-- an accepted record is read as without limits of the caller
+pub read-same : (cells most : ℕ) (bytes : List ℕ) {x : ReadAnswer} → x ≡ readingWithin cells most bytes → x .number ≡ 0 → x ≡ readingOf bytes
+read-same cells most bytes ex z = ex ∙ within-accepted bytes cells most (rw ex at z)
+
 -- what is printed of a record, from what reading found
-module _ (bytes : List ℕ) {x : ReadAnswer} (ex : x ≡ readingOf bytes) {before after : List ℕ} {m : ℕ} where
+module _ (cells most : ℕ) (bytes : List ℕ) {x : ReadAnswer} (ex : x ≡ readingWithin cells most bytes) {before after : List ℕ} {m : ℕ} where
   pub holds-refused : (x .number ≡ 0 → ⊥) → mostText ≤ length before → Puts before 0 (refusedLine (x .number) 0 (x .place)) after m
-      → Holds before (printedOf bytes) after m
-  unfolding printedOf
+      → Holds before (printedWithin cells most bytes) after m
+  unfolding printedWithin
   holds-refused n l p =
       let z = refused-room before 0 (x .number) 0 (x .place) after m p in
       rw (← ex, ne-eqb (x .number) 0 n) (holds before (refusedLine (x .number) 0 (x .place)) after m mostLine p z (omega (arith, l)))
 
-  pub holds-read : x .number ≡ 0 → Holds before (printedRun (studyBy bytes [] (x .road) (x .state) (x .steps))) after m → Holds before (printedOf bytes) after m
-  unfolding printedOf
-  holds-read z h = rw (← ex, eq-eqb (x .number) 0 z) h
+  pub holds-read : x .number ≡ 0 → Holds before (printedRun (studyBy bytes [] (x .road) (x .state) (x .steps))) after m
+      → Holds before (printedWithin cells most bytes) after m
+  unfolding printedWithin
+  holds-read z h = rw (← ex, eq-eqb (x .number) 0 z, ← read-same cells most bytes ex z) h

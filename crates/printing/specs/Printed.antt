@@ -6,12 +6,12 @@ use lib.Dec.{eqb}
 use Rattle.numbers.specs.First.{unless}
 use Rattle.road.specs.declared.Road.{Road}
 use Rattle.road.specs.declared.State.{State}
-use Rattle.road.specs.Road.{totalOf}
+use Rattle.road.specs.Road.{mostCells, mostBytes, totalOf}
 use Rattle.road.specs.Study.{Study}
 use Rattle.fields.specs.Fields.{secondVersion}
 use Rattle.model.specs.Move.{exitsOf}
 use Rattle.model.specs.Runs.{engineAfter, outflowsAt}
-use Rattle.reading.specs.Reading.{readingOf, studyOf}
+use Rattle.reading.specs.Reading.{readingWithin, studyOf}
 use Rattle.schedules.specs.Schedules.{EndAnswer, runEnd}
 use Rattle.listing.specs.Listing.{headerLine, linesOf, totalLine, vehicleSeconds, secondsLine, refusedLine}
 
@@ -37,8 +37,12 @@ printedEnd a e =
 unfoldable pub printedRun : Study → List ℕ
 printedRun a = printedEnd a (runEnd a)
 
--- of a record: a refusal of reading, or its run with all lanes open
-unfoldable pub printedOf : List ℕ → List ℕ
-printedOf bytes =
-    unless (eqb (readingOf bytes .number) 0) (refusedLine (readingOf bytes .number) 0 (readingOf bytes .place))
+-- of a record, for a caller with limits of its own: a refusal of reading, or its run with all lanes open
+unfoldable pub printedWithin : ℕ → ℕ → List ℕ → List ℕ
+printedWithin cells most bytes =
+    unless (eqb (readingWithin cells most bytes .number) 0) (refusedLine (readingWithin cells most bytes .number) 0 (readingWithin cells most bytes .place))
     (printedRun (studyOf bytes []))
+
+-- with no limits but the model's
+abbrev pub printedOf : List ℕ → List ℕ
+printedOf bytes = printedWithin mostCells mostBytes bytes

@@ -1,5 +1,6 @@
--- What is printed is what running answers with the empty table of lanes, and any list that is long enough for every record. Assumes nothing.
-use mathlib.Core.Path.{_≡_, refl}
+-- What is printed is what running answers with the empty table of lanes, and any list that is long enough for every record; what a caller with its own
+-- limits sees of it. Assumes nothing.
+use mathlib.Core.Path.{_≡_, refl, ap}
 use mathlib.Core.Bool.{Bool, true, false}
 use mathlib.Core.List.{List, []}
 use Prim.Native.Nat.{ℕ, _≤_, _<_}
@@ -7,18 +8,22 @@ use native.Mathlib.Omega.{arith}
 use lib.Dec.{eqb}
 use lib.ListN.{length}
 use borrow.Author.Tests.{eqb-true, eqb-false, eq-eqb, ne-eqb}
+use Rattle.numbers.specs.First.{unless}
 use Rattle.model.specs.Runs.{outflowsAt}
-use Rattle.reading.specs.Reading.{readingOf, studyOf}
+use Rattle.header.specs.Header.{cellsOf}
+use Rattle.reading.specs.Reading.{ReadAnswer, readingWithin, readingOf, studyOf}
+use Rattle.reading.specs.Caller.{Beyond, beyond-refused, within-other, within-kept, within-accepted}
 use Rattle.reading.specs.Table.{mostOutflows, read-table}
 use Rattle.schedules.specs.Schedules.{proposedAt, stepsMade, runningOf, listAfter}
 use Rattle.schedules.specs.TableLaws.{table-row}
 use Rattle.schedules.specs.Ends.{runs-refused, runs-long}
 use Rattle.schedules.specs.Readable.{readable-open, taken-open}
-use Rattle.printing.specs.Printed.{printedEnd, printedRun, printedOf}
+use Rattle.listing.specs.Listing.{refusedLine}
+use Rattle.printing.specs.Printed.{printedEnd, printedRun, printedWithin, printedOf}
 
 module _ (bytes list : List ℕ) (long : mostOutflows ≤ length list) where
   pub printed-runs : printedOf bytes ≡ printedEnd (studyOf bytes []) (runningOf bytes [] list)
-  unfolding printedOf printedRun
+  unfolding printedWithin printedRun
   printed-runs = go (eqb (readingOf bytes .number) 0) refl
     where
       go : (b : Bool) → eqb (readingOf bytes .number) 0 ≡ b → printedOf bytes ≡ printedEnd (studyOf bytes []) (runningOf bytes [] list)
@@ -34,3 +39,29 @@ module _ (bytes list : List ℕ) (long : mostOutflows ≤ length list) where
       → proposedAt (studyOf bytes []) (listAfter bytes [] list) k ≡ outflowsAt (studyOf bytes []) k
   unfolding listAfter
   printed-rows z k l = table-row (studyOf bytes []) (readable-open bytes (readingOf bytes) refl z .ok) list (stepsMade (studyOf bytes []) (runningOf bytes [] list)) k l
+
+-- what is printed where reading answers x
+abbrev printedBy : ReadAnswer → List ℕ → List ℕ
+printedBy x bytes = unless (eqb (x .number) 0) (refusedLine (x .number) 0 (x .place)) (printedRun (studyOf bytes []))
+
+module _ (cells most : ℕ) (bytes : List ℕ) where
+  -- where the caller's limits don't refuse, the text is the full program's,
+  printed-same : readingWithin cells most bytes ≡ readingOf bytes → printedWithin cells most bytes ≡ printedOf bytes
+  unfolding printedWithin
+  printed-same e = ap (λ (x : ReadAnswer). printedBy x bytes) e
+
+  pub printed-other : (readingWithin cells most bytes .number ≡ 26 → ⊥) → printedWithin cells most bytes ≡ printedOf bytes
+  printed-other h = printed-same (within-other bytes cells most h)
+
+  -- so of every record that keeps within them,
+  pub printed-kept : cellsOf bytes ≤ cells → length bytes ≤ most → printedWithin cells most bytes ≡ printedOf bytes
+  printed-kept h k = printed-same (within-kept bytes cells most h k)
+
+  -- and of every record that they accept
+  pub printed-accepted : readingWithin cells most bytes .number ≡ 0 → printedWithin cells most bytes ≡ printedOf bytes
+  printed-accepted h = printed-same (within-accepted bytes cells most h)
+
+  -- where they refuse it, 26's line alone
+  pub printed-beyond : Beyond cells most bytes → printedWithin cells most bytes ≡ refusedLine 26 0 0
+  unfolding printedWithin
+  printed-beyond b = ap (λ (x : ReadAnswer). printedBy x bytes) (beyond-refused bytes cells most b)

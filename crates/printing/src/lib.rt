@@ -12,11 +12,16 @@ ghost use Rattle.stepping.specs.Nexts.{Nexts};
 ghost use Rattle.reading.specs.Reading.{studyBy};
 ghost use Rattle.rows.specs.Placed.{Puts, Holds};
 ghost use Rattle.listing.specs.Listing.{mostLine};
-ghost use Rattle.printing.specs.Printed.{lastOf, printedRun, printedOf};
+ghost use Rattle.printing.specs.Printed.{lastOf, printedRun, printedWithin};
 ghost use Rattle.printing.specs.Lined.{mostText, Printable, Ending, PutStep};
 
 // The bytes of a text: no record that reads needs more.
 pub const TEXT: usize = 924161;
+
+// Room for the longest text; as an answer its length is known, where the prover would count a literal's zeros one by one.
+pub fn room() -> [u8; TEXT] {
+    [0; TEXT]
+}
 
 // A step that was made and put: the ledger after it, and the index after its lines.
 struct Put {
@@ -158,12 +163,12 @@ fn run_lines(bytes: &[u8], r: Road, s: State, steps: usize, buffer: &mut [u8]) -
     last_lines(buffer, end, r, l.state(held, queue, cumulative))
 }
 
-// Puts all that is printed of a record at the start of the buffer, and gives its length.
-pub fn printed(bytes: &[u8], buffer: &mut [u8]) -> usize
+// Puts all that is printed of a record at the start of the buffer, for a caller that takes at most `cells` cells and `most` bytes, and gives its length.
+pub fn printed_within(bytes: &[u8], cells: usize, most: usize, buffer: &mut [u8]) -> usize
     requires { ⌜ mostText ≤ length (now buffer) ⌝ }
-    ensures { λ e. ⌜ Holds (now (buffer .entry)) (printedOf (now (bytes .entry))) (now (buffer .exit)) e ⌝ }
+    ensures { λ e. ⌜ Holds (now (buffer .entry)) (printedWithin cells most (now (bytes .entry))) (now (buffer .exit)) e ⌝ }
 {
-    let a = reading::read(bytes);
+    let a = reading::read_within(bytes, cells, most);
     let refusal = a.refusal;
     let number = refusal.number();
     if number != 0 {

@@ -9,7 +9,7 @@ use lib.ListN.{length}
 use borrow.Author.Tests.{eqb-true, eqb-false}
 use Rattle.road.specs.declared.Road.{Road}
 use Rattle.road.specs.declared.State.{State}
-use Rattle.road.specs.Road.{mostSteps, mostBytes}
+use Rattle.road.specs.Road.{mostCells, mostSteps, mostBytes}
 use Rattle.road.specs.Refusals.{inHeader}
 use Rattle.numbers.specs.First.{unless, oneOf, firstOf, allOf}
 use Rattle.fields.specs.Fields.{versionOf, secondsOf, countSize, numberOf, recordRow}
@@ -18,9 +18,9 @@ use Rattle.numbers.specs.Tests.{le-head}
 use Rattle.numbers.specs.FirstLaws.{First, first, all-at}
 use Rattle.limits.specs.Limits.{placeOk}
 use Rattle.limits.specs.LimitsLaws.{RoadOk, StateOk, RowOk, places-road, places-state, row-facts}
-use Rattle.header.specs.Header.{cellsOf, stepsOf, sizeOf, bothVersions, lengthOk, cellsAndStepsOk, secondsOk}
+use Rattle.header.specs.Header.{cellsOf, stepsOf, sizeOf, bothVersions, lengthOk, cellsAndStepsOk, secondsOk, callerOk}
 use Rattle.reading.specs.Reading.{ReadAnswer, roadOf, startOf, stepOk}
-use Rattle.reading.specs.Reading.{refusedOf, acceptedOf, readingBy, readingOf}
+use Rattle.reading.specs.Reading.{refusedOf, acceptedOf, readingBy, readingWithin, readingOf}
 use Rattle.header.specs.HeaderLaws.{length-facts, counts-facts}
 
 -- a number below n at which a test fails, as it does nowhere below
@@ -96,30 +96,36 @@ module _ (s : List ℕ) where
         row = λ t l. row-facts (roadOf s) (recordRow s (cellsOf s) t) (length-row s (cellsOf s) t) (road .ramp) (all-at (stepOk s (roadOf s)) (stepsOf s) g t l);
       }
 
-  pub read-found : Found s (readingOf s)
+  -- whatever the caller's limits
+  pub found-within : (cells most : ℕ) → Found s (readingWithin cells most s)
   unfolding readingBy inHeader oneOf
-  read-found = go lengths version counts seconds size places rows refl refl refl refl refl refl refl
+  found-within cells most = go lengths version counts seconds size (callerOk cells most (cellsOf s) (length s)) places rows refl refl refl refl refl refl refl
     where
-      go : (a b c d e f g : Bool) → lengths ≡ a → version ≡ b → counts ≡ c → seconds ≡ d → size ≡ e → places ≡ f → rows ≡ g
+      go : (a b c d e k f g : Bool) → lengths ≡ a → version ≡ b → counts ≡ c → seconds ≡ d → size ≡ e → places ≡ f → rows ≡ g
           → Found s
           (unless a (refusedOf 1 0)
           (unless b (refusedOf 2 0)
           (unless c (refusedOf 3 0)
           (unless d (refusedOf 19 0)
           (unless e (refusedOf 4 0)
+          (unless k (refusedOf 26 0)
           (unless f (refusedOf 5 (firstOf (placeOk (roadOf s) (startOf s)) (cellsOf s + 1)))
           (unless g (refusedOf 6 (firstOf (stepOk s (roadOf s)) (stepsOf s)))
-          (acceptedOf (stepsOf s) (roadOf s) (startOf s)))))))))
-      go false b c d e f g ea eb ec ed ee ef eg = early 1 refl
-      go true false c d e f g ea eb ec ed ee ef eg = early 2 refl
-      go true true false d e f g ea eb ec ed ee ef eg = early 3 refl
-      go true true true false e f g ea eb ec ed ee ef eg = early 19 refl
-      go true true true true false f g ea eb ec ed ee ef eg = early 4 refl
-      go true true true true true false g ea eb ec ed ee ef eg =
+          (acceptedOf (stepsOf s) (roadOf s) (startOf s))))))))))
+      go false b c d e k f g ea eb ec ed ee ef eg = early 1 refl
+      go true false c d e k f g ea eb ec ed ee ef eg = early 2 refl
+      go true true false d e k f g ea eb ec ed ee ef eg = early 3 refl
+      go true true true false e k f g ea eb ec ed ee ef eg = early 19 refl
+      go true true true true false k f g ea eb ec ed ee ef eg = early 4 refl
+      go true true true true true false f g ea eb ec ed ee ef eg = early 26 refl
+      go true true true true true true false g ea eb ec ed ee ef eg =
           atPlace (firstOf (placeOk (roadOf s) (startOf s)) (cellsOf s + 1)) (lowest (placeOk (roadOf s) (startOf s)) (cellsOf s + 1) ef)
-      go true true true true true true false ea eb ec ed ee ef eg =
+      go true true true true true true true false ea eb ec ed ee ef eg =
           atStep (firstOf (stepOk s (roadOf s)) (stepsOf s)) (lowest (stepOk s (roadOf s)) (stepsOf s) eg)
-      go true true true true true true true ea eb ec ed ee ef eg = clear (accepted ea eb ec ed ee ef eg)
+      go true true true true true true true true ea eb ec ed ee ef eg = clear (accepted ea eb ec ed ee ef eg)
+
+  pub read-found : Found s (readingOf s)
+  read-found = found-within mostCells mostBytes
 
 -- none of the header's refusals is 0, 5 or 6
 module _ {number : ℕ} (h : inHeader number ≡ true) where

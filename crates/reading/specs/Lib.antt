@@ -2,6 +2,7 @@ pub mod Reading
 pub mod Headers
 pub mod ReadingLaws
 pub mod Found
+pub mod Caller
 pub mod Within
 pub mod Numbers
 pub mod Versions

@@ -6,14 +6,14 @@ use lib.Dec.{eqb}
 use lib.ListN.{length}
 use Rattle.road.specs.declared.Road.{Road}
 use Rattle.road.specs.declared.State.{State}
-use Rattle.road.specs.Road.{zeros, emptyRoad, emptyState}
+use Rattle.road.specs.Road.{mostCells, mostBytes, zeros, emptyRoad, emptyState}
 use Rattle.numbers.specs.First.{unless, oneOf, unlessFirst}
 use Rattle.road.specs.Refusals.{refusalNumber}
 use Rattle.road.specs.Study.{Study, study}
 use Rattle.fields.specs.Fields.{shortSize, numberSize, numberOf, columnOf, recordRow, versionOf, secondsOf, gateCapacityOffset, gateQueueOffset}
 use Rattle.fields.specs.Fields.{speedOffset, waveOffset, shareOffset, rampOffset, jamOffset, capacityOffset, heldOffset, queueOffset}
 use Rattle.limits.specs.Limits.{placeOk, rowOk}
-use Rattle.header.specs.Header.{cellsOf, stepsOf, sizeOf, bothVersions, firstAlone, lengthOk, cellsAndStepsOk, secondsOk}
+use Rattle.header.specs.Header.{cellsOf, stepsOf, sizeOf, bothVersions, firstAlone, lengthOk, cellsAndStepsOk, secondsOk, callerOk}
 use Rattle.road.specs.declared.Reading.{Reading}
 
 -- what reading answers: the refusal's number, its place or step, T, the road and the state before step 0
@@ -75,24 +75,35 @@ refusedOf number place = record { number = number; place = place; steps = 0; roa
 abbrev pub acceptedOf : ℕ → Road → State → ReadAnswer
 acceptedOf T r s = record { number = 0; place = 0; steps = T; road = r; state = s }
 
--- refusals of a reader that knows these versions, in order; the place is the lowest cell (0 for the gate) for 5, the first step for 6, and 0 otherwise
-unfoldable pub readingBy : List ℕ → List ℕ → ReadAnswer
-readingBy known s =
-    unless (lengthOk known s) (refusedOf 1 0)
-    (unless (oneOf known (versionOf s)) (refusedOf 2 0)
+-- a reader: the versions that it knows, and the most cells and bytes that it takes
+pub record Reader : Type 0 where
+  pub known : List ℕ
+  pub cells : ℕ
+  pub bytes : ℕ
+
+-- its refusals, in order; the place is the lowest cell (0 for the gate) for 5, the first step for 6, and 0 otherwise
+unfoldable pub readingBy : Reader → List ℕ → ReadAnswer
+readingBy by s =
+    unless (lengthOk (by .known) s) (refusedOf 1 0)
+    (unless (oneOf (by .known) (versionOf s)) (refusedOf 2 0)
     (unless (cellsAndStepsOk (cellsOf s) (stepsOf s)) (refusedOf 3 0)
     (unless (secondsOk (versionOf s) (secondsOf s)) (refusedOf 19 0)
     (unless (eqb (length s) (sizeOf (versionOf s) (cellsOf s) (stepsOf s))) (refusedOf 4 0)
+    (unless (callerOk (by .cells) (by .bytes) (cellsOf s) (length s)) (refusedOf 26 0)
     (unlessFirst (placeOk (roadOf s) (startOf s)) (cellsOf s + 1) (refusedOf 5)
     (unlessFirst (stepOk s (roadOf s)) (stepsOf s) (refusedOf 6)
-    (acceptedOf (stepsOf s) (roadOf s) (startOf s))))))))
+    (acceptedOf (stepsOf s) (roadOf s) (startOf s)))))))))
 
--- reading knows both versions, and the first reader knew version 1 alone
+-- reading for a caller with limits of its own: above 64 and 65,536 they are as good as these, since 1 and 3 come first
+abbrev pub readingWithin : ℕ → ℕ → List ℕ → ReadAnswer
+readingWithin cells bytes s = readingBy (record { known = bothVersions; cells = cells; bytes = bytes }) s
+
+-- reading knows both versions and takes all that they allow, and the first reader knew version 1 alone
 abbrev pub readingOf : List ℕ → ReadAnswer
-readingOf s = readingBy bothVersions s
+readingOf s = readingWithin mostCells mostBytes s
 
 abbrev pub firstReadingOf : List ℕ → ReadAnswer
-firstReadingOf s = readingBy firstAlone s
+firstReadingOf s = readingBy (record { known = firstAlone; cells = mostCells; bytes = mostBytes }) s
 
 -- the study of a record that gave this road, start and T, under a table of lanes: its rows stand in the bytes
 abbrev pub studyBy : List ℕ → List ℕ → Road → State → ℕ → Study

@@ -9,7 +9,7 @@ use lib.ListN.{length}
 use borrow.Author.Tests.{eq-eqb, ne-eqb}
 use Rattle.road.specs.declared.Road.{Road}
 use Rattle.road.specs.declared.State.{State}
-use Rattle.road.specs.Road.{mostCells, mostSteps}
+use Rattle.road.specs.Road.{mostCells, mostSteps, mostBytes}
 use Rattle.fields.specs.Fields.{versionOf, secondsOf, numberSize, rowSize, rowStart, numberOf, recordRow, HoldsRow}
 use Rattle.fields.specs.FieldsLaws.{holds-row, row-at}
 use Rattle.numbers.specs.Lists.{at}
@@ -18,9 +18,9 @@ use Rattle.numbers.specs.FirstLaws.{first-stop, first-none}
 use Rattle.limits.specs.Limits.{placeOk, ratesOk, ratesAt, rowOk}
 use Rattle.numbers.specs.First.{unlessFirst}
 use Rattle.reading.specs.Headers.{Cells, Steps, Header}
-use Rattle.header.specs.Header.{cellsOf, stepsOf, sizeOf, bothVersions, lengthOk, cellsAndStepsOk, secondsOk}
-use Rattle.header.specs.HeaderLaws.{Counts, counts-facts}
-use Rattle.reading.specs.Reading.{roadOf, startOf, stepOk, ReadAnswer, refusedOf, acceptedOf, readingBy, readingOf}
+use Rattle.header.specs.Header.{cellsOf, stepsOf, sizeOf, bothVersions, lengthOk, cellsAndStepsOk, secondsOk, callerOk}
+use Rattle.header.specs.HeaderLaws.{Counts, length-facts, counts-facts, caller-passes}
+use Rattle.reading.specs.Reading.{roadOf, startOf, stepOk, ReadAnswer, refusedOf, acceptedOf, readingBy, readingWithin, readingOf}
 
 -- what the header asks is what the cells and the rows ask
 module _ {s : List ℕ} {n T : ℕ} (h : Header s n T) where
@@ -47,13 +47,14 @@ module _ {s : List ℕ} {n T : ℕ} (h : Header s n T) where
     pub header-steps : Steps s (r .n) T
     header-steps = rw header-road (record { most = header-counts .cells; held = omega (arith, h .size) })
 
--- the refusals of the header, each from the tests on the way to it
-module _ (s : List ℕ) where
-  pub answer-length : {x : ReadAnswer} → lengthOk bothVersions s ≡ false → x ≡ refusedOf 1 0 → x ≡ readingOf s
+-- the refusals of the header, each from the tests on the way to it, whatever the caller's limits
+module _ (cells most : ℕ) (s : List ℕ) where
+  pub answer-length : {x : ReadAnswer} → lengthOk bothVersions s ≡ false → x ≡ refusedOf 1 0 → x ≡ readingWithin cells most s
   unfolding readingBy
   answer-length h g = g ∙ rw h refl
 
-  pub answer-version : {x : ReadAnswer} → lengthOk bothVersions s ≡ true → oneOf bothVersions (versionOf s) ≡ false → x ≡ refusedOf 2 0 → x ≡ readingOf s
+  pub answer-version : {x : ReadAnswer} → lengthOk bothVersions s ≡ true → oneOf bothVersions (versionOf s) ≡ false → x ≡ refusedOf 2 0
+      → x ≡ readingWithin cells most s
   unfolding readingBy
   answer-version h k g = g ∙ rw (h, k) refl
 
@@ -64,32 +65,41 @@ pub record Opened (s : List ℕ) (n T : ℕ) : Type 0 where
   pub cells : n ≡ cellsOf s
   pub steps : T ≡ stepsOf s
 
-module _ {s : List ℕ} {n T : ℕ} (h : Opened s n T) where
-  pub answer-counts : {x : ReadAnswer} → cellsAndStepsOk n T ≡ false → x ≡ refusedOf 3 0 → x ≡ readingOf s
+module _ (cells most : ℕ) {s : List ℕ} {n T : ℕ} (h : Opened s n T) where
+  pub answer-counts : {x : ReadAnswer} → cellsAndStepsOk n T ≡ false → x ≡ refusedOf 3 0 → x ≡ readingWithin cells most s
   unfolding readingBy
   answer-counts k g = g ∙ rw (h .lengths, h .version, ← h .cells, ← h .steps, k) refl
 
   module _ (k : cellsAndStepsOk n T ≡ true) where
-    pub answer-seconds : {x : ReadAnswer} → secondsOk (versionOf s) (secondsOf s) ≡ false → x ≡ refusedOf 19 0 → x ≡ readingOf s
+    pub answer-seconds : {x : ReadAnswer} → secondsOk (versionOf s) (secondsOf s) ≡ false → x ≡ refusedOf 19 0 → x ≡ readingWithin cells most s
     unfolding readingBy
     answer-seconds l g = g ∙ rw (h .lengths, h .version, ← h .cells, ← h .steps, k, l) refl
 
-    module _ (l : secondsOk (versionOf s) (secondsOf s) ≡ true) {size : ℕ} (e : size ≡ sizeOf (versionOf s) n T) where
-      pub answer-size : {x : ReadAnswer} → (length s ≡ size → ⊥) → x ≡ refusedOf 4 0 → x ≡ readingOf s
-      unfolding readingBy
-      answer-size z g =
-          g ∙ rw (h .lengths, h .version, ← h .cells, ← h .steps, k, l, ne-eqb (length s) (sizeOf (versionOf s) n T) (λ x. z (x ∙ sym e))) refl
+    pub answer-size : secondsOk (versionOf s) (secondsOf s) ≡ true → {size : ℕ} → size ≡ sizeOf (versionOf s) n T
+        → {x : ReadAnswer} → (length s ≡ size → ⊥) → x ≡ refusedOf 4 0 → x ≡ readingWithin cells most s
+    unfolding readingBy
+    answer-size l e z g =
+        g ∙ rw (h .lengths, h .version, ← h .cells, ← h .steps, k, l, ne-eqb (length s) (sizeOf (versionOf s) n T) (λ x. z (x ∙ sym e))) refl
 
-      pub header-passed : length s ≡ size → Header s n T
-      header-passed z = record {
-        lengths = h .lengths;
-        version = h .version;
-        cells = h .cells;
-        steps = h .steps;
-        counts = k;
-        seconds = l;
-        size = z ∙ e;
-      }
+pub header-passed : {s : List ℕ} {n T : ℕ} → Opened s n T → cellsAndStepsOk n T ≡ true → secondsOk (versionOf s) (secondsOf s) ≡ true
+    → {size : ℕ} → size ≡ sizeOf (versionOf s) n T → length s ≡ size → Header s n T
+header-passed h k l e z = record {
+  lengths = h .lengths;
+  version = h .version;
+  cells = h .cells;
+  steps = h .steps;
+  counts = k;
+  seconds = l;
+  size = z ∙ e;
+}
+
+-- 26, of a record that all these let through
+module _ (cells most : ℕ) {s : List ℕ} {n T : ℕ} (h : Header s n T) where
+  pub answer-caller : {x : ReadAnswer} → callerOk cells most n (length s) ≡ false → x ≡ refusedOf 26 0 → x ≡ readingWithin cells most s
+  unfolding readingBy
+  answer-caller k g =
+      let size = eq-eqb (length s) (sizeOf (versionOf s) n T) (h .size) in
+      g ∙ rw (h .lengths, h .version, ← h .cells, ← h .steps, h .counts, h .seconds, size, k) refl
 
 -- what follows the header
 abbrev bodyOf : List ℕ → ℕ → Road → State → ReadAnswer
@@ -120,6 +130,7 @@ module _ {s : List ℕ} {n T : ℕ} {r : Road} {q : State} {p : ℕ} (b : Body s
         h .counts,
         h .seconds,
         eq-eqb (length s) (sizeOf (versionOf s) n T) (h .size),
+        caller-passes {cells = mostCells} {most = mostBytes} (header-counts h .cells) (length-facts s (h .lengths) .1),
       )
 
   places : r .n ≡ n

@@ -12,7 +12,7 @@ use Rattle.fields.specs.Fields.{gateCapacityOffset, gateQueueOffset, headerSize
 use Rattle.numbers.specs.First.{oneOf, firstFrom, firstOf}
 use Rattle.limits.specs.Limits.{placeOk, rowOk}
 use Rattle.header.specs.Header.{bothVersions, cellsAndStepsOk}
-use Rattle.reading.specs.Reading.{acceptedOf, readingBy, readingOf}
+use Rattle.reading.specs.Reading.{acceptedOf, readingBy, readingWithin, readingOf}
 
 -- 120 bytes follow the first field; version 1, n 2, T 3; gate capacity 2000, queue 3000
 unfoldable pub header : List ℕ
@@ -151,3 +151,18 @@ alone-numbers : map (alone 2) (0 ∷ 1 ∷ 2 ∷ []) ++ (map (alone 1) (0 ∷ 1 
     ≡ 1 ∷ 1 ∷ 3 ∷ 3 ∷ 3 ∷ 3 ∷ 2 ∷ 2 ∷ 2 ∷ []
 unfolding alone readingBy oneOf numberOf secondsSize fillOf listOf firstFrom firstOf placeOk rowOk
 alone-numbers = refl
+
+-- a caller that takes 2 cells and 124 bytes takes it; with a cell or a byte less it is 26
+within : ℕ → ℕ → ℕ
+within cells most = readingWithin cells most sample .number
+
+within-numbers : within 2 124 ∷ within 1 124 ∷ within 2 123 ∷ within 8 4096 ∷ within 0 0 ∷ [] ≡ 0 ∷ 26 ∷ 26 ∷ 0 ∷ 26 ∷ []
+unfolding within sample header upstream downstream row readingBy oneOf numberOf secondsSize fillOf listOf firstFrom firstOf placeOk rowOk
+within-numbers = refl
+
+-- 26 comes after 1, 2, 3, 19 and 4, and before 5 and 6
+within-order : map (λ (s : List ℕ). readingWithin 1 4096 s .number)
+    (set sample 3 121 ∷ set sample 4 3 ∷ set sample 7 0 ∷ timed 0 0 ∷ set sample 5 3 ∷ set sample 12 60 ∷ set sample 65 16 ∷ [])
+    ≡ 1 ∷ 2 ∷ 3 ∷ 19 ∷ 4 ∷ 26 ∷ 26 ∷ []
+unfolding sample timed timedHeader header upstream downstream row readingBy oneOf numberOf secondsSize fillOf listOf firstFrom firstOf placeOk rowOk
+within-order = refl

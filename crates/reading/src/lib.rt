@@ -8,7 +8,7 @@ ghost use Rattle.road.specs.Refusals.{refusalNumber};
 ghost use Rattle.numbers.specs.First.{firstOf};
 ghost use Rattle.limits.specs.Limits.{rowOk};
 ghost use Rattle.fields.specs.Fields.{recordRow, HoldsRow};
-ghost use Rattle.reading.specs.Reading.{roadOf, startOf, stepOk, refusedOf, readAnswer, readingOf};
+ghost use Rattle.reading.specs.Reading.{roadOf, startOf, stepOk, refusedOf, readAnswer, readingWithin, readingOf};
 ghost use Rattle.reading.specs.Headers.{Cells, Steps, Header};
 
 // The road of a record of n cells.
@@ -127,9 +127,9 @@ fn body(bytes: &[u8], n: usize, steps: usize) -> Reading
     }
 }
 
-// Reads a record of any length; refusals 1, 2, 3, 19 and 4 come first.
-pub fn read(bytes: &[u8]) -> Reading
-    ensures { λ a. ⌜ readAnswer a ≡ readingOf (now (bytes .entry)) ⌝ }
+// Reads a record of any length for a caller that takes at most `cells` cells and `most` bytes; refusals 1, 2, 3, 19, 4 and 26 come first.
+pub fn read_within(bytes: &[u8], cells: usize, most: usize) -> Reading
+    ensures { λ a. ⌜ readAnswer a ≡ readingWithin cells most (now (bytes .entry)) ⌝ }
 {
     if !header::length_within(bytes) {
         return refused(Refusal::Length, 0);
@@ -149,5 +149,15 @@ pub fn read(bytes: &[u8]) -> Reading
     if bytes.len() != fields::row_start(version, n, steps) {
         return refused(Refusal::Size, 0);
     }
+    if !header::caller_within(cells, most, n, bytes.len()) {
+        return refused(Refusal::CallerLimits, 0);
+    }
     body(bytes, n, steps)
+}
+
+// Reads a record of any length, with no limits but the model's.
+pub fn read(bytes: &[u8]) -> Reading
+    ensures { λ a. ⌜ readAnswer a ≡ readingOf (now (bytes .entry)) ⌝ }
+{
+    read_within(bytes, Road::CELLS, Road::BYTES)
 }

@@ -11,40 +11,42 @@ use Rattle.numbers.specs.First.{unless, oneOf, firstOf, allOf}
 use Rattle.numbers.specs.FirstLaws.{all-true}
 use Rattle.rows.specs.RowsLaws.{fill-same}
 use Rattle.road.specs.declared.Road.{Road}
-use Rattle.road.specs.Road.{zeros}
+use Rattle.road.specs.Road.{mostCells, mostBytes, zeros}
 use Rattle.fields.specs.Fields.{countSize, shortSize, numberSize, cellSize, versionOffset, versionOf, cellsOffset, stepsOffset, secondsOffset, secondsSize, secondsOf}
 use Rattle.fields.specs.Fields.{gateCapacityOffset, gateQueueOffset}
 use Rattle.fields.specs.Fields.{speedOffset, waveOffset, shareOffset, rampOffset, jamOffset, capacityOffset, heldOffset, queueOffset}
 use Rattle.fields.specs.Fields.{rowStart, numberOf, fieldOf, columnOf, recordRow}
 use Rattle.fields.specs.BytesLaws.{number-same}
 use Rattle.limits.specs.Limits.{placeOk, rowOk}
-use Rattle.header.specs.Header.{cellsOf, stepsOf, sizeOf, bothVersions, lengthOk, cellsAndStepsOk, secondsOk}
+use Rattle.header.specs.Header.{cellsOf, stepsOf, sizeOf, bothVersions, lengthOk, cellsAndStepsOk, secondsOk, callerOk}
 use Rattle.reading.specs.Reading.{ReadAnswer, roadOf, startOf, stepOk}
 use Rattle.reading.specs.Reading.{refusedOf, acceptedOf, readingBy, readingOf}
 use Rattle.reading.specs.Found.{Found, read-found, early-refused}
 
 -- the refusals of reading one after the other, by their tests
-abbrev testsOf : Bool → Bool → Bool → Bool → Bool → Bool → Bool → ℕ → ℕ → ReadAnswer → ReadAnswer
-testsOf a b c d e f g place step x =
+abbrev testsOf : Bool → Bool → Bool → Bool → Bool → Bool → Bool → Bool → ℕ → ℕ → ReadAnswer → ReadAnswer
+testsOf a b c d e k f g place step x =
     unless a (refusedOf 1 0)
     (unless b (refusedOf 2 0)
     (unless c (refusedOf 3 0)
     (unless d (refusedOf 19 0)
     (unless e (refusedOf 4 0)
+    (unless k (refusedOf 26 0)
     (unless f (refusedOf 5 place)
-    (unless g (refusedOf 6 step) x))))))
+    (unless g (refusedOf 6 step) x)))))))
 
 -- where the last test alone differs and passes, the answers are equal
-passed : (a b c d e f g h : Bool) (place step step′ : ℕ) (x : ReadAnswer) → testsOf a b c d e f g place step x .number ≡ 0 → h ≡ true
-    → testsOf a b c d e f h place step′ x ≡ testsOf a b c d e f g place step x
-passed false b c d e f g h place step step′ x n k = absurd (omega arith)
-passed true false c d e f g h place step step′ x n k = absurd (omega arith)
-passed true true false d e f g h place step step′ x n k = absurd (omega arith)
-passed true true true false e f g h place step step′ x n k = absurd (omega arith)
-passed true true true true false f g h place step step′ x n k = absurd (omega arith)
-passed true true true true true false g h place step step′ x n k = absurd (omega arith)
-passed true true true true true true false h place step step′ x n k = absurd (omega arith)
-passed true true true true true true true h place step step′ x n k = rw k
+passed : (a b c d e k f g h : Bool) (place step step′ : ℕ) (x : ReadAnswer) → testsOf a b c d e k f g place step x .number ≡ 0 → h ≡ true
+    → testsOf a b c d e k f h place step′ x ≡ testsOf a b c d e k f g place step x
+passed false b c d e k f g h place step step′ x n l = absurd (omega arith)
+passed true false c d e k f g h place step step′ x n l = absurd (omega arith)
+passed true true false d e k f g h place step step′ x n l = absurd (omega arith)
+passed true true true false e k f g h place step step′ x n l = absurd (omega arith)
+passed true true true true false k f g h place step step′ x n l = absurd (omega arith)
+passed true true true true true false f g h place step step′ x n l = absurd (omega arith)
+passed true true true true true true false g h place step step′ x n l = absurd (omega arith)
+passed true true true true true true true false h place step step′ x n l = absurd (omega arith)
+passed true true true true true true true true h place step step′ x n l = rw l
 
 -- the bytes before the rows are the same
 module _ (s u : List ℕ) (head : (b : ℕ) → b < rowStart (versionOf s) (cellsOf s) 0 → at u b ≡ at s b) where
@@ -94,7 +96,7 @@ module _ (s u : List ℕ) (head : (b : ℕ) → b < rowStart (versionOf s) (cell
   reading-same size reads rows =
       rw (road-same, start-same, seconds, number 0 countSize (omega arith), version, cells, number stepsOffset shortSize (omega arith), size)
       (passed (lengthOk bothVersions s) (oneOf bothVersions (versionOf s)) (cellsAndStepsOk (cellsOf s) (stepsOf s)) (secondsOk (versionOf s) (secondsOf s))
-      (eqb (length s) (sizeOf (versionOf s) (cellsOf s) (stepsOf s)))
+      (eqb (length s) (sizeOf (versionOf s) (cellsOf s) (stepsOf s))) (callerOk mostCells mostBytes (cellsOf s) (length s))
       (allOf (placeOk (roadOf s) (startOf s)) (cellsOf s + 1)) (allOf (stepOk s (roadOf s)) (stepsOf s)) (allOf (stepOk u (roadOf s)) (stepsOf s))
       (firstOf (placeOk (roadOf s) (startOf s)) (cellsOf s + 1)) (firstOf (stepOk s (roadOf s)) (stepsOf s)) (firstOf (stepOk u (roadOf s)) (stepsOf s))
       (acceptedOf (stepsOf s) (roadOf s) (startOf s)) reads (all-true (stepOk u (roadOf s)) (stepsOf s) rows))

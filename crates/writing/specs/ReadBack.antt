@@ -26,7 +26,7 @@ use Rattle.limits.specs.LimitsLaws.{RoadOk, StateOk, RowOk, place-ok, row-ok}
 use Rattle.header.specs.Header.{cellsOf, stepsOf, sizeOf, bothVersions, leastSize, lengthOk, cellsAndStepsOk, secondsOk}
 use Rattle.reading.specs.Reading.{roadOf, startOf, stepOk}
 use Rattle.reading.specs.Reading.{acceptedOf, readingBy, readingOf}
-use Rattle.header.specs.HeaderLaws.{Counts, known-most, least-both}
+use Rattle.header.specs.HeaderLaws.{Counts, known-most, least-both, caller-full}
 use Rattle.putting.specs.Record.{recordSize, headerBytes, cellBytes, recordOf}
 use Rattle.putting.specs.Putting.{length-record}
 use Rattle.writing.specs.Cut.{cutOf, keptSeconds, cutRoad, cutState, kept-ok, cut-road, cut-state, cut-row}
@@ -224,5 +224,5 @@ module _ (a : Study) (ok : Recordable a) where
   pub reads-back : readingOf (recordOf a) ≡ acceptedOf (a .steps) (cutRoad (a .road)) (cutState (a .road .n) (startState (startIn (a .start))))
   unfolding readingBy
   reads-back =
-      rw (long-enough, known-read, counts-read, seconds-fit, size-read, places-read, steps-fit)
+      rw (long-enough, known-read, counts-read, seconds-fit, size-read, caller-full bothVersions s long-enough counts-read, places-read, steps-fit)
       (rw (road-read, start-read, steps-read))

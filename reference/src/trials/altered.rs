@@ -99,6 +99,7 @@ pub fn alter(case: &mut Case, dice: &mut Dice) {
         Case::Grant(input) => input.alter(dice),
         Case::Put(input) => input.alter(dice),
         Case::Join(input) => input.alter(dice),
+        Case::Within(input) => input.alter(dice),
     }
 }
 

@@ -6,6 +6,7 @@ use super::loads::LoadInput;
 use super::puts::PutInput;
 use super::streets::GrantInput;
 use super::wanted_queues::WantedInput;
+use super::within::WithinInput;
 use crate::fill::Laws;
 use crate::meter::Law;
 use crate::model::{Road, Start, State};
@@ -68,6 +69,7 @@ pub enum Case {
     Grant(GrantInput),
     Put(PutInput),
     Join(JoinInput),
+    Within(WithinInput),
 }
 
 /// What stepping takes.

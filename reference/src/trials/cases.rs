@@ -9,6 +9,7 @@ use super::loads::LoadInput;
 use super::puts::PutInput;
 use super::streets::GrantInput;
 use super::wanted_queues::WantedInput;
+use super::within::WithinInput;
 use crate::draft::Draft;
 use crate::model::Road;
 use crate::run;
@@ -136,6 +137,11 @@ impl Cases {
         assert!(counts.iter().all(|&count| count <= MAX_RECORD));
         assert!(input.length <= MAX_TARGET);
         self.list.push(Case::Join(input.clone()));
+    }
+
+    pub fn within(&mut self, input: &WithinInput) {
+        assert!(input.record.len() <= MAX_RECORD);
+        self.list.push(Case::Within(input.clone()));
     }
 
     /// These bytes read, run with a list of this length, and judged with a

@@ -10,6 +10,7 @@ pub mod puts;
 pub mod source;
 pub mod streets;
 pub mod wanted_queues;
+pub mod within;
 
 mod altered;
 mod cells;
@@ -71,5 +72,7 @@ pub fn all_cases() -> Vec<Case> {
     puts::add(&mut cases, &trials);
     // Group 15: two roads joined, refusals 20 to 22.
     joins::add(&mut cases, &trials);
+    // Group 16: a caller with its own limits, refusal 26.
+    within::add(&mut cases, &trials);
     cases.list
 }

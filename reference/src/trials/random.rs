@@ -18,12 +18,13 @@ use super::trial::Trial;
 use super::versions;
 use super::wanted_queues;
 use super::weights;
+use super::within;
 use super::writes;
 use crate::model::Road;
 use crate::record;
 
 pub fn case(dice: &mut Dice) -> Case {
-    match dice.upto(45) {
+    match dice.upto(47) {
         0..=6 => run(dice),
         7..=14 => judge(dice),
         15..=18 => Case::Step(Box::new(step(dice))),
@@ -40,6 +41,7 @@ pub fn case(dice: &mut Dice) -> Case {
         39 => Case::Grant(streets::random(dice)),
         40 | 41 => Case::Put(puts::random(trial(dice).record, dice)),
         42..=44 => Case::Join(join(dice)),
+        45 | 46 => Case::Within(within::random(trial(dice).record, dice)),
         _ => Case::Capacity {
             capacity: dice.any_size(u64::from(Road::MAX_RATE)) as u32,
             built: dice.bits() as u8,

@@ -57,6 +57,7 @@ fn is_short(case: &Case) -> bool {
         Case::Wanted(input) => 4 * input.arrivals.len(),
         Case::Grant(input) => 4 * input.wishes.len(),
         Case::Put(input) => input.record.len(),
+        Case::Within(input) => input.record.len(),
         Case::Join(input) => input.upstream.len() + input.downstream.len(),
     };
     bytes <= MAX_BYTES

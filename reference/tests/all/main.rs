@@ -6,6 +6,7 @@ mod closing;
 mod compare;
 mod edges;
 mod examples;
+mod exercising;
 mod filling;
 mod joining;
 mod laws_text;

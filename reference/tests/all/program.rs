@@ -207,3 +207,30 @@ fn a_run_under_the_lanes_of_a_file() {
     }
     assert_eq!(filled.stdout, draft.encode());
 }
+
+/// Twelve cells are too many for an exercise.
+#[test]
+fn an_exercise_of_a_file() {
+    let folder = Folder::new("exercise");
+    folder.file("road.rec", &record_of(EXAMPLE));
+    let [run, exercise] = ["run", "exercise"].map(|word| folder.reference(&[word, "road.rec"]));
+    assert!(exercise.status.success() && said(&exercise).is_empty());
+    assert_eq!(exercise.stdout, run.stdout);
+    let cell = "cell v 500 w 250 b 750 ramp 0 jam 8000 capacity 2000 held 2000 queue 0\n";
+    let first = EXAMPLE.lines().nth(3).unwrap();
+    assert_eq!(cell.trim_end(), first);
+    let wide = EXAMPLE.replace(first, cell.repeat(11).trim_end());
+    folder.file("wide.rec", &record_of(&wide.replace("ramp 2", "ramp 12")));
+    assert!(folder.reference(&["run", "wide.rec"]).status.success());
+    let refused = folder.reference(&["exercise", "wide.rec"]);
+    assert_eq!(refused.status.code(), Some(1));
+    assert_eq!(refused.stdout, b"refused 26 0 0\n");
+    assert!(said(&refused).starts_with("reference: refused 26 0 0: "));
+    for wrong in [
+        &["exercise", "road.rec", "more"][..],
+        &["compare", "--exercise"],
+        &["compare"],
+    ] {
+        assert_eq!(folder.reference(wrong).status.code(), Some(2));
+    }
+}

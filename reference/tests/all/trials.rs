@@ -4,7 +4,7 @@ use crate::support::*;
 use reference::join::join;
 use reference::print::printed_schedule;
 use reference::put::put;
-use reference::record::read;
+use reference::record::{read, read_within};
 use reference::street::grant;
 use reference::text::schedule_of;
 use reference::trials::all_cases;
@@ -86,6 +86,7 @@ fn answered(case: &Case) -> (&'static str, u32) {
             let written = join(&x.upstream, &x.downstream, x.share, &mut target);
             ("join", written.number)
         }
+        Case::Within(x) => ("read within", read_within(&x.record, x.caller()).number),
     }
 }
 
@@ -116,7 +117,7 @@ fn the_first_cases_are_those_of_the_printed_run() {
 #[test]
 fn there_are_enough_cases_of_each_kind() {
     let cases = made();
-    assert_eq!(cases.len(), 12_977);
+    assert_eq!(cases.len(), 14_611);
     for (kind, least) in [
         ("read", 400),
         ("step", 400),
@@ -133,6 +134,7 @@ fn there_are_enough_cases_of_each_kind() {
         ("grant", 800),
         ("put", 500),
         ("join", 700),
+        ("read within", 1_500),
     ] {
         assert!(count(cases, kind, None) >= least, "{kind}");
     }
@@ -185,6 +187,8 @@ fn every_refusal_occurs(cases: &[Case]) {
     assert_eq!(found("put"), (0..=6).chain([19]).collect());
     let join = (0..=6).chain([15]).chain(19..=22).collect();
     assert_eq!(found("join"), join);
+    let within = (0..=6).chain([19, 26]).collect();
+    assert_eq!(found("read within"), within);
 }
 
 #[test]

@@ -1,4 +1,4 @@
--- `reading::read` meets its contract. Each return, by the tests on the way to it. Assumes nothing.
+-- `reading::read_within` meets its contract. Each return, by the tests on the way to it. Assumes nothing.
 use borrow.Author.Tests.{not-true, not-false}
 use mathlib.Core.Path.{_≡_, sym, ap, _∙_}
 use mathlib.Core.Bool.{true}
@@ -9,12 +9,14 @@ use Rattle.numbers.specs.First.{oneOf}
 use Rattle.fields.specs.Fields.{versionOf, secondsOf, headerSize}
 use Rattle.header.specs.Header.{bothVersions, lengthOk, cellsAndStepsOk, secondsOk, sizeOf}
 use Rattle.header.specs.HeaderLaws.{length-facts, counts-facts, size-small}
+use Rattle.reading.specs.Headers.{Header}
 use Rattle.reading.specs.ReadingLaws.{Opened, header-passed}
-use Rattle.reading.specs.ReadingLaws.{answer-length, answer-version, answer-counts, answer-seconds, answer-size}
+use Rattle.reading.specs.ReadingLaws.{answer-length, answer-version, answer-counts, answer-seconds, answer-size, answer-caller}
+use Rattle.reading.specs.Caller.{answer-within}
 use native.Mathlib.Omega.{arith}
 use borrow.Author.Needs.{needs}
-use Rattle.reading.proofs.read.Statement.{statement}
-use Rattle.reading.proofs.read.Tie as tie
+use Rattle.reading.proofs.read_within.Statement.{statement}
+use Rattle.reading.proofs.read_within.Tie as tie
 
 -- the arguments, from the length's test; the places past the tests of the length, the version, the counts and the seconds, each from a later one
 abbrev A : tie.After-length-within → tie.Start
@@ -38,12 +40,18 @@ Counts c = c .before .before
 abbrev Seconds : tie.After-row-start → tie.Else4
 Seconds c = c .before
 
--- the record, from the version, and from the counts' test
+-- the arguments and the record, from the version, and from the counts' test
+abbrev Args : tie.After-version → tie.Start
+Args c = A (Length c .before)
+
 abbrev Of : tie.After-version → List ℕ
-Of c = A (Length c .before) .args .bytes .now
+Of c = Args c .args .bytes .now
+
+abbrev ArgsIn : tie.Else3 → tie.Start
+ArgsIn c = Args (Version (Known (T c) .before))
 
 abbrev In : tie.Else3 → List ℕ
-In c = Of (Version (Known (T c) .before))
+In c = ArgsIn c .args .bytes .now
 
 -- what is known past each test
 lengthy : (c : tie.Else1) → lengthOk bothVersions (A (c .before) .args .bytes .now) ≡ true
@@ -86,11 +94,20 @@ size c =
     let v = Version (Known (T d) .before) in
     c .row-start .ensures ∙ ap (λ (x : ℕ). sizeOf x (T d .before .number .result) (T d .number2 .result)) (v .version .ensures)
 
+passed : (c : tie.Else5) →
+    let d = Counts (Seconds (c .before) .before) in
+    Header (In d) (T d .before .number .result) (T d .number2 .result)
+passed c =
+    let z = c .before in
+    let d = Counts (Seconds z .before) in
+    header-passed (opened (T d)) (counted d) (timed (Seconds z)) (size z) (c .if5 .left)
+
 returns : tie.Need-returns
 returns c =
     let t = c .before in
     let w = t .before in
-    answer-length (A w .args .bytes .now) (sym (w .length-within .ensures) ∙ not-true _ (t .if1 .taken)) (c .refused .ensures)
+    let a = A w .args in
+    answer-length (a .cells) (a .most) (a .bytes .now) (sym (w .length-within .ensures) ∙ not-true _ (t .if1 .taken)) (c .refused .ensures)
 
 version-requires : tie.Need-version-requires
 version-requires c κs = let l = long c in search needs
@@ -99,7 +116,8 @@ returns-2 : tie.Need-returns-2
 returns-2 c =
     let t = c .before in
     let k = t .before in
-    answer-version _ (lengthy (Length (Version k))) (sym (known k) ∙ not-true _ (t .if2 .taken)) (c .refused2 .ensures)
+    let a = Args (Version k) .args in
+    answer-version (a .cells) (a .most) _ (lengthy (Length (Version k))) (sym (known k) ∙ not-true _ (t .if2 .taken)) (c .refused2 .ensures)
 
 number-requires : tie.Need-number-requires
 number-requires c κs = let l = long (Length (Version (c .before))) in search needs
@@ -111,7 +129,8 @@ returns-3 : tie.Need-returns-3
 returns-3 c =
     let t = c .before in
     let w = t .before in
-    answer-counts (opened (w .before)) (sym (w .cells-and-steps-within .ensures) ∙ not-true _ (t .if3 .taken)) (c .refused3 .ensures)
+    let a = Args (Version (Known (w .before) .before)) .args in
+    answer-counts (a .cells) (a .most) (opened (w .before)) (sym (w .cells-and-steps-within .ensures) ∙ not-true _ (t .if3 .taken)) (c .refused3 .ensures)
 
 seconds-requires : tie.Need-seconds-requires
 seconds-requires c κs = long (Length (Version (Known (T c) .before)))
@@ -120,7 +139,8 @@ returns-4 : tie.Need-returns-4
 returns-4 c =
     let t = c .before in
     let w = t .before in
-    answer-seconds (opened (T (Counts w))) (counted (Counts w)) (sym (tested w) ∙ not-true _ (t .if4 .taken)) (c .refused4 .ensures)
+    let a = ArgsIn (Counts w) .args in
+    answer-seconds (a .cells) (a .most) (opened (T (Counts w))) (counted (Counts w)) (sym (tested w) ∙ not-true _ (t .if4 .taken)) (c .refused4 .ensures)
 
 row-start-requires : tie.Need-row-start-requires
 row-start-requires c κs =
@@ -133,19 +153,33 @@ returns-5 c =
     let t = c .before in
     let z = t .before in
     let d = Counts (Seconds z .before) in
-    answer-size (opened (T d)) (counted d) (timed (Seconds z)) (size z) (t .if5 .taken) (c .refused5 .ensures)
+    let a = ArgsIn d .args in
+    answer-size (a .cells) (a .most) (opened (T d)) (counted d) (timed (Seconds z)) (size z) (t .if5 .taken) (c .refused5 .ensures)
+
+returns-6 : tie.Need-returns-6
+returns-6 c =
+    let t = c .before in
+    let w = t .before in
+    let e = w .before in
+    let a = ArgsIn (Counts (Seconds (e .before) .before)) .args in
+    answer-caller (a .cells) (a .most) (passed e) (sym (w .caller-within .ensures) ∙ not-true _ (t .if6 .taken)) (c .refused6 .ensures)
 
 body-requires : tie.Need-body-requires
-body-requires c κs =
-    let z = c .before in
-    let d = Counts (Seconds z .before) in
-    header-passed (opened (T d)) (counted d) (timed (Seconds z)) (size z) (c .if5 .left)
+body-requires c κs = passed (c .before .before)
 
-pub read-spec : {M : Type 1} → statement M
-read-spec =
+returns-7 : tie.Need-returns-7
+returns-7 c =
+    let l = c .before in
+    let w = l .before in
+    let e = w .before in
+    let a = ArgsIn (Counts (Seconds (e .before) .before)) .args in
+    answer-within (a .cells) (a .most) (passed e) (sym (w .caller-within .ensures) ∙ not-false _ (l .if6 .left)) (c .body .ensures)
+
+pub read-within-spec : {M : Type 1} → statement M
+read-within-spec =
     tie.close
     (tie.spec
     (λ c κs. search needs) (λ c κs. search needs) returns version-requires (λ c κs. search needs) (λ c κs. search needs) returns-2
     number-requires (λ c. search needs) number-requires-2 (λ c. search needs) (λ c κs. search needs) (λ c κs. search needs) returns-3
-    seconds-requires (λ c κs. search needs) (λ c κs. search needs) returns-4 row-start-requires (λ c κs. search needs) returns-5 body-requires
-    (λ c. search needs))
+    seconds-requires (λ c κs. search needs) (λ c κs. search needs) returns-4 row-start-requires (λ c κs. search needs) returns-5
+    (λ c κs. search needs) (λ c κs. search needs) returns-6 body-requires returns-7)

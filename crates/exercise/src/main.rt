@@ -1,0 +1,15 @@
+// The program for exercises: as `ctm`, for records of at most 8 cells and 4,096 bytes; more is refusal 26.
+use road::Road;
+
+const CELLS: usize = 8;
+
+const BYTES: usize = 4096;
+
+// One byte more than any record may have is read, so that refusal 1 is told as `ctm` tells it.
+fn main() {
+    let mut bytes = [0u8; Road::BYTES + 1];
+    let size = io::read_full(0, &mut bytes);
+    let mut text = printing::room();
+    let end = printing::printed_within(&bytes[..size], CELLS, BYTES, &mut text);
+    io::write_all(1, &text[..end]);
+}
