@@ -1,4 +1,4 @@
-/* Calls the operations on lent lists, and reading for a caller with limits of its own, by numbers worked out on paper: cc lists.c libexports.a && ./a.out */
+/* Calls the operations on lent lists, reading for a caller with limits of its own, and the leaves, by numbers worked out on paper: cc lists.c libexports.a && ./a.out */
 #include "nobyaluk.h"
 #include <stdio.h>
 #include <string.h>
@@ -65,12 +65,36 @@ static void joins(const uint8_t *record, size_t bytes) {
     hold("nothing beyond", target[220] == 7 && !memcmp(target + 16 + 48 + 24, second + 16 + 24, 24));
 }
 
+/* the rules of one place (docs/MODEL.md), of numbers out of their limits too */
+static void rules(void) {
+    hold("demands", nobyaluk_demand(500, 2000, 2566) == 1283 && nobyaluk_gate_demand(2000, 3000) == 2000 && nobyaluk_gate_demand(2000, 1) == 1);
+    hold("room", nobyaluk_supply(250, 2000, 8000, 2566) == 1358 && nobyaluk_room(1358, 300) == 1058 && nobyaluk_room(300, 1358) == 0);
+    hold("onward", nobyaluk_onward(750, 934) == 700 && nobyaluk_entering(750, 934, 933) == 700 && nobyaluk_onward(65535, 4294967295u) == 281470681677u);
+    hold("outflow", nobyaluk_outflow(750, 934, 700, 1283) == 933 && nobyaluk_outflow_by_halves(750, 934, 700, 1283) == 933);
+    hold("open lanes", nobyaluk_open_capacity(1000, 7, 6) == 666);
+}
+
+/* the printed run's states before step 0 and after its last, and one of its rows */
+static void counts(const uint8_t *record, size_t bytes) {
+    static uint32_t out[9];
+    nobyaluk_reading r = nobyaluk_read(record, bytes);
+    hold("present", nobyaluk_present(r.road, r.state) == 10500 && nobyaluk_on_road(r.road, r.state) == 6000 && nobyaluk_at_ramps(r.road, r.state) == 1500);
+    nobyaluk_ended e = nobyaluk_run(record, bytes, NULL, 0, out, 9);
+    hold("at the end", nobyaluk_present(e.road, e.state) == e.present && nobyaluk_exits(e.road, e.state) == 3701 && e.exits == 3701);
+    hold("vehicle-seconds", nobyaluk_vehicle_seconds(20, e.state) == 661 && nobyaluk_vehicle_seconds(0, e.state) == 0);
+    nobyaluk_row_answer row = nobyaluk_row(record, bytes, 2, 2);
+    hold("a row", row.numbers[0] == 1000 && row.numbers[3] == 500 && row.numbers[4] == 300 && row.numbers[5] == 0);
+    hold("no row", nobyaluk_row(record, bytes, 2, 3).numbers[0] == 0 && nobyaluk_row(record, bytes, 65, 0).numbers[0] == 0);
+}
+
 int main(void) {
     static uint8_t record[NOBYALUK_BYTES];
     size_t bytes = fread(record, 1, sizeof record, stdin);
     loads();
     wants();
     grants();
+    rules();
+    counts(record, bytes);
     joins(record, bytes);
     puts_release(record, bytes);
     return wrong;

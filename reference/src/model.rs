@@ -163,6 +163,11 @@ pub fn cell_supply(w: u16, capacity: u32, jam: u32, held: u32) -> u64 {
     u64::from(capacity).min(u64::from(w) * u64::from(jam.saturating_sub(held)) / 1_000)
 }
 
+/// Room of a cell: supply less release; 0 for a release above the supply.
+pub fn room(supply: u64, release: u64) -> u64 {
+    supply.saturating_sub(release)
+}
+
 /// Onward total of a place: share * F / 1000 rounded down.
 pub fn onward_total(share: u64, f: u64) -> u64 {
     share * f / 1_000

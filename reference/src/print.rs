@@ -54,14 +54,15 @@ pub fn printed_with_answer(record: &[u8], table: &[u8]) -> (String, Answer) {
     }
     put(&mut out, format_args!("{}\n", sums(&answer)));
     if answer.road.version == 2 {
-        put(&mut out, format_args!("seconds {}\n", seconds(&answer)));
+        let time = vehicle_seconds(answer.state.total(), answer.road.seconds);
+        put(&mut out, format_args!("seconds {time}\n"));
     }
     (out, answer)
 }
 
-/// Total time spent in whole vehicle-seconds, rounded down.
-fn seconds(answer: &Answer) -> u128 {
-    answer.state.total() * u128::from(answer.road.seconds) / 1_000
+/// A total in whole vehicle-seconds, rounded down.
+pub fn vehicle_seconds(total: u128, seconds: u16) -> u128 {
+    total * u128::from(seconds) / 1_000
 }
 
 /// The rows that running writes, as the text of a schedule: a line a step.

@@ -89,7 +89,7 @@ pub fn release_fault(road: &Road, state: &State, row: &[u32]) -> Option<(u32, us
 
 /// What may enter a cell from upstream: supply less release. The release fits.
 pub fn room(road: &Road, state: &State, row: &[u32], cell: usize) -> u64 {
-    model::supply(road, state, cell) - model::release(row, cell)
+    model::room(model::supply(road, state, cell), model::release(row, cell))
 }
 
 /// The greatest outflow of every place, gate first. The releases fit.

@@ -212,11 +212,7 @@ impl Freeway for Engine {
     }
 
     fn row(&self, record: &[u8], n: usize, step: usize) -> Row {
-        let mut row = [0; Road::MAX_ROW];
-        if let Some(numbers) = nobyaluk::row(record, n, step) {
-            row[..numbers.len()].copy_from_slice(&numbers);
-        }
-        row
+        nobyaluk::row_numbers(record, n, step).numbers
     }
 
     fn wish(&self, law: &LawInput, last: u32, entered: u32, held: u32) -> f64 {
@@ -228,20 +224,60 @@ impl Freeway for Engine {
         nobyaluk::release(wish, cap)
     }
 
+    fn present(&self, road: &Road, state: &State) -> u64 {
+        nobyaluk::present(road_for(road), state_for(*state))
+    }
+
+    fn on_road(&self, road: &Road, state: &State) -> u64 {
+        nobyaluk::on_road(road_for(road), state_for(*state))
+    }
+
+    fn at_ramps(&self, road: &Road, state: &State) -> u64 {
+        nobyaluk::at_ramps(road_for(road), state_for(*state))
+    }
+
     fn weighted(&self, road: &Road, state: &State, weights: &Weights) -> u64 {
         nobyaluk::weighted(road_for(road), state_for(*state), weights_for(weights))
+    }
+
+    fn exits(&self, road: &Road, state: &State) -> u64 {
+        nobyaluk::exits(road_for(road), state_for(*state))
+    }
+
+    fn vehicle_seconds(&self, seconds: u16, state: &State) -> u64 {
+        nobyaluk::vehicle_seconds(seconds, state_for(*state))
     }
 
     fn demand(&self, speed: u16, capacity: u32, held: u32) -> u32 {
         nobyaluk::demand(speed, capacity, held)
     }
 
+    fn gate_demand(&self, capacity: u32, queue: u32) -> u32 {
+        nobyaluk::gate_demand(capacity, queue)
+    }
+
     fn supply(&self, wave: u16, capacity: u32, jam: u32, held: u32) -> u32 {
         nobyaluk::supply(wave, capacity, jam, held)
     }
 
+    fn room(&self, supply: u32, release: u32) -> u32 {
+        nobyaluk::room(supply, release)
+    }
+
+    fn onward(&self, share: u16, cumulative: u32) -> u64 {
+        nobyaluk::onward(share, cumulative)
+    }
+
+    fn entering(&self, share: u16, cumulative: u32, outflow: u32) -> u64 {
+        nobyaluk::entering(share, cumulative, outflow)
+    }
+
     fn outflow(&self, share: u16, cumulative: u32, room: u32, demand: u32) -> u32 {
         nobyaluk::outflow(share, cumulative, room, demand)
+    }
+
+    fn outflow_by_halves(&self, share: u16, cumulative: u32, room: u32, demand: u32) -> u32 {
+        nobyaluk::outflow_by_halves(share, cumulative, room, demand)
     }
 
     fn open_capacity(&self, capacity: u32, built: u8, open: u8) -> u32 {

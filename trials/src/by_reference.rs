@@ -13,14 +13,19 @@ use reference::trials::case::LawInput;
 use reference::wanted::{self, Asked, Wanted};
 use reference::weigh::{self, Weights};
 use reference::write::{self, Written};
-use reference::{fill, judge, lanes, meter, run};
+use reference::{fill, judge, lanes, meter, print, run};
 
 pub struct Reference;
+
+/// A number as 64 bits hold it, the greatest where it is above them.
+fn within_64_bits(number: u128) -> u64 {
+    u64::try_from(number).unwrap_or(u64::MAX)
+}
 
 fn ended(answer: Answer) -> Ended {
     let Answer { road, state, .. } = &answer;
     Ended {
-        total: u64::try_from(state.total()).unwrap_or(u64::MAX),
+        total: within_64_bits(state.total()),
         present: model::present(road, state),
         exits: model::exits(road, state),
         answer,
@@ -118,21 +123,64 @@ impl Freeway for Reference {
         meter::release(wish, cap)
     }
 
+    fn present(&self, road: &Road, state: &State) -> u64 {
+        model::present(road, state)
+    }
+
+    fn on_road(&self, road: &Road, state: &State) -> u64 {
+        model::all_held(road, state)
+    }
+
+    fn at_ramps(&self, road: &Road, state: &State) -> u64 {
+        model::all_queues(road, state)
+    }
+
     fn weighted(&self, road: &Road, state: &State, weights: &Weights) -> u64 {
         weigh::present(road, state, weights)
+    }
+
+    fn exits(&self, road: &Road, state: &State) -> u64 {
+        model::exits(road, state)
+    }
+
+    fn vehicle_seconds(&self, seconds: u16, state: &State) -> u64 {
+        let total = within_64_bits(state.total());
+        within_64_bits(print::vehicle_seconds(u128::from(total), seconds))
     }
 
     fn demand(&self, speed: u16, capacity: u32, held: u32) -> u32 {
         model::cell_demand(speed, capacity, held) as u32
     }
 
+    fn gate_demand(&self, capacity: u32, queue: u32) -> u32 {
+        model::gate_demand(capacity, queue) as u32
+    }
+
     fn supply(&self, wave: u16, capacity: u32, jam: u32, held: u32) -> u32 {
         model::cell_supply(wave, capacity, jam, held) as u32
+    }
+
+    fn room(&self, supply: u32, release: u32) -> u32 {
+        model::room(u64::from(supply), u64::from(release)) as u32
+    }
+
+    fn onward(&self, share: u16, cumulative: u32) -> u64 {
+        model::onward_total(u64::from(share), u64::from(cumulative))
+    }
+
+    fn entering(&self, share: u16, cumulative: u32, outflow: u32) -> u64 {
+        let [f, outflow] = [cumulative, outflow].map(u64::from);
+        model::entering(u64::from(share), f, outflow)
     }
 
     fn outflow(&self, share: u16, cumulative: u32, room: u32, demand: u32) -> u32 {
         let [share, f] = [u64::from(share), u64::from(cumulative)];
         model::greatest_outflow(share, f, u64::from(demand), u64::from(room)) as u32
+    }
+
+    /// The reference has one way to find it.
+    fn outflow_by_halves(&self, share: u16, cumulative: u32, room: u32, demand: u32) -> u32 {
+        self.outflow(share, cumulative, room, demand)
     }
 
     fn open_capacity(&self, capacity: u32, built: u8, open: u8) -> u32 {

@@ -64,12 +64,24 @@ pub trait Freeway {
     fn row(&self, record: &[u8], n: usize, step: usize) -> Row;
     fn wish(&self, law: &LawInput, last: u32, entered: u32, held: u32) -> f64;
     fn release(&self, wish: f64, cap: u32) -> u32;
+    /// What a state holds, of a road of at most 64 cells.
+    fn present(&self, road: &Road, state: &State) -> u64;
+    fn on_road(&self, road: &Road, state: &State) -> u64;
+    fn at_ramps(&self, road: &Road, state: &State) -> u64;
     /// Present, each place and ramp queue times its weight.
     fn weighted(&self, road: &Road, state: &State, weights: &Weights) -> u64;
+    /// What has left, of a road within its limits.
+    fn exits(&self, road: &Road, state: &State) -> u64;
+    fn vehicle_seconds(&self, seconds: u16, state: &State) -> u64;
     /// The flow rules of a place within its limits.
     fn demand(&self, speed: u16, capacity: u32, held: u32) -> u32;
+    fn gate_demand(&self, capacity: u32, queue: u32) -> u32;
     fn supply(&self, wave: u16, capacity: u32, jam: u32, held: u32) -> u32;
+    fn room(&self, supply: u32, release: u32) -> u32;
+    fn onward(&self, share: u16, cumulative: u32) -> u64;
+    fn entering(&self, share: u16, cumulative: u32, outflow: u32) -> u64;
     fn outflow(&self, share: u16, cumulative: u32, room: u32, demand: u32) -> u32;
+    fn outflow_by_halves(&self, share: u16, cumulative: u32, room: u32, demand: u32) -> u32;
     fn open_capacity(&self, capacity: u32, built: u8, open: u8) -> u32;
     fn load(&self, seed: u32, peak: u32, list: &mut [u32]) -> Loaded;
     fn wanted(&self, asked: Asked, table: &mut [u32]) -> Wanted;

@@ -238,6 +238,13 @@ pub fn answer(freeway: &impl Freeway, case: &Case) -> Whole {
                 weights,
             } = &**input;
             whole.put("weighted", [freeway.weighted(road, state, weights)]);
+            whole.put(
+                "vehicle-seconds",
+                [freeway.vehicle_seconds(road.seconds, state)],
+            );
+            if road.n <= Road::MAX_CELLS {
+                present(freeway, road, state, &mut whole);
+            }
         }
         Case::Load(input) => load(freeway, input, &mut whole),
         Case::Wanted(input) => wanted(freeway, input, &mut whole),
@@ -295,7 +302,15 @@ fn history(
     whole.put_lent("queues after each step", queue);
 }
 
-/// A step, and unless its road or state is out of its limits the rules of each place.
+/// What a state holds, and its parts on the road and at the ramps.
+fn present(freeway: &impl Freeway, road: &Road, state: &State, whole: &mut Whole) {
+    whole.put("present", [freeway.present(road, state)]);
+    whole.put("on the road", [freeway.on_road(road, state)]);
+    whole.put("at the ramps", [freeway.at_ramps(road, state)]);
+}
+
+/// A step, and unless its road or state is out of its limits the rules of each place and
+/// what the state holds.
 fn step(freeway: &impl Freeway, input: &StepInput, whole: &mut Whole) {
     let StepInput {
         road,
@@ -316,12 +331,27 @@ fn step(freeway: &impl Freeway, input: &StepInput, whole: &mut Whole) {
         return;
     }
     let cells = 0..road.n.min(Road::MAX_CELLS);
+    let (b, f) = (&road.b, &state.f);
     let demand = |i: usize| freeway.demand(road.v[i], road.capacity[i], state.held[i]);
     let supply = |i: usize| freeway.supply(road.w[i], road.capacity[i], road.jam[i], state.held[i]);
-    let outflow = |i: usize| freeway.outflow(road.b[i], state.f[i], supply(i), demand(i));
+    let outflow = |i: usize| freeway.outflow(b[i], f[i], supply(i), demand(i));
+    let by_halves = |i: usize| freeway.outflow_by_halves(b[i], f[i], supply(i), demand(i));
+    let room = |i: usize| freeway.room(supply(i), row[2 * i + 2]);
+    let onward = |i: usize| freeway.onward(b[i], f[i]);
+    let entering = |i: usize| freeway.entering(b[i], f[i], outflow(i));
+    let gate_demand = freeway.gate_demand(road.gate_capacity, state.gate_queue);
     whole.put("demand", cells.clone().map(demand));
     whole.put("supply", cells.clone().map(supply));
-    whole.put("outflow", cells.map(outflow));
+    whole.put("outflow", cells.clone().map(outflow));
+    whole.put("outflow by halves", cells.clone().map(by_halves));
+    whole.put("room", cells.clone().map(room));
+    whole.put("onward", cells.clone().map(onward));
+    whole.put("entering", cells.map(entering));
+    whole.put("gate demand", [gate_demand]);
+    present(freeway, road, state, whole);
+    whole.put("exits", [freeway.exits(road, state)]);
+    let time = freeway.vehicle_seconds(road.seconds, state);
+    whole.put("vehicle-seconds", [time]);
 }
 
 fn write(freeway: &impl Freeway, input: &WriteInput, whole: &mut Whole) {

@@ -92,21 +92,19 @@ class Walk:
         return self._row[2::2]
 
     def run(self, weights: tuple[Any, Any] | None = None) -> Run:
-        """The run of the steps done, with the states' own numbers; exits are what has come and is not present."""
+        """The run of the steps done, with the states' own numbers."""
         record, n = self.record, self.record.road.n
         s = np.frombuffer(b"".join(self.states), _STATE)
         cumulative = np.column_stack([s["gate_cumulative"], s["cumulative"][:, :n]])
         outflow = np.diff(cumulative, axis=0, prepend=np.zeros((1, n + 1), np.uint32))
         held = np.column_stack([s["gate_queue"], s["held"][:, :n]])
         queue = np.column_stack([np.zeros(len(s), np.uint32), s["queue"][:, :n]])
-        ones = [1] * (n + 1), [1] * n
-        present = engine.weighted(record.road, self.state, *ones)
-        came = engine.weighted(record.road, record.start, *ones) + int(self.rows[:, 0].sum()) + int(self.rows[:, 1::2].sum())
         end = self.state
+        present, exits = engine.present(record.road, end), engine.exits(record.road, end)
         weighted = sum(engine.weighted(record.road, State.from_buffer_copy(x), *weights) for x in self.states) if weights else None
         filled = LongRecord(record.road, record.start, self.rows)
         total = end.gate_time + end.road_time + end.ramp_time
-        return Run(filled, self.lanes, outflow, end, total, present, came - present, weighted, (held, queue))
+        return Run(filled, self.lanes, outflow, end, total, present, exits, weighted, (held, queue))
 
 
 def run(record: Held, lanes: bytes = b"", weights: tuple[Any, Any] | None = None) -> Run:

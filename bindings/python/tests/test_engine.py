@@ -41,6 +41,43 @@ def test_the_starred_edges():
     assert engine.open_capacity(1000, 0b111, 0b110) == 666
 
 
+def test_a_step_by_its_rules(printed):
+    """Step 1 of the printed run, place by place: the gate into cell 1, cell 1 into cell 2, and out of the road."""
+    road, row = printed.road, printed.rows[1]
+    state = engine.step(road, printed.start, printed.rows[0])
+    rooms = [engine.room(engine.supply(road.wave[i], road.capacity[i], road.jam[i], state.held[i]), int(row[2 * i + 2])) for i in range(2)]
+    demands = [engine.gate_demand(road.gate_capacity, state.gate_queue)] + [engine.demand(road.speed[i], road.capacity[i], state.held[i]) for i in range(2)]
+    assert (demands, rooms) == ([2000, 1283, 1000], [1358, 700])
+    places = [(1000, state.gate_cumulative), (road.share[0], state.cumulative[0])]
+    sent = [engine.outflow(share, f, room, most) for (share, f), room, most in zip(places, rooms, demands)]
+    assert sent == [engine.outflow_by_halves(share, f, room, most) for (share, f), room, most in zip(places, rooms, demands)] == [1358, 933]
+    assert [engine.entering(share, f, y) for (share, f), y in zip(places, sent)] == [1358, 700]
+    assert [engine.onward(share, f) for share, f in places] == [1500, 700]  # 750 thousandths of 934 are 700.5
+    assert sent + demands[2:] == nobyaluk.run(printed).outflow[1].tolist()
+    assert engine.room(300, 301) == 0 and engine.entering(750, 934, 934) == 701
+
+
+def test_what_a_state_holds(printed):
+    run = engine.run(printed)
+    start, end, road = printed.start, run.state, printed.road
+    assert (engine.present(road, start), engine.on_road(road, start), engine.at_ramps(road, start), engine.exits(road, start)) == (10500, 6000, 1500, 0)
+    assert engine.present(road, end) == run.present == end.gate_queue + engine.on_road(road, end) + engine.at_ramps(road, end)
+    assert engine.exits(road, end) == run.exits == 3701
+    came = int(printed.rows[:, 0].sum() + printed.rows[:, 1::2].sum())
+    assert engine.present(road, start) + came == run.present + run.exits
+    assert [engine.vehicle_seconds(seconds, end) for seconds in (0, 1, 20, 900)] == [0, 33, 661, 29788]
+    full = engine.State(gate_time=2**64 - 1, road_time=1)
+    assert [engine.vehicle_seconds(seconds, full) for seconds in (1, 1000, 65535)] == [(2**64 - 1) // 1000, 2**64 - 1, 2**64 - 1]
+
+
+def test_one_row(printed):
+    assert [engine.row(printed.data, 2, k).tolist() for k in range(3)] == printed.rows.tolist()
+    assert engine.row(printed.data, 2, 3).tolist() == [0] * 5 and engine.row(b"", 64, 1439).size == 129
+    for n, step in ((65, 0), (2, 1440), (-1, 0), (2, 1 << 64)):
+        with pytest.raises(ValueError):
+            engine.row(printed.data, n, step)
+
+
 def test_read_edit_write(printed):
     assert printed.rows.tolist() == [[1000, 0, 0, 500, 300]] * 3
     assert engine.write(printed.road, printed.begin, printed.rows).data == printed.data
@@ -155,8 +192,9 @@ def test_refusals_have_words(examples):
 
 
 def test_what_is_no_number_of_its_kind():
-    for call in (lambda: engine.demand(-1, 0, 0), lambda: engine.load(1 << 32, 1, 1), lambda: engine.wanted(0, 0, 0, [-1]), lambda: engine.grant(1, [1.5], [1]),
-                 lambda: engine.join(b"", b"", 1 << 16)):
+    for call in (lambda: engine.demand(-1, 0, 0), lambda: engine.room(1, 1 << 32), lambda: engine.onward(1 << 16, 0),
+                 lambda: engine.vehicle_seconds(-1, engine.State()), lambda: engine.load(1 << 32, 1, 1), lambda: engine.wanted(0, 0, 0, [-1]),
+                 lambda: engine.grant(1, [1.5], [1]), lambda: engine.join(b"", b"", 1 << 16)):
         with pytest.raises((ValueError, TypeError)):
             call()
 

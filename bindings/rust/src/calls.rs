@@ -1,8 +1,8 @@
 //! The operations with lists of their own: what is wanted, or the refusal.
 
 use crate::lent::{
-    fill_into, grant_into, history_into, join_into, load_into, put_into, read, rows_into, run_into,
-    run_weighted_into, wanted_into, write_into,
+    fill_into, grant_into, history_into, join_into, load_into, put_into, read, row_numbers,
+    rows_into, run_into, run_weighted_into, wanted_into, write_into,
 };
 use crate::refused::Refused;
 use crate::types::{Ended, Law, Reading, Road, Start, Weights, BYTES, CELLS, STEPS};
@@ -91,15 +91,12 @@ pub fn rows(record: &[u8]) -> Result<Vec<u32>, Refused> {
 }
 
 /// One row of any bytes, taken as a record of n cells, whether it reads or not; a number past their end is 0. None where n is
-/// above 64 or the step not below 1,440. The boundary has rows from the first on: this is the last of them.
+/// above 64 or the step not below 1,440.
 pub fn row(record: &[u8], n: usize, step: usize) -> Option<Vec<u32>> {
     if n > CELLS || step >= STEPS {
         return None;
     }
-    let width = 1 + 2 * n;
-    let mut list = vec![0; (step + 1) * width];
-    rows_into(record, n, step + 1, &mut list);
-    Some(list.split_off(step * width))
+    Some(row_numbers(record, n, step).numbers[..1 + 2 * n].to_vec())
 }
 
 /// A stated load: its arrivals, and the last number, from which a longer load goes on.

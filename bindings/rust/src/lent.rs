@@ -3,8 +3,8 @@
 // Every `unsafe` below passes pointers and counts of slices that live through the call; what is written is borrowed mutably.
 use crate::raw;
 use crate::types::{
-    Ended, Granted, Lanes, Law, Loaded, Reading, Released, Road, Start, State, Stepped, Wanted,
-    Weighed, Weights, Written,
+    Ended, Granted, Lanes, Law, Loaded, Reading, Released, Road, Row, Start, State, Stepped,
+    Wanted, Weighed, Weights, Written,
 };
 
 /// The linked library's [`VERSION`](crate::VERSION).
@@ -186,6 +186,12 @@ pub fn rows_into(record: &[u8], n: usize, steps: usize, list: &mut [u32]) -> usi
     }
 }
 
+/// The numbers of one row, of any bytes as a record of n cells: 0 for each that they do not hold, and all 0 where n is above 64 or
+/// the step not below 1,440. [`row`](crate::row) gives those of the n cells alone.
+pub fn row_numbers(record: &[u8], n: usize, step: usize) -> Row {
+    unsafe { raw::nobyaluk_row(record.as_ptr(), record.len(), n, step) }
+}
+
 /// Fills a list with the arrivals of a seed and a peak.
 #[must_use = "it may be a refusal: `ok()`"]
 pub fn load_into(seed: u32, peak: u32, list: &mut [u32]) -> Loaded {
@@ -280,9 +286,48 @@ pub fn step(road: Road, state: State, row: &[u32], lanes: Lanes) -> Stepped {
     unsafe { raw::nobyaluk_step(road, state, row.as_ptr(), row.len(), lanes) }
 }
 
+/// What is present in any road and state: the gate's queue, all held counts and all ramp queues together.
+///
+/// ```
+/// use nobyaluk::{at_ramps, exits, on_road, present, read, run, vehicle_seconds};
+/// let record = std::fs::read("../../examples/printed-run.rec")?;
+/// let start = read(&record).ok()?;
+/// let (road, state) = (start.road, start.state);
+/// assert_eq!((on_road(road, state), at_ramps(road, state)), (6_000, 1_500));
+/// assert_eq!(present(road, state), u64::from(state.gate_queue) + 6_000 + 1_500);
+/// let end = run(&record, &[])?.ended;
+/// assert_eq!(exits(road, end.state), 3_701);
+/// assert_eq!(vehicle_seconds(20, end.state), 661); // 33,098 part-steps of 20 seconds
+/// # Ok::<(), Box<dyn std::error::Error>>(())
+/// ```
+pub fn present(road: Road, state: State) -> u64 {
+    unsafe { raw::nobyaluk_present(road, state) }
+}
+
+/// What is present on the road: all held counts.
+pub fn on_road(road: Road, state: State) -> u64 {
+    unsafe { raw::nobyaluk_on_road(road, state) }
+}
+
+/// What is present at the ramps: all ramp queues.
+pub fn at_ramps(road: Road, state: State) -> u64 {
+    unsafe { raw::nobyaluk_at_ramps(road, state) }
+}
+
 /// What is present in any road and state, each place and ramp queue times its weight.
 pub fn weighted(road: Road, state: State, weights: Weights) -> u64 {
     unsafe { raw::nobyaluk_weighted(road, state, weights) }
+}
+
+/// What has left by off-ramps and the road's end.
+pub fn exits(road: Road, state: State) -> u64 {
+    unsafe { raw::nobyaluk_exits(road, state) }
+}
+
+/// A state's total in vehicle-seconds, with so many seconds a step, rounded down; the greatest number of 64 bits where that
+/// passes it.
+pub fn vehicle_seconds(seconds: u16, state: State) -> u64 {
+    unsafe { raw::nobyaluk_vehicle_seconds(seconds, state) }
 }
 
 /// What a cell can send in a step.
@@ -290,14 +335,49 @@ pub fn demand(speed: u16, capacity: u32, held: u32) -> u32 {
     unsafe { raw::nobyaluk_demand(speed, capacity, held) }
 }
 
+/// What the gate can send in a step.
+pub fn gate_demand(capacity: u32, queue: u32) -> u32 {
+    unsafe { raw::nobyaluk_gate_demand(capacity, queue) }
+}
+
 /// What a cell can take in a step.
 pub fn supply(wave: u16, capacity: u32, jam: u32, held: u32) -> u32 {
     unsafe { raw::nobyaluk_supply(wave, capacity, jam, held) }
 }
 
-/// The greatest outflow within the demand whose onward part fits the room.
+/// What a release leaves of a cell's supply for those from upstream: none where it is above the supply.
+pub fn room(supply: u32, release: u32) -> u32 {
+    unsafe { raw::nobyaluk_room(supply, release) }
+}
+
+/// How much of a place's cumulative outflow has gone on.
+pub fn onward(share: u16, cumulative: u32) -> u64 {
+    unsafe { raw::nobyaluk_onward(share, cumulative) }
+}
+
+/// How much of an outflow enters the next cell: the growth of the onward total.
+pub fn entering(share: u16, cumulative: u32, outflow: u32) -> u64 {
+    unsafe { raw::nobyaluk_entering(share, cumulative, outflow) }
+}
+
+/// The greatest outflow within the demand whose onward part fits the room, by one division.
+///
+/// ```
+/// use nobyaluk::{demand, entering, outflow, outflow_by_halves, room, supply};
+/// // step 1 of the printed run, from cell 1, of which 934 have left, into cell 2
+/// let (demand, room) = (demand(500, 2_000, 2_566), room(supply(250, 1_000, 8_000, 4_000), 300));
+/// let sent = outflow(750, 934, room, demand);
+/// assert_eq!((demand, room, sent), (1_283, 700, 933));
+/// assert_eq!(outflow_by_halves(750, 934, room, demand), sent);
+/// assert_eq!((entering(750, 934, sent), entering(750, 934, sent + 1)), (700, 701));
+/// ```
 pub fn outflow(share: u16, cumulative: u32, room: u32, demand: u32) -> u32 {
     unsafe { raw::nobyaluk_outflow(share, cumulative, room, demand) }
+}
+
+/// The same outflow, narrowed down by halves between 0 and the demand.
+pub fn outflow_by_halves(share: u16, cumulative: u32, room: u32, demand: u32) -> u32 {
+    unsafe { raw::nobyaluk_outflow_by_halves(share, cumulative, room, demand) }
 }
 
 /// What the open lanes leave of a capacity; each set bit is a lane.

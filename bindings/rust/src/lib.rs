@@ -10,15 +10,16 @@
 //! | running, with weights | [`run`], [`run_weighted`] | [`run_into`], [`run_weighted_into`] |
 //! | judging, with the states | | [`judge`], [`history_into`] |
 //! | filling by meter laws | [`fill`] | [`fill_into`], [`fill_kinds_into`] |
-//! | writing; rows | [`write`](fn@write); [`rows`], [`row`] | [`write_into`]; [`rows_into`] |
+//! | writing; rows | [`write`](fn@write); [`rows`], [`row`] | [`write_into`]; [`rows_into`], [`row_numbers`] |
 //! | a stated load | [`load`] | [`load_into`] |
 //! | releases for a wanted queue | [`wanted`], [`put_wanted`] | [`wanted_into`] |
 //! | ramps of one street; a release put | [`grant`]; [`put`] | [`grant_into`]; [`put_into`] |
 //! | two roads joined | [`join`] | [`join_into`] |
 //! | stepping | | [`step`] |
 //!
-//! The rules of one place are refused by nothing: [`demand`], [`supply`], [`outflow`], [`open_capacity`], [`wish`],
-//! [`wish_of_kind`], [`release`], [`weighted`].
+//! Refused by nothing are the rules of one place, [`demand`], [`gate_demand`], [`supply`], [`room`], [`onward`], [`entering`],
+//! [`outflow`], [`outflow_by_halves`], [`open_capacity`], [`wish`], [`wish_of_kind`] and [`release`], and what a state holds:
+//! [`present`], [`on_road`], [`at_ramps`], [`weighted`], [`exits`], [`vehicle_seconds`].
 //!
 //! ```
 //! let record = std::fs::read("../../examples/printed-run.rec")?;

@@ -1,8 +1,8 @@
 //! The functions of the archive, as bindings/c/nobyaluk.h has them.
 
 use crate::types::{
-    Ended, Granted, Lanes, Loaded, Reading, Released, Road, Start, State, Stepped, Wanted, Weighed,
-    Weights, Written,
+    Ended, Granted, Lanes, Loaded, Reading, Released, Road, Row, Start, State, Stepped, Wanted,
+    Weighed, Weights, Written,
 };
 extern "C" {
     pub fn nobyaluk_version() -> u32;
@@ -79,6 +79,7 @@ extern "C" {
         list: *mut u32,
         count: usize,
     ) -> usize;
+    pub fn nobyaluk_row(record: *const u8, bytes: usize, n: usize, step: usize) -> Row;
     pub fn nobyaluk_load(seed: u32, peak: u32, list: *mut u32, count: usize) -> Loaded;
     pub fn nobyaluk_wanted(
         start: u32,
@@ -121,10 +122,20 @@ extern "C" {
         numbers: usize,
         lanes: Lanes,
     ) -> Stepped;
+    pub fn nobyaluk_present(road: Road, state: State) -> u64;
+    pub fn nobyaluk_on_road(road: Road, state: State) -> u64;
+    pub fn nobyaluk_at_ramps(road: Road, state: State) -> u64;
     pub fn nobyaluk_weighted(road: Road, state: State, weights: Weights) -> u64;
+    pub fn nobyaluk_exits(road: Road, state: State) -> u64;
+    pub fn nobyaluk_vehicle_seconds(seconds: u16, state: State) -> u64;
     pub fn nobyaluk_demand(speed: u16, capacity: u32, held: u32) -> u32;
+    pub fn nobyaluk_gate_demand(capacity: u32, queue: u32) -> u32;
     pub fn nobyaluk_supply(wave: u16, capacity: u32, jam: u32, held: u32) -> u32;
+    pub fn nobyaluk_room(supply: u32, release: u32) -> u32;
+    pub fn nobyaluk_onward(share: u16, cumulative: u32) -> u64;
+    pub fn nobyaluk_entering(share: u16, cumulative: u32, outflow: u32) -> u64;
     pub fn nobyaluk_outflow(share: u16, cumulative: u32, room: u32, demand: u32) -> u32;
+    pub fn nobyaluk_outflow_by_halves(share: u16, cumulative: u32, room: u32, demand: u32) -> u32;
     pub fn nobyaluk_open_capacity(capacity: u32, built: u8, usable: u8) -> u32;
     pub fn nobyaluk_wish(
         kind: u8,

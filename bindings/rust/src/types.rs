@@ -144,6 +144,13 @@ pub struct Released {
     pub place: u64,
 }
 
+/// The numbers of a row: gate arrivals, then each cell's ramp arrivals and release; 0 past them.
+#[repr(C)]
+#[derive(Clone, Copy, Debug, PartialEq, Eq)]
+pub struct Row {
+    pub numbers: [u32; 1 + 2 * CELLS],
+}
+
 /// What granting answers.
 #[repr(transparent)]
 #[derive(Clone, Copy, Debug, PartialEq, Eq)]

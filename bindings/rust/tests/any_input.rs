@@ -1,7 +1,9 @@
 //! Calls with lists of their own on any input: they answer, and after a refusal the record is as it was.
 use nobyaluk::{
-    fill, grant, join, judge, load, put, put_wanted, read, row, rows, run, run_weighted, step,
-    wanted, write, Lanes, Law, Road, Start, State, Weights,
+    at_ramps, entering, exits, fill, gate_demand, grant, join, judge, load, on_road, onward,
+    outflow, outflow_by_halves, present, put, put_wanted, read, room, row, row_numbers, rows, run,
+    run_weighted, step, vehicle_seconds, wanted, write, Lanes, Law, Road, Start, State, Weights,
+    CELLS,
 };
 use std::path::PathBuf;
 
@@ -58,7 +60,11 @@ fn every_record_is_answered() {
             assert!(again == Ok(record.clone()));
         }
         for (k, number) in MOST.into_iter().enumerate() {
-            let _ = row(&record, number, MOST[5 - k]);
+            let numbers = row_numbers(&record, number, MOST[5 - k]).numbers;
+            match row(&record, number, MOST[5 - k]) {
+                Some(row) => assert!(numbers.starts_with(&row) && row.len() == 1 + 2 * number),
+                None => assert_eq!(numbers, [0; 129]),
+            }
             let mut changed = record.clone();
             if put(&mut changed, number, MOST[5 - k], u32::MAX).is_err() {
                 assert!(changed == record);
@@ -121,4 +127,71 @@ fn every_number_is_answered() {
         assert_eq!(load(number, number, 2).is_ok(), number <= 1_000_000);
     }
     assert_eq!(wanted(0, 0, 0, &[0; 1_441]).unwrap_err().number, 23);
+}
+
+/// The greatest outflow by both ways, and the other rules of one place.
+#[test]
+fn every_place_is_answered() {
+    let ends = [0, 1, 999, 1_000_000, u32::MAX];
+    for share in [0, 1, 999, 1_000, 1_001, u16::MAX] {
+        for f in ends {
+            let gone = u64::from(share) * u64::from(f) / 1_000;
+            assert_eq!(onward(share, f), gone);
+            for (most, demand) in ends
+                .iter()
+                .flat_map(|&most| ends.map(|demand| (most, demand)))
+            {
+                let sent = outflow(share, f, most, demand);
+                let fits = |sent| entering(share, f, sent) <= u64::from(most);
+                assert_eq!(outflow_by_halves(share, f, most, demand), sent);
+                assert!(sent <= demand && fits(sent) && (sent == demand || !fits(sent + 1)));
+            }
+        }
+    }
+    for (a, b) in ends.iter().flat_map(|&a| ends.map(|b| (a, b))) {
+        assert_eq!(
+            (gate_demand(a, b), room(a, b)),
+            (a.min(b), a.saturating_sub(b))
+        );
+    }
+}
+
+/// What a state holds that is full to its last bit; n above 64 counts as 64, and a share above 1,000 gives no exits.
+#[test]
+fn every_state_is_answered() {
+    let (count, time) = (u64::from(u32::MAX), u64::MAX / 3);
+    let full = State {
+        gate_time: time,
+        road_time: time,
+        ramp_time: time,
+        gate_queue: u32::MAX,
+        held: [u32::MAX; CELLS],
+        queue: [u32::MAX; CELLS],
+        cumulative: [u32::MAX; CELLS],
+        ..State::EMPTY
+    };
+    for n in MOST {
+        let (road, cells) = (Road { n, ..Road::EMPTY }, n.min(CELLS) as u64);
+        assert_eq!(present(road, full), count * (1 + 2 * cells));
+        assert_eq!(
+            (on_road(road, full), at_ramps(road, full)),
+            (count * cells, count * cells)
+        );
+        assert_eq!(exits(road, full), count * cells);
+        let share = [1_001; CELLS];
+        assert_eq!(exits(Road { share, ..road }, full), 0);
+    }
+    let part = |seconds: u16| u128::from(u64::MAX) * u128::from(seconds) / 1_000;
+    for seconds in [0, 1, 999, 1_000] {
+        assert_eq!(u128::from(vehicle_seconds(seconds, full)), part(seconds));
+    }
+    let more = State {
+        gate_time: u64::MAX,
+        ..full
+    };
+    for state in [full, more] {
+        assert_eq!(vehicle_seconds(1_001, state), u64::MAX);
+        assert_eq!(vehicle_seconds(u16::MAX, state), u64::MAX);
+    }
+    assert_eq!(vehicle_seconds(1_000, more), u64::MAX);
 }

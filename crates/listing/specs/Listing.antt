@@ -1,6 +1,6 @@
 -- docs/MODEL.md, 'A run printed whole': the listing's lines, as bytes. Assumes nothing.
 use mathlib.Core.List.{List, [], _∷_, _++_}
-use Prim.Native.Nat.{ℕ, zero, suc, _+_, _*_, _/_}
+use Prim.Native.Nat.{ℕ, zero, suc, _+_}
 use Rattle.road.specs.declared.State.{State}
 use Rattle.numbers.specs.Lists.{at}
 use Rattle.words.specs.Words.{blank, newline, mostWord, wordOf, namedOf}
@@ -88,11 +88,7 @@ totalLine total gate road ramp exits =
     namedOf totalWord total blank
     ++ (namedOf gateWord gate blank ++ (namedOf roadWord road blank ++ (namedOf rampWord ramp blank ++ namedOf exitsWord exits newline)))
 
--- what a total of part-steps is in vehicle-seconds, at so many seconds a step: total × seconds ÷ 1,000 rounded down
-unfoldable pub vehicleSeconds : ℕ → ℕ → ℕ
-vehicleSeconds total seconds = total * seconds / 1000
-
--- in version 2 one line more: `seconds` and that number
+-- in version 2 one line more: `seconds` and the total in vehicle-seconds
 unfoldable pub secondsLine : ℕ → List ℕ
 secondsLine time = namedOf secondsWord time newline
 

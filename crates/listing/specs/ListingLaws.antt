@@ -12,7 +12,7 @@ use Rattle.words.specs.Words.{blank, newline, wordOf, namedOf}
 use Rattle.words.specs.WordsLaws.{word-length, named-length, Word, Named}
 use Rattle.listing.specs.Listing.{mostLine, mostLast, mostTime, refusedWord}
 use Rattle.listing.specs.Listing.{totalWord, gateWord, roadWord, rampWord, exitsWord, secondsWord}
-use Rattle.listing.specs.Listing.{headerLine, lineOf, cellLines, linesOf, showing, totalLine, vehicleSeconds, secondsLine, refusedLine}
+use Rattle.listing.specs.Listing.{headerLine, lineOf, cellLines, linesOf, showing, totalLine, secondsLine, refusedLine}
 
 line-length : (step place outflow held queue : ℕ) → length (lineOf step place outflow held queue) ≤ mostLine
 unfolding lineOf
@@ -93,11 +93,6 @@ pub total-room : (a : List ℕ) (start total gate road ramp exits : ℕ) (b : Li
     → Room a start b m mostLast
 total-room a start total gate road ramp exits b m p =
     room a start (totalLine total gate road ramp exits) b m mostLast p (total-length total gate road ramp exits)
-
--- 33,098 part-steps of 20 seconds are 661.96 vehicle-seconds, and 661 are told; of 900 seconds 29,788.2; 999 of a second are none
-pub on-paper : vehicleSeconds 33098 20 ∷ vehicleSeconds 33098 900 ∷ vehicleSeconds 999 1 ∷ [] ≡ 661 ∷ 29788 ∷ 0 ∷ []
-unfolding vehicleSeconds
-on-paper = refl
 
 pub seconds-length : (time : ℕ) → length (secondsLine time) ≤ mostTime
 unfolding secondsLine

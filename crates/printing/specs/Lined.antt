@@ -15,6 +15,7 @@ use Rattle.road.specs.declared.Road.{Road}
 use Rattle.road.specs.declared.State.{State}
 use Rattle.road.specs.Road.{mostSteps, mostSeconds, mostLong, totalOf}
 use Rattle.road.specs.Study.{Study, places, tableSize}
+use Rattle.timing.specs.Seconds.{vehicleSeconds, vehicleSecondsOf}
 use Rattle.fields.specs.Fields.{secondVersion}
 use Rattle.limits.specs.Limits.{mostTotal}
 use Rattle.model.specs.Move.{nextOf, exitsOf}
@@ -28,7 +29,7 @@ use Rattle.reading.specs.Table.{mostOutflows}
 use Rattle.schedules.specs.Schedules.{EndAnswer, ended, runEnd}
 use Rattle.schedules.specs.Readable.{Readable}
 use Rattle.running.specs.Ran.{Ran, RanTurn, ran-reached, ran-none, ran-more, row-is, ends-ran, all-ran}
-use Rattle.listing.specs.Listing.{mostLine, mostLast, mostTime, headerLine, linesOf, totalLine, vehicleSeconds, secondsLine, refusedLine}
+use Rattle.listing.specs.Listing.{mostLine, mostLast, mostTime, headerLine, linesOf, totalLine, secondsLine, refusedLine}
 use Rattle.rows.specs.Placed.{Puts, placed-none, puts-first, puts-more, Room, room, Holds}
 use Rattle.listing.specs.ListingLaws.{header-room, lines-room, total-length, total-room, seconds-length, refused-room}
 use Rattle.printing.specs.Printed.{stepsLines, timeOf, lastOf, printedEnd, printedRun, printedWithin}
@@ -58,7 +59,7 @@ module _ {r : Road} {u : State} {buffer : List ℕ} {at : ℕ} (h : Ending r u b
   time-small = let l : total ≤ mostTotal mostSteps = omega (arith, total-is, h .total) in mul-le-mul l (h .seconds)
 
   -- so the vehicle-seconds are given as they are
-  time-is : {time : ℕ} → time ≡ min (min (totalOf u) mostLong * r .seconds / 1000) mostLong → time ≡ vehicleSeconds (totalOf u) (r .seconds)
+  time-is : {time : ℕ} → time ≡ vehicleSecondsOf (r .seconds) u → time ≡ vehicleSeconds (totalOf u) (r .seconds)
   unfolding vehicleSeconds
   time-is et =
       let l : min (totalOf u) mostLong * r .seconds ≤ mostTotal mostSteps * mostSeconds = rw (sym e) time-small in
@@ -83,7 +84,7 @@ module _ {r : Road} {u : State} {buffer : List ℕ} {at : ℕ} (h : Ending r u b
     ends-untimed k =
         rw (ne-eqb (r .version) secondVersion k, append-nil (totalLine (totalOf u) (u .«gate_time») (u .«road_time») (u .«ramp_time») (exitsOf r u))) last-line
 
-    pub ends-timed : r .version ≡ secondVersion → {time : ℕ} → time ≡ min (min (totalOf u) mostLong * r .seconds / 1000) mostLong
+    pub ends-timed : r .version ≡ secondVersion → {time : ℕ} → time ≡ vehicleSecondsOf (r .seconds) u
         → {end : List ℕ} {to : ℕ} → Puts after m (secondsLine time) end to → Puts buffer at (lastOf r u) end to
     unfolding timeOf
     ends-timed k et {end} {to} q =

@@ -8,12 +8,13 @@ use Rattle.road.specs.declared.Road.{Road}
 use Rattle.road.specs.declared.State.{State}
 use Rattle.road.specs.Road.{mostCells, mostBytes, totalOf}
 use Rattle.road.specs.Study.{Study}
+use Rattle.timing.specs.Seconds.{vehicleSeconds}
 use Rattle.fields.specs.Fields.{secondVersion}
 use Rattle.model.specs.Move.{exitsOf}
 use Rattle.model.specs.Runs.{engineAfter, outflowsAt}
 use Rattle.reading.specs.Reading.{readingWithin, studyOf}
 use Rattle.schedules.specs.Schedules.{EndAnswer, runEnd}
-use Rattle.listing.specs.Listing.{headerLine, linesOf, totalLine, vehicleSeconds, secondsLine, refusedLine}
+use Rattle.listing.specs.Listing.{headerLine, linesOf, totalLine, secondsLine, refusedLine}
 
 -- the lines of the first k steps of a run, each with its outflows and the state after it
 unfoldable pub stepsLines : Study → ℕ → List ℕ

@@ -3,8 +3,8 @@ mod header;
 
 use header::{declarations, Declaration};
 use nobyaluk::{
-    Ended, Lanes, Loaded, Reading, Released, Road, Start, State, Stepped, Wanted, Weighed, Weights,
-    Written,
+    Ended, Lanes, Loaded, Reading, Released, Road, Row, Start, State, Stepped, Wanted, Weighed,
+    Weights, Written,
 };
 use std::fs;
 use std::io::Write;
@@ -153,6 +153,7 @@ fn rust_layout() -> Vec<String> {
         layout!("nobyaluk_loaded", Loaded, number last),
         layout!("nobyaluk_wanted_answer", Wanted, number found),
         layout!("nobyaluk_released", Released, number place),
+        layout!("nobyaluk_row_answer", Row, numbers),
     ].concat()
 }
 
@@ -218,6 +219,7 @@ fn in_rust(c: &str) -> String {
         "uint64_t" => "u64",
         "double" => "f64",
         "nobyaluk_wanted_answer" => "Wanted",
+        "nobyaluk_row_answer" => "Row",
         _ => {
             let name = c.strip_prefix("nobyaluk_").unwrap_or(c);
             return name[..1].to_uppercase() + &name[1..];

@@ -1,7 +1,8 @@
 -- `timing::vehicle_seconds` meets its contract. Assumes nothing.
 use mathlib.Core.Path.{_≡_, ap, _∙_}
-use Prim.Native.Nat.{ℕ, _*_, _/_, min}
+use Prim.Native.Nat.{ℕ, min}
 use Rattle.road.specs.Road.{mostLong}
+use Rattle.timing.specs.Seconds.{vehicleSeconds}
 use borrow.Author.Needs.{needs}
 use Rattle.timing.proofs.vehicle_seconds.Statement.{statement}
 use Rattle.timing.proofs.vehicle_seconds.Tie as tie
@@ -9,7 +10,7 @@ use Rattle.timing.proofs.vehicle_seconds.Tie as tie
 returns : tie.Need-returns
 returns c =
     let t = c .before in
-    c .in-seconds .ensures ∙ ap (λ (total : ℕ). min (total * t .before .args .seconds / 1000) mostLong) (t .total .ensures)
+    c .in-seconds .ensures ∙ ap (λ (total : ℕ). min (vehicleSeconds total (t .before .args .seconds)) mostLong) (t .total .ensures)
 
 pub vehicle-seconds-spec : {M : Type 1} → statement M
 vehicle-seconds-spec = tie.close (tie.spec (λ c κs. search needs) (λ c κs. search needs) returns)

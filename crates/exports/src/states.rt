@@ -1,0 +1,57 @@
+// What a state holds, of any road and state.
+use freeway::Road;
+use freeway::State;
+use freeway::Weights;
+ghost use mathlib.Core.Path.{_≡_};
+ghost use Rattle.numbers.specs.Lists.{at};
+ghost use Rattle.timing.specs.Seconds.{vehicleSecondsOf};
+ghost use Rattle.model.specs.Move.{heldSum, queueSum, presentOf, exitsOf};
+ghost use Rattle.model.specs.Weights.{weightedOf};
+
+// The gate's queue, all held counts and all ramp queues together.
+#[no_mangle]
+pub extern "C" fn nobyaluk_present(road: Road, state: State) -> u64
+    ensures { λ r. ⌜ r ≡ presentOf road state ⌝ }
+{
+    freeway::present(road, state)
+}
+
+// Present on the road.
+#[no_mangle]
+pub extern "C" fn nobyaluk_on_road(road: Road, state: State) -> u64
+    ensures { λ r. ⌜ r ≡ heldSum road state ⌝ }
+{
+    freeway::on_road(road, state)
+}
+
+// Present at the ramps.
+#[no_mangle]
+pub extern "C" fn nobyaluk_at_ramps(road: Road, state: State) -> u64
+    ensures { λ r. ⌜ r ≡ queueSum road state ⌝ }
+{
+    freeway::at_ramps(road, state)
+}
+
+// What is present, each place and ramp queue times its weight.
+#[no_mangle]
+pub extern "C" fn nobyaluk_weighted(road: Road, state: State, weights: Weights) -> u64
+    ensures { λ r. ⌜ r ≡ weightedOf (at (weights .places)) (at (weights .ramps)) (road .n) state ⌝ }
+{
+    freeway::weighted(road, state, weights)
+}
+
+// What has left by the off-ramps and the road's end.
+#[no_mangle]
+pub extern "C" fn nobyaluk_exits(road: Road, state: State) -> u64
+    ensures { λ r. ⌜ r ≡ exitsOf road state ⌝ }
+{
+    freeway::exits(road, state)
+}
+
+// Total time spent in vehicle-seconds, at so many seconds a step.
+#[no_mangle]
+pub extern "C" fn nobyaluk_vehicle_seconds(seconds: u16, state: State) -> u64
+    ensures { λ r. ⌜ r ≡ vehicleSecondsOf seconds state ⌝ }
+{
+    freeway::vehicle_seconds(seconds, state)
+}
