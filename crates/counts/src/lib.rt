@@ -6,6 +6,7 @@ ghost use Prim.Native.Nat.{_-_, _^_, min, _≤_, _<_};
 ghost use lib.ListN.{take};
 ghost use Rattle.rows.specs.Sum.{sumOf};
 ghost use Rattle.flow.specs.Flow.{onwardOf};
+ghost use Rattle.road.specs.Road.{mostCells};
 ghost use Rattle.model.specs.Move.{heldSum, queueSum, presentOf, exitsOf};
 
 fn wide(x: u32) -> u64
@@ -16,7 +17,7 @@ fn wide(x: u32) -> u64
 
 // The entries of an array that belong to cells: 64 at most.
 pub fn cells(n: usize) -> usize
-    ensures { λ r. ⌜ r ≡ min n 64 ⌝ }
+    ensures { λ r. ⌜ r ≡ min n mostCells ⌝ }
 {
     if n <= Road::CELLS { n } else { Road::CELLS }
 }

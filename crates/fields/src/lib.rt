@@ -2,6 +2,7 @@
 ghost use mathlib.Core.Path.{_≡_};
 ghost use Prim.Native.Nat.{_+_, _*_, _^_, _≤_, _<_};
 ghost use lib.ListN.{length, take};
+ghost use Rattle.road.specs.Road.{mostCells};
 ghost use Rattle.fields.specs.Fields.{shortSize, numberSize, versionOffset, versionOf, secondsSize, secondsOf, headerSize, cellSize, rowStart};
 ghost use Rattle.fields.specs.Fields.{numberOf, columnOf, recordRow, HoldsRow};
 ghost use Rattle.fields.specs.Stored.{Stored};
@@ -119,7 +120,7 @@ pub fn seconds(bytes: &[u8]) -> u16
 
 // A field of two bytes, `offset` into each of the n cells.
 pub fn short_column(bytes: &[u8], offset: usize, n: usize) -> [u16; 64]
-    requires { ⌜ (offset + shortSize ≤ cellSize) × ((n ≤ 64) × (rowStart (versionOf (now bytes)) n 0 ≤ length (now bytes))) ⌝ }
+    requires { ⌜ (offset + shortSize ≤ cellSize) × ((n ≤ mostCells) × (rowStart (versionOf (now bytes)) n 0 ≤ length (now bytes))) ⌝ }
     ensures { λ r. ⌜ r ≡ columnOf (now (bytes .entry)) offset shortSize n ⌝ }
 {
     let header = header_size(version(bytes));
@@ -134,7 +135,7 @@ pub fn short_column(bytes: &[u8], offset: usize, n: usize) -> [u16; 64]
 
 // A field of four bytes, `offset` into each of the n cells.
 pub fn column(bytes: &[u8], offset: usize, n: usize) -> [u32; 64]
-    requires { ⌜ (offset + numberSize ≤ cellSize) × ((n ≤ 64) × (rowStart (versionOf (now bytes)) n 0 ≤ length (now bytes))) ⌝ }
+    requires { ⌜ (offset + numberSize ≤ cellSize) × ((n ≤ mostCells) × (rowStart (versionOf (now bytes)) n 0 ≤ length (now bytes))) ⌝ }
     ensures { λ r. ⌜ r ≡ columnOf (now (bytes .entry)) offset numberSize n ⌝ }
 {
     let header = header_size(version(bytes));

@@ -9,15 +9,15 @@ use Rattle.numbers.specs.Lists.{at}
 use Rattle.rows.specs.RowsLaws.{length-fill}
 use Rattle.road.specs.Road.{mostCells}
 use Rattle.road.specs.RoadLaws.{length-zeros, zeros-at}
-use Rattle.road.specs.Study.{Study, roadAt}
+use Rattle.studies.specs.Study.{Study, roadAt}
 use Rattle.meter.specs.declared.Law.{Law}
 use Rattle.meter.specs.Meter.{wishOf, wholeBelow, lawAt}
 use Rattle.model.specs.Places.{releaseAt, enteringAt}
 use Rattle.model.specs.Runs.{engineAfter, outflowsAt}
 use Rattle.model.specs.Roads.{step-row}
 use Rattle.model.specs.RunsLaws.{StudyOk, Shared, shared-less, engine-shared, outflows-shared}
-use Rattle.metering.specs.Metering.{Metered, capAt, meteredOf}
-use Rattle.metering.specs.MeteringLaws.{granted, filled-release, filled-most, last-release, last-entry}
+use Rattle.ramps.specs.Ramps.{Metered, capAt, meteredOf}
+use Rattle.ramps.specs.RampsLaws.{granted, filled-release, filled-most, last-release, last-entry}
 use Rattle.filling.specs.Filling.{meteredAfter, grantedIn, filledRows, filledStudy}
 use Rattle.filling.specs.FillingLaws.{filled-road, filled-run}
 

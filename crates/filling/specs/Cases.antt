@@ -1,16 +1,15 @@
 -- How filling ends, case by case. Assumes nothing.
 use mathlib.Core.Path.{_≡_, refl, ap}
-use mathlib.Core.Bool.{Bool, true, false}
-use mathlib.Core.Logic.{_⊎_}
+use mathlib.Core.Bool.{Bool}
+use mathlib.Core.Logic.{⊎-elim}
 use mathlib.Core.List.{List}
 use Prim.Native.Nat.{ℕ, _≤_, _<_}
 use native.Mathlib.Omega.{arith}
-use lib.Dec.{eqb}
 use lib.ListN.{length}
-use borrow.Author.Tests.{eqb-true, eqb-false, eq-eqb, ne-eqb, le-leb, lt-leb}
+use borrow.Author.Tests.{eq-eqb, ne-eqb, le-leb, lt-leb}
 use Rattle.numbers.specs.First.{unless}
-use Rattle.numbers.specs.Tests.{order}
-use Rattle.road.specs.Study.{tableSize}
+use Rattle.numbers.specs.Tests.{fault-elim, order}
+use Rattle.studies.specs.Study.{tableSize}
 use Rattle.meter.specs.declared.Law.{Law}
 use Rattle.reading.specs.Reading.{readingOf, studyOf}
 use Rattle.schedules.specs.Schedules.{EndAnswer, ended, noState, lanesFault, tableOf}
@@ -95,20 +94,8 @@ pub data Case (laws : List Law) (bytes lanes list : List ℕ) : Type 0 where
 
 pub case-of : (laws : List Law) (bytes lanes list : List ℕ) → Case laws bytes lanes list
 case-of laws bytes lanes list =
-    go (eqb (readingOf bytes .number) 0) (eqb (lawPlace laws (studyOf bytes lanes)) 0) (eqb (lanesFault (studyOf bytes lanes) .number) 0)
-    (order (tableSize (studyOf bytes lanes)) (length list)) refl refl refl
-  where
-    taken : eqb (readingOf bytes .number) 0 ≡ true → eqb (lanesFault (studyOf bytes lanes) .number) 0 ≡ true → Taken bytes lanes
-    taken e g = record { reads = eqb-true (readingOf bytes .number) 0 e; opens = eqb-true (lanesFault (studyOf bytes lanes) .number) 0 g }
-
-    finite : eqb (lawPlace laws (studyOf bytes lanes)) 0 ≡ true → lawPlace laws (studyOf bytes lanes) ≡ 0
-    finite f = eqb-true (lawPlace laws (studyOf bytes lanes)) 0 f
-
-    go : (b c d : Bool) (o : (tableSize (studyOf bytes lanes) ≤ length list) ⊎ (length list < tableSize (studyOf bytes lanes)))
-        → eqb (readingOf bytes .number) 0 ≡ b → eqb (lawPlace laws (studyOf bytes lanes)) 0 ≡ c → eqb (lanesFault (studyOf bytes lanes) .number) 0 ≡ d
-        → Case laws bytes lanes list
-    go false c d o e f g = refused (eqb-false (readingOf bytes .number) 0 e)
-    go true false d o e f g = law (eqb-true (readingOf bytes .number) 0 e) (eqb-false (lawPlace laws (studyOf bytes lanes)) 0 f)
-    go true true false o e f g = closed (eqb-true (readingOf bytes .number) 0 e) (finite f) (eqb-false (lanesFault (studyOf bytes lanes) .number) 0 g)
-    go true true true (_⊎_.inl l) e f g = all (taken e g) (finite f) l
-    go true true true (_⊎_.inr l) e f g = short (taken e g) (finite f) l
+    fault-elim (readingOf bytes .number) refused (λ reads.
+    fault-elim (lawPlace laws (studyOf bytes lanes)) (law reads) (λ finite.
+    fault-elim (lanesFault (studyOf bytes lanes) .number) (closed reads finite) (λ opens.
+    let taken : Taken bytes lanes = record { reads = reads; opens = opens } in
+    ⊎-elim (all taken finite) (short taken finite) (order (tableSize (studyOf bytes lanes)) (length list)))))

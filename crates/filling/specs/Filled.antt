@@ -8,7 +8,7 @@ use lib.ListN.{length, take, drop}
 use Rattle.rows.specs.TablesLaws.{row-ends, mul-more}
 use Rattle.road.specs.declared.Road.{Road}
 use Rattle.road.specs.declared.State.{State}
-use Rattle.road.specs.Study.{Study, roadAt, places, tableSize}
+use Rattle.studies.specs.Study.{Study, roadAt, places, tableSize}
 use Rattle.limits.specs.LimitsLaws.{RowOk, StateOk}
 use Rattle.fields.specs.Fields.{recordRow, HoldsRow}
 use Rattle.meter.specs.declared.Law.{Law}
@@ -22,7 +22,7 @@ use Rattle.releasing.specs.ReleasesLaws.{PutTable, put-table}
 use Rattle.schedules.specs.Schedules.{tableOf}
 use Rattle.schedules.specs.TableLaws.{length-table, table-none, table-more}
 use Rattle.schedules.specs.Readable.{Readable}
-use Rattle.metering.specs.Metering.{Metered, unmetered, grantedAt, filledRow, meteredOf}
+use Rattle.ramps.specs.Ramps.{Metered, unmetered, grantedAt, filledRow, meteredOf}
 use Rattle.filling.specs.Filling.{meteredAfter, grantedIn, filledRows, filledStudy}
 use Rattle.filling.specs.FillingLaws.{filled-road, filled-run, releases-small, filled-ok, filled-released, filled-reached}
 use Rattle.filling.specs.Turn.{FillsRow, FilledRow}

@@ -4,12 +4,12 @@ use Prim.Native.Nat.{ℕ, zero, suc}
 use lib.Dec.{leb, eqb}
 use lib.ListN.{length}
 use Rattle.numbers.specs.First.{unless}
-use Rattle.road.specs.Study.{Study, study, roadAt, tableSize}
+use Rattle.studies.specs.Study.{Study, study, roadAt, tableSize}
 use Rattle.meter.specs.declared.Law.{Law}
 use Rattle.meter.specs.Meter.{lawFaultOf}
 use Rattle.reading.specs.Reading.{readingOf, studyOf}
 use Rattle.releasing.specs.Releases.{putTable}
-use Rattle.metering.specs.Metering.{Metered, unmetered, grantedAt, filledRow, meteredOf}
+use Rattle.ramps.specs.Ramps.{Metered, unmetered, grantedAt, filledRow, meteredOf}
 use Rattle.schedules.specs.Schedules.{EndAnswer, ended, noState, lanesFault, tableOf}
 
 -- what the wishes of step k go by: held, queue and supply are those of the state before it

@@ -4,20 +4,20 @@ use mathlib.Core.List.{List}
 use Prim.Native.Nat.{ℕ, zero, suc, _+_, _*_, _^_, _≤_, _<_}
 use native.Mathlib.Omega.{arith}
 use lib.ListN.{length}
+use Rattle.road.specs.Refusals.{fault, FaultAnswer}
 use Rattle.road.specs.declared.State.{State}
-use Rattle.road.specs.Study.{Study, roadAt}
+use Rattle.studies.specs.Study.{Study, roadAt}
 use Rattle.limits.specs.LimitsLaws.{RowOk}
 use Rattle.meter.specs.declared.Law.{Law}
 use Rattle.model.specs.Rules.{Released}
-use Rattle.model.specs.Step.{Fault, fault}
 use Rattle.model.specs.StepLaws.{number-of, fit-releases}
 use Rattle.model.specs.Runs.{engineAfter}
 use Rattle.model.specs.Roads.{step-row, row-back}
 use Rattle.model.specs.RunsLaws.{StudyOk, Reached}
 use Rattle.schedules.specs.Schedules.{runSays}
 use Rattle.schedules.specs.SchedulesLaws.{run-reached}
-use Rattle.metering.specs.Metering.{Metered, filledRow, meteredOf}
-use Rattle.metering.specs.MeteringLaws.{granted-small, filled-fits, filled-row}
+use Rattle.ramps.specs.Ramps.{Metered, filledRow, meteredOf}
+use Rattle.ramps.specs.RampsLaws.{granted-small, filled-fits, filled-row}
 use Rattle.filling.specs.Filling.{meteredAfter, grantedIn, filledRows, filledStudy}
 
 module _ (laws : List Law) (a : Study) where

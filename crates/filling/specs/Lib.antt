@@ -6,7 +6,7 @@ pub mod Rerun
 pub mod Cases
 pub mod ByLaw
 pub mod Theorems
-pub mod Promise
-pub mod Unclosed
-pub mod NotEmpty
+pub mod FilledPromise
+pub mod FilledUnclosed
+pub mod FilledNotEmpty
 pub mod Refilled

@@ -16,7 +16,7 @@ use Rattle.rows.specs.TablesLaws.{front-same}
 use Rattle.road.specs.declared.Road.{Road}
 use Rattle.road.specs.declared.State.{State}
 use Rattle.road.specs.Road.{mostRate}
-use Rattle.road.specs.Study.{Study, study, roadAt, tableSize}
+use Rattle.studies.specs.Study.{Study, study, roadAt, tableSize}
 use Rattle.flow.specs.Flow.{enteringOf}
 use Rattle.fields.specs.Fields.{recordRow}
 use Rattle.fields.specs.FieldsLaws.{length-row}
@@ -34,8 +34,8 @@ use Rattle.releasing.specs.ReleasesLaws.{length-released, released-at, released
 use Rattle.schedules.specs.Schedules.{EndAnswer, lanesFault, tableOf}
 use Rattle.schedules.specs.Demand.{Taken}
 use Rattle.schedules.specs.Readable.{readable}
-use Rattle.schedules.specs.Restamped.{Alike, same-places, same-table}
-use Rattle.metering.specs.Metering.{Metered, metered, unmetered, wishAt, releaseOf, grantedAt, filledRow, nextMetered, meteredOf}
+use Rattle.schedules.specs.Restamped.{EndsAlike, same-places, same-table}
+use Rattle.ramps.specs.Ramps.{Metered, metered, unmetered, wishAt, releaseOf, grantedAt, filledRow, nextMetered, meteredOf}
 use Rattle.filling.specs.Filling.{meteredAfter, filledRows, filledStudy, lawPlace, fillingOf, recordAfter, filledList}
 use Rattle.filling.specs.Rerun.{filled-rows}
 use Rattle.filling.specs.Cases.{Leaves, fills-refused, fills-law, fills-closed, fills-short, fills-all, Case, case-of}
@@ -53,7 +53,7 @@ pub record SameArrivals (a b : Study) : Type 0 where
 
 -- two records filled by the same laws, under the same table: they are answered alike, the same list is left, and where they are filled their rows are the same
 pub record FilledAlike (laws : List Law) (s t lanes list : List ℕ) : Type 0 where
-  pub answer : Alike (fillingOf laws s lanes list) (fillingOf laws t lanes list)
+  pub answer : EndsAlike (fillingOf laws s lanes list) (fillingOf laws t lanes list)
   pub written : filledList laws t lanes list ≡ filledList laws s lanes list
   pub rows : fillingOf laws s lanes list .number ≡ 0 → (k : ℕ) → k < studyOf s lanes .steps
       → recordRow (recordAfter laws t lanes list) (studyOf t lanes .road .n) k ≡ recordRow (recordAfter laws s lanes list) (studyOf s lanes .road .n) k
@@ -175,7 +175,7 @@ filled-alike-by laws s t lanes list first other h = go (case-of laws s lanes lis
     ok = readable s lanes (readingOf s) refl (first .reads) (first .opens) .ok
 
     by : {d e : EndAnswer} {after out left written : List ℕ} → Leaves laws s lanes list d after out → Leaves laws t lanes list e left written
-        → Alike d e → written ≡ out
+        → EndsAlike d e → written ≡ out
         → (d .number ≡ 0 → (k : ℕ) → k < studyOf s lanes .steps → recordRow left (studyOf t lanes .road .n) k ≡ recordRow after (studyOf s lanes .road .n) k)
         → FilledAlike laws s t lanes list
     by x y alike list-same rows-are = record {

@@ -5,8 +5,9 @@ use mathlib.Core.List.{List}
 use Prim.Native.Nat.{ℕ, _+_, _*_, _≤_, _<_}
 use native.Mathlib.Omega.{arith}
 use lib.ListN.{length}
+use Rattle.road.specs.Refusals.{FaultAnswer}
 use Rattle.numbers.specs.Lists.{at}
-use Rattle.road.specs.Study.{Study, roadAt, tableSize}
+use Rattle.studies.specs.Study.{Study, roadAt, tableSize}
 use Rattle.limits.specs.Limits.{rowOk}
 use Rattle.limits.specs.LimitsLaws.{row-ok}
 use Rattle.fields.specs.Fields.{rowStart, recordRow}
@@ -15,7 +16,6 @@ use Rattle.reading.specs.Reading.{ReadAnswer, readingOf, studyBy, studyOf}
 use Rattle.releasing.specs.Releases.{releasedRow}
 use Rattle.releasing.specs.ReleasesLaws.{PutTable, put-table, table-head}
 use Rattle.releasing.specs.Same.{rows-replaced}
-use Rattle.model.specs.Step.{Fault}
 use Rattle.model.specs.StepLaws.{number-of}
 use Rattle.model.specs.Runs.{engineAfter}
 use Rattle.model.specs.RunsLaws.{StudyOk, Shared, shared-less, engine-shared}
@@ -25,7 +25,7 @@ use Rattle.schedules.specs.TableLaws.{table-shared}
 use Rattle.schedules.specs.Ends.{runs-long, writes-long}
 use Rattle.schedules.specs.Demand.{Taken}
 use Rattle.schedules.specs.Readable.{readable}
-use Rattle.metering.specs.Metering.{filledRow}
+use Rattle.ramps.specs.Ramps.{filledRow}
 use Rattle.filling.specs.Filling.{meteredAfter, grantedIn, filledRows, filledStudy, filledBytes}
 use Rattle.filling.specs.FillingLaws.{filled-road, filled-run, releases-small, filled-ok, filled-passes}
 

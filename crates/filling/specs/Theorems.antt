@@ -9,7 +9,7 @@ use lib.ListN.{length}
 use Rattle.numbers.specs.Lists.{at}
 use Rattle.numbers.specs.First.{oneOf}
 use Rattle.road.specs.Refusals.{began}
-use Rattle.road.specs.Study.{Study, roadAt, tableSize}
+use Rattle.studies.specs.Study.{Study, roadAt, tableSize}
 use Rattle.fields.specs.Fields.{numberSize, versionOf, entryStart, recordRow}
 use Rattle.meter.specs.declared.Law.{Law}
 use Rattle.reading.specs.Reading.{readingOf, studyOf}
@@ -22,7 +22,7 @@ use Rattle.schedules.specs.Ends.{runs-refused, writes-refused, runs-closed, wri
 use Rattle.schedules.specs.Readable.{readable}
 use Rattle.schedules.specs.Demand.{Taken, Promised}
 use Rattle.schedules.specs.Whole.{unbegun, promised}
-use Rattle.metering.specs.MeteringLaws.{filled-gate, filled-arrivals}
+use Rattle.ramps.specs.RampsLaws.{filled-gate, filled-arrivals}
 use Rattle.filling.specs.Filling.{meteredAfter, filledRows, filledStudy, filledBytes, lawPlace, fillingOf, recordAfter, filledList}
 use Rattle.filling.specs.Rerun.{filled-table, filled-rows, filled-reads, same-study, filled-shared, filled-taken, filled-runs, filled-writes}
 use Rattle.filling.specs.Cases.{Leaves, fills-refused, fills-law, fills-closed, fills-short, fills-all, Case, case-of}

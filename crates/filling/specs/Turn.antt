@@ -17,9 +17,9 @@ use Rattle.columns.specs.Columns.{roadOf}
 use Rattle.moves.specs.Asked.{Steppable}
 use Rattle.releasing.specs.Releases.{putReleases}
 use Rattle.releasing.specs.ReleasesLaws.{PutRow, put-releases, put-same}
-use Rattle.metering.specs.Metering.{Metered, grantedAt, filledRow, nextMetered, meteredOf}
-use Rattle.metering.specs.Lent.{ramped}
-use Rattle.metering.specs.MeteringLaws.{granted-small}
+use Rattle.ramps.specs.Ramps.{Metered, grantedAt, filledRow, nextMetered, meteredOf}
+use Rattle.ramps.specs.LentRamps.{ramped}
+use Rattle.ramps.specs.RampsLaws.{granted-small}
 
 -- what filling a step asks: the bytes hold its row, a step by the filled row asks nothing more, and y has room for its outflows
 pub record FillsRow (bytes : List ℕ) (laws : List Law) (r : Road) (m : Metered) (k : ℕ) (y : List ℕ) : Type 0 where

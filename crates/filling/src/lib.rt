@@ -14,8 +14,8 @@ ghost use Rattle.reading.specs.Reading.{studyBy};
 ghost use Rattle.releasing.specs.Releases.{putTable};
 ghost use Rattle.schedules.specs.Schedules.{endAnswer, tableOf};
 ghost use Rattle.schedules.specs.Demand.{Taken, Promised};
-ghost use Rattle.metering.specs.Metering.{metered};
-ghost use Rattle.metering.specs.Lent.{ramped};
+ghost use Rattle.ramps.specs.Ramps.{metered};
+ghost use Rattle.ramps.specs.LentRamps.{ramped};
 ghost use Rattle.filling.specs.Filling.{meteredAfter, grantedIn, filledStudy, fillingOf, recordAfter, filledList};
 ghost use Rattle.filling.specs.Turn.{FillsLent, FilledRow};
 ghost use Rattle.filling.specs.Filled.{Fillable};
@@ -53,7 +53,7 @@ fn fill_row<'a>(
 {
     let numbers = 1 + 2 * n;
     let row = fields::row(bytes, n, k);
-    metering::releases(
+    ramps::releases(
         laws,
         n,
         wave,
@@ -68,7 +68,7 @@ fn fill_row<'a>(
     );
     releasing::put_releases(bytes, n, k, released);
     let filled = fields::row(bytes, n, k);
-    metering::next(
+    ramps::next(
         n,
         gate_capacity,
         speed,
@@ -175,7 +175,7 @@ pub fn fill(bytes: &mut [u8], laws: [Law; 64], table: &[u8], out: &mut [u32]) ->
     }
     let state = a.state;
     let steps = a.steps;
-    let q = closures::refused(table, n, steps);
+    let q = opening::refused(table, n, steps);
     let closed = q.refusal;
     if closed.number() != 0 {
         return Ended::without_state(closed, q.place);

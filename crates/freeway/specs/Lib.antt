@@ -1,4 +1,4 @@
-pub mod Versions
+pub mod WrittenVersions
 pub mod Twice
 pub mod WantedRun
 pub mod PutRun

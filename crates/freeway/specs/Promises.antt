@@ -48,7 +48,7 @@ use Rattle.schedules.specs.Demand.{Taken, Promised, WeightedDemand, Reaches, Ah
 use Rattle.schedules.specs.Whole as whole
 use Rattle.schedules.specs.Weighing.{weighingOf}
 use Rattle.schedules.specs.Weighted as weighting
-use Rattle.schedules.specs.Improved as improving
+use Rattle.schedules.specs.ImprovedRuns as improving
 use Rattle.schedules.specs.Accounts as accounting
 use Rattle.schedules.specs.Judged as judged
 use Rattle.schedules.specs.Unclosed as unclosed

@@ -8,7 +8,7 @@ use native.Mathlib.Omega.{arith}
 use lib.ListN.{set}
 use Rattle.numbers.specs.Lists.{at}
 use Rattle.road.specs.declared.State.{State}
-use Rattle.road.specs.Study.{Study, roadAt}
+use Rattle.studies.specs.Study.{Study, roadAt}
 use Rattle.fields.specs.Fields.{recordRow}
 use Rattle.fields.specs.FieldsLaws.{row-at}
 use Rattle.reading.specs.Reading.{ReadAnswer, readingOf, studyOf}

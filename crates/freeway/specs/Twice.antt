@@ -7,11 +7,11 @@ use lib.Dec.{eqb}
 use borrow.Author.Tests.{eqb-true}
 use Rattle.numbers.specs.Lists.{at}
 use Rattle.road.specs.Road.{startState, startIn}
-use Rattle.road.specs.Study.{study}
+use Rattle.studies.specs.Study.{study}
 use Rattle.fields.specs.Fields.{recordRow}
 use Rattle.reading.specs.Reading.{ReadAnswer, readingOf, studyOf}
-use Rattle.putting.specs.Record.{recordOf}
-use Rattle.writing.specs.Again.{same-bytes}
+use Rattle.encoding.specs.Record.{recordOf}
+use Rattle.writing.specs.WrittenAgain.{same-bytes}
 use Rattle.meter.specs.declared.Law.{Law}
 use Rattle.filling.specs.Filling.{fillingOf, recordAfter}
 use Rattle.filling.specs.Theorems.{only-releases}

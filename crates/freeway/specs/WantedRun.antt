@@ -8,16 +8,17 @@ use native.Mathlib.Omega.{arith}
 use lib.Dec.{leb, eqb}
 use lib.ListN.{length}
 use borrow.Author.Tests.{le-leb, eqb-true, eqb-false}
+use Rattle.road.specs.Refusals.{fault, FaultAnswer}
 use Rattle.numbers.specs.Lists.{at}
 use Rattle.numbers.specs.First.{unless, firstFault}
 use Rattle.road.specs.declared.State.{State}
-use Rattle.road.specs.Study.{Study, roadAt}
+use Rattle.studies.specs.Study.{Study, roadAt}
 use Rattle.model.specs.Places.{arrivalsAt, releaseAt, mostReleaseAt, supplyAt}
 use Rattle.model.specs.Move.{nextOf}
 use Rattle.model.specs.MoveLaws.{next-queue}
 use Rattle.model.specs.Rules.{Sized}
 use Rattle.model.specs.Runs.{scheduleAfter, engineAfter, outflowsAt}
-use Rattle.model.specs.Step.{Fault, fault, lowestOf, releaseFault, releaseFaultAt}
+use Rattle.model.specs.Step.{lowestOf, releaseFault, releaseFaultAt}
 use Rattle.model.specs.RunsLaws.{StudyOk, schedule-sized, engine-schedule}
 use Rattle.schedules.specs.Schedules.{runSays, firstStep, EndAnswer, runEnd}
 use Rattle.schedules.specs.SchedulesLaws.{step-within, end-all, end-fault}
@@ -36,7 +37,7 @@ nine-there : (f : ℕ → ℕ) (n i : ℕ) → lowestOf f n 1 .number ≡ 9 → 
 unfolding lowestOf
 nine-there f n i e p = go (eqb (firstFault f n) n) e p
   where
-    there : Bool → Fault
+    there : Bool → FaultAnswer
     there b = cond b (fault 0 0) (fault (f (firstFault f n)) (firstFault f n + 1))
 
     go : (b : Bool) → there b .number ≡ 9 → there b .place ≡ i + 1 → f i ≡ 9

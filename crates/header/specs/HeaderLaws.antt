@@ -86,6 +86,10 @@ counts-facts n T h =
     let c = le-head _ _ _ (b .1) in
     record { someCells = a .0; cells = b .0; someSteps = c .0; steps = leb-true _ _ (c .1) }
 
+pub facts-counts : {n T : ℕ} → Counts n T → cellsAndStepsOk n T ≡ true
+facts-counts {n} {T} c =
+    le-then 1 n _ (c .someCells) (le-then n mostCells _ (c .cells) (le-then 1 T _ (c .someSteps) (le-leb T mostSteps (c .steps))))
+
 -- and then the size fits a machine number
 pub size-small : (version : ℕ) {n T : ℕ} → Counts n T → sizeOf version n T ≤ mostSize
 size-small version {n} {T} c = start-small version n T (c .cells) (c .steps)

@@ -19,18 +19,18 @@ use Rattle.road.specs.declared.Road.{Road}
 use Rattle.road.specs.declared.State.{State}
 use Rattle.road.specs.Road.{mostCells, mostBytes, mostRate, zeros, startState, startIn}
 use Rattle.road.specs.RoadLaws.{length-zeros, zeros-at}
-use Rattle.road.specs.Study.{Study, study}
+use Rattle.studies.specs.Study.{Study, study}
 use Rattle.fields.specs.Fields.{rowNumbers, rowSize, recordRow}
 use Rattle.fields.specs.FieldsLaws.{length-row}
 use Rattle.limits.specs.LimitsLaws.{RoadOk, StateOk, RowOk}
 use Rattle.header.specs.Header.{sizeOf}
 use Rattle.reading.specs.Reading.{ReadAnswer, acceptedOf, readingOf, studyOf}
 use Rattle.reading.specs.Numbers.{Numbers, read-numbers}
-use Rattle.putting.specs.Record.{recordOf}
+use Rattle.encoding.specs.Record.{recordOf}
 use Rattle.writing.specs.Writing.{written}
 use Rattle.writing.specs.Cut.{cutOf, keptSeconds, cutRoad, cutState}
 use Rattle.writing.specs.ReadBack.{Recordable, reads-back, rows-read}
-use Rattle.writing.specs.Kept.{read-recordable, read-kept}
+use Rattle.writing.specs.ReadStudy.{read-recordable, read-kept}
 use Rattle.joining.specs.Joining.{joiningOf, joinedTarget}
 use Rattle.joining.specs.JoinedColumns.{Joined, JoinedShares, JoinedNumbers, cut-own}
 use Rattle.joining.specs.Theorems.{Stands}

@@ -12,9 +12,9 @@ use Rattle.road.specs.declared.Road.{Road}
 use Rattle.road.specs.declared.State.{State}
 use Rattle.road.specs.Road.{mostCells, mostBytes, mostRate, mostStart, zeros, startState, startIn}
 use Rattle.road.specs.RoadLaws.{zeros-at}
-use Rattle.road.specs.Study.{Study}
+use Rattle.studies.specs.Study.{Study}
 use Rattle.limits.specs.LimitsLaws.{RoadOk, StateOk, RowOk}
-use Rattle.putting.specs.Record.{recordSize}
+use Rattle.encoding.specs.Record.{recordSize}
 use Rattle.writing.specs.Cut.{keptSeconds, cutRoad, cutState}
 use Rattle.writing.specs.ReadBack.{Recordable}
 use Rattle.joining.specs.Joining.{joinedEntry, joinedColumn, joinedShare, joinedRoad, joinedStart, joinedRow, joinedStudy}

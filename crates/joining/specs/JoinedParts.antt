@@ -15,7 +15,7 @@ use Rattle.road.specs.declared.State.{State}
 use Rattle.road.specs.declared.Start.{Start}
 use Rattle.road.specs.Road.{mostCells, zeros, startState, startIn}
 use Rattle.road.specs.RoadLaws.{length-zeros}
-use Rattle.road.specs.Study.{study}
+use Rattle.studies.specs.Study.{study}
 use Rattle.fields.specs.Fields.{rowNumbers, recordRow}
 use Rattle.fields.specs.FieldsLaws.{length-row}
 use Rattle.header.specs.Header.{sizeOf}
@@ -23,10 +23,10 @@ use Rattle.reading.specs.Reading.{ReadAnswer, readingOf, studyOf}
 use Rattle.reading.specs.Numbers.{Numbers, read-numbers}
 use Rattle.reading.specs.Found.{Accepted}
 use Rattle.reading.specs.Within.{read-within}
-use Rattle.putting.specs.Record.{recordSize, recordOf}
+use Rattle.encoding.specs.Record.{recordSize, recordOf}
 use Rattle.writing.specs.Writing.{WriteAnswer, written}
-use Rattle.writing.specs.Kept.{read-size}
-use Rattle.writing.specs.Again.{same-bytes}
+use Rattle.writing.specs.ReadStudy.{read-size}
+use Rattle.writing.specs.WrittenAgain.{same-bytes}
 use Rattle.joining.specs.Joining.{joinedEntry, joinedColumn, joinedShare, joinedRoad, joinedStart, joinedRow, joinedOf, joiningOf, joinedTarget}
 use Rattle.joining.specs.JoinedColumns.{halves, Joined, JoinedShares, JoinedNumbers, column-joined, shares-joined, row-joined}
 use Rattle.joining.specs.JoinedTests.{Idle}

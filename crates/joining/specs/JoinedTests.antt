@@ -8,8 +8,8 @@ use Rattle.numbers.specs.Lists.{at}
 use Rattle.numbers.specs.Tests.{le-head, eq-head, le-then, eq-then}
 use Rattle.numbers.specs.FirstLaws.{all-at, all-true}
 use Rattle.road.specs.Road.{mostCells, mostBytes}
-use Rattle.road.specs.Study.{Study}
-use Rattle.putting.specs.Record.{recordSize}
+use Rattle.studies.specs.Study.{Study}
+use Rattle.encoding.specs.Record.{recordSize}
 use Rattle.joining.specs.Joining.{alike, gateIdle, joinedFits}
 
 -- 20 doesn't apply: T, version and seconds are the same

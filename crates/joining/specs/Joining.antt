@@ -11,9 +11,9 @@ use Rattle.flow.specs.Flow.{whole}
 use Rattle.road.specs.declared.Road.{Road}
 use Rattle.road.specs.declared.State.{State}
 use Rattle.road.specs.Road.{mostCells, mostBytes, zeros}
-use Rattle.road.specs.Study.{Study, study}
+use Rattle.studies.specs.Study.{Study, study}
 use Rattle.reading.specs.Reading.{readingOf, studyOf}
-use Rattle.putting.specs.Record.{recordSize, recordOf}
+use Rattle.encoding.specs.Record.{recordSize, recordOf}
 use Rattle.writing.specs.Writing.{WriteAnswer, unwritten, written}
 
 -- entry i of a joined column: upstream's n entries, then downstream's

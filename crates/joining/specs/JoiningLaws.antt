@@ -7,29 +7,27 @@ use native.Mathlib.Omega.{arith}
 use lib.Dec.{leb, eqb}
 use lib.ListN.{length, drop}
 use borrow.Author.Tests.{leb-true, le-leb, lt-leb, eq-eqb, ne-eqb}
-use borrow.Author.Count.{below-more, below-none}
 use Rattle.numbers.specs.Lists.{at}
 use Rattle.numbers.specs.First.{firstFrom, firstOf, allOf}
-use Rattle.numbers.specs.FirstLaws.{all-true, all-fails}
 use Rattle.numbers.specs.Tests.{le-head}
 use Rattle.rows.specs.Placed.{Puts}
 use Rattle.flow.specs.Flow.{whole}
 use Rattle.road.specs.declared.Road.{Road}
 use Rattle.road.specs.declared.Start.{Start}
 use Rattle.road.specs.Road.{mostCells, mostSteps, mostBytes, zeros, startState, startIn}
-use Rattle.road.specs.Study.{Study, study}
+use Rattle.studies.specs.Study.{Study, study}
 use Rattle.fields.specs.Fields.{numberSize, numberOf, versionOf, secondsSize, rowStart, entryStart, recordRow}
 use Rattle.fields.specs.FieldsLaws.{row-at}
 use Rattle.header.specs.Header.{sizeOf}
 use Rattle.reading.specs.Reading.{ReadAnswer, readingOf, studyBy}
 use Rattle.reading.specs.Within.{read-within}
 use Rattle.reading.specs.Headers.{Steps}
-use Rattle.putting.specs.Record.{recordSize, recordOf}
-use Rattle.putting.specs.Putting.{length-record, record-stands}
+use Rattle.encoding.specs.Record.{recordSize, recordOf}
+use Rattle.encoding.specs.Encoding.{length-record, record-stands}
 use Rattle.writing.specs.Writing.{WriteAnswer, unwritten, written}
 use Rattle.joining.specs.Joining.{joinedStudy, alike, gateIdle, joinedFits, joiningBy, joiningOf, joinedTarget}
 use Rattle.joining.specs.Theorems.{ReadsJoined, joins-only, reads-as-joined}
-use Rattle.joining.specs.BytesLaws.{Joins}
+use Rattle.joining.specs.JoinedBytes.{Joins}
 
 -- a road of n cells and T steps without rows, whose numbers are 0 but for the gate's queue
 abbrev blank : ℕ → ℕ → ℕ → Study
@@ -78,34 +76,12 @@ gate-number s n t {start} {x} e k =
     let z : start ≡ entryStart (versionOf s) n t 0 = omega (arith, e) in
     k ∙ ap (λ (i : ℕ). numberOf s i numberSize) z ∙ sym (row-at s n t 0 (omega arith))
 
--- the loop over the steps: none of the first t has an arrival
-pub record Idle (s : List ℕ) (n T queue t : ℕ) : Type 0 where
-  pub within : t ≤ T
-  pub none : queue ≡ 0
-  pub before : (j : ℕ) → j < t → noArrival s n j ≡ true
-
+-- a queue at the gate, or else the loop over the steps decides
 pub idle-queue : (s : List ℕ) (n T queue : ℕ) → (queue ≡ 0 → ⊥) → false ≡ idleBy s n T queue
 idle-queue s n T queue h = rw (ne-eqb queue 0 h)
 
-module _ {s : List ℕ} {n T queue : ℕ} where
-  pub idle-none : queue ≡ 0 → Idle s n T queue 0
-  idle-none e = record { within = omega arith; none = e; before = below-none _ }
-
-  module _ {t : ℕ} (h : Idle s n T queue t) where
-    pub idle-stop : {x : ℕ} → t < T → x ≡ at (recordRow s n t) 0 → (x ≡ 0 → ⊥) → false ≡ idleBy s n T queue
-    idle-stop {x} l e k =
-        let f : noArrival s n t ≡ false = ne-eqb (at (recordRow s n t) 0) 0 (λ z. k (e ∙ z)) in
-        rw (eq-eqb queue 0 (h .none), all-fails (noArrival s n) T t l f)
-
-    pub idle-more : {x : ℕ} → t < T → x ≡ at (recordRow s n t) 0 → x ≡ 0 → Idle s n T queue (t + 1)
-    idle-more l e k = record {
-      within = omega arith;
-      none = h .none;
-      before = below-more _ _ (h .before) (eq-eqb (at (recordRow s n t) 0) 0 (sym e ∙ k));
-    }
-
-    pub idle-end : T ≤ t → true ≡ idleBy s n T queue
-    idle-end l = rw (eq-eqb queue 0 (h .none), all-true (noArrival s n) T (λ j m. h .before j (omega arith)))
+pub idle-steps : (s : List ℕ) (n T queue : ℕ) {t : Bool} → queue ≡ 0 → t ≡ allOf (noArrival s n) T → t ≡ idleBy s n T queue
+idle-steps s n T queue h e = e ∙ rw (eq-eqb queue 0 h)
 
 -- what the tests ask of two records that read
 pub record Joinable (road : Road) (T : ℕ) (down : List ℕ) (next : Road) (nextT : ℕ) : Type 0 where

@@ -5,5 +5,5 @@ pub mod JoinedTests
 pub mod Theorems
 pub mod JoinedParts
 pub mod JoinedCut
-pub mod BytesLaws
+pub mod JoinedBytes
 pub mod JoiningLaws

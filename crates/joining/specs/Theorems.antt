@@ -1,6 +1,6 @@
 -- docs/MODEL.md, 'Joining': what joining two neighbouring roads promises, sentence by sentence. Assumes nothing.
 use mathlib.Core.Path.{_≡_, refl, sym, ap, subst, _∙_}
-use mathlib.Core.Bool.{Bool, true, false, cond}
+use mathlib.Core.Bool.{cond}
 use mathlib.Core.List.{List, [], _++_}
 use Prim.Native.Nat.{ℕ, _+_, _≤_, _<_}
 use native.Mathlib.Omega.{arith}
@@ -8,18 +8,17 @@ use lib.Dec.{leb, eqb}
 use lib.ListN.{length, take, drop}
 use lib.Seq.{take-at, drop-at}
 use borrow.Author.Tests.{leb-true, leb-false, eqb-true, eqb-false}
-use Rattle.numbers.specs.Lists.{at}
-use Rattle.numbers.specs.First.{unless}
+use Rattle.numbers.specs.Tests.{unless-elim, never}
 use Rattle.flow.specs.Flow.{whole}
-use Rattle.road.specs.Study.{Study}
+use Rattle.studies.specs.Study.{Study}
 use Rattle.fields.specs.Fields.{recordRow}
 use Rattle.fields.specs.FieldsLaws.{length-row}
 use Rattle.reading.specs.Reading.{ReadAnswer, acceptedOf, readingOf, studyOf}
-use Rattle.putting.specs.Record.{recordSize, recordOf}
-use Rattle.putting.specs.Putting.{length-record}
+use Rattle.encoding.specs.Record.{recordSize, recordOf}
+use Rattle.encoding.specs.Encoding.{length-record}
 use Rattle.writing.specs.Writing.{WriteAnswer, unwritten, written}
 use Rattle.writing.specs.ReadBack.{Recordable, reads-back, rows-read}
-use Rattle.writing.specs.Kept.{read-recordable, read-kept}
+use Rattle.writing.specs.ReadStudy.{read-recordable, read-kept}
 use Rattle.joining.specs.Joining.{joinedRoad, joinedStart, joinedRow, alike, gateIdle, joinedFits, joinedOf, joiningOf, joinedTarget}
 use Rattle.joining.specs.JoinedColumns.{Joined, JoinedShares, JoinedNumbers, column-joined, shares-joined, row-joined}
 use Rattle.joining.specs.JoinedLimits.{road-cut, start-cut, study-joined}
@@ -57,10 +56,6 @@ pub data Ends (up down : List ℕ) (share : ℕ) (target : List ℕ) : WriteAnsw
       → Ends up down share target (written (recordSize (joinedOf up down share)))
       (recordOf (joinedOf up down share) ++ drop (recordSize (joinedOf up down share)) target)
 
--- a test that passes does not fail
-never : {t : Bool} → t ≡ true → t ≡ false → ⊥
-never h k = let z : _≡_ {A = ℕ} 0 1 = cc in omega arith
-
 module _ (up down : List ℕ) (share : ℕ) (target : List ℕ) where
   abbrev a : Study
   a = studyOf up []
@@ -71,44 +66,34 @@ module _ (up down : List ℕ) (share : ℕ) (target : List ℕ) where
   abbrev j : Study
   j = joinedOf up down share
 
-  -- the answer by its tests
-  abbrev saying : (q r s t u v w : Bool) → WriteAnswer
-  saying q r s t u v w =
-      unless q (unwritten (readingOf up .number) (readingOf up .place))
-      (unless r (unwritten (readingOf down .number) (readingOf down .place))
-      (unless s (unwritten 5 (a .road .n))
-      (unless t (unwritten 20 0) (unless u (unwritten 21 0) (unless v (unwritten 22 0) (unless w (unwritten 15 0) (written (recordSize j))))))))
+  -- an answer, with the target that it leaves
+  abbrev End : WriteAnswer → Type 0
+  End x = Ends up down share target x (cond (eqb (x .number) 0) (recordOf j ++ drop (recordSize j) target) target)
 
   pub ends : Ends up down share target (joiningOf up down share target) (joinedTarget up down share target)
   unfolding joiningOf joinedTarget
-  ends = go (eqb (readingOf up .number) 0) (eqb (readingOf down .number) 0) (leb share whole) (alike a b) (gateIdle b) (joinedFits j)
-      (leb (recordSize j) (length target)) refl refl refl refl refl refl refl
-    where
-      both : eqb (readingOf up .number) 0 ≡ true → eqb (readingOf down .number) 0 ≡ true → Both up down
-      both p q = record { upper = eqb-true _ 0 p; lower = eqb-true _ 0 q }
-
-      go : (q r s t u v w : Bool) → eqb (readingOf up .number) 0 ≡ q → eqb (readingOf down .number) 0 ≡ r → leb share whole ≡ s → alike a b ≡ t
-          → gateIdle b ≡ u → joinedFits j ≡ v → leb (recordSize j) (length target) ≡ w
-          → Ends up down share target (saying q r s t u v w)
-          (cond (eqb (saying q r s t u v w .number) 0) (recordOf j ++ drop (recordSize j) target) target)
-      go false r s t u v w eq er es et eu ev ew = rw eq (upperUnread (eqb-false (readingOf up .number) 0 eq))
-      go true false s t u v w eq er es et eu ev ew = rw er (lowerUnread (eqb-true _ 0 eq) (eqb-false (readingOf down .number) 0 er))
-      go true true false t u v w eq er es et eu ev ew = above (both eq er) (leb-false share whole es)
-      go true true true false u v w eq er es et eu ev ew = unlike (both eq er) (leb-true share whole es) (λ h. never (facts-alike a b h) et)
-      go true true true true false v w eq er es et eu ev ew =
-          busy (both eq er) (leb-true share whole es) (alike-facts a b et) (λ h. never (facts-idle b h) eu)
-      go true true true true true false w eq er es et eu ev ew =
-          large (both eq er) (leb-true share whole es) (alike-facts a b et) (idle-facts b eu) (λ h. never (facts-small j h) ev)
-      go true true true true true true false eq er es et eu ev ew =
-          short (both eq er) (leb-true share whole es) (alike-facts a b et) (idle-facts b eu) (small-facts j ev) (leb-false (recordSize j) (length target) ew)
-      go true true true true true true true eq er es et eu ev ew = joined (record {
-        both = both eq er;
-        stated = leb-true share whole es;
-        alike = alike-facts a b et;
-        idle = idle-facts b eu;
-        small = small-facts j ev;
-        room = leb-true (recordSize j) (length target) ew;
-      })
+  ends =
+      unless-elim End (eqb (readingOf up .number) 0) (λ q. rw q (upperUnread (eqb-false (readingOf up .number) 0 q))) (λ q.
+      let upper = eqb-true (readingOf up .number) 0 q in
+      unless-elim End (eqb (readingOf down .number) 0) (λ r. rw r (lowerUnread upper (eqb-false (readingOf down .number) 0 r))) (λ r.
+      let both : Both up down = record { upper = upper; lower = eqb-true (readingOf down .number) 0 r } in
+      unless-elim End (leb share whole) (λ s. above both (leb-false share whole s)) (λ s.
+      let stated = leb-true share whole s in
+      unless-elim End (alike a b) (λ t. unlike both stated (λ h. never (facts-alike a b h) t)) (λ t.
+      let same = alike-facts a b t in
+      unless-elim End (gateIdle b) (λ u. busy both stated same (λ h. never (facts-idle b h) u)) (λ u.
+      let idle = idle-facts b u in
+      unless-elim End (joinedFits j) (λ v. large both stated same idle (λ h. never (facts-small j h) v)) (λ v.
+      let small = small-facts j v in
+      unless-elim End (leb (recordSize j) (length target)) (λ w. short both stated same idle small (leb-false (recordSize j) (length target) w)) (λ w.
+      joined (record {
+        both = both;
+        stated = stated;
+        alike = same;
+        idle = idle;
+        small = small;
+        room = leb-true (recordSize j) (length target) w;
+      }))))))))
 
 -- no refusal comes exactly where all that is asked holds
 joined-asked : {up down : List ℕ} {share : ℕ} {target : List ℕ} {a : WriteAnswer} {after : List ℕ} → Ends up down share target a after → a .number ≡ 0

@@ -14,16 +14,16 @@ ghost use Rattle.numbers.specs.Lists.{at};
 ghost use Rattle.rows.specs.Rows.{concatOf};
 ghost use Rattle.rows.specs.Placed.{Puts};
 ghost use Rattle.road.specs.Road.{mostCells, mostSteps, mostBytes, startState};
-ghost use Rattle.road.specs.Study.{study};
+ghost use Rattle.studies.specs.Study.{study};
 ghost use Rattle.fields.specs.Fields.{numberSize, rowSize, recordRow, HoldsRow};
 ghost use Rattle.header.specs.Header.{sizeOf};
 ghost use Rattle.reading.specs.Reading.{studyBy};
 ghost use Rattle.reading.specs.Headers.{Steps};
-ghost use Rattle.putting.specs.Record.{numbersOf, rowBytes, recordOf};
+ghost use Rattle.encoding.specs.Record.{numbersOf, rowBytes, recordOf};
 ghost use Rattle.writing.specs.Writing.{writeAnswer};
 ghost use Rattle.joining.specs.Joining.{joinedRow, joinedStudy, joiningBy, joiningOf, joinedTarget};
 ghost use Rattle.joining.specs.Theorems.{ReadsJoined};
-ghost use Rattle.joining.specs.BytesLaws.{withShare, joinedRows, Joins};
+ghost use Rattle.joining.specs.JoinedBytes.{withShare, joinedRows, Joins};
 ghost use Rattle.joining.specs.JoiningLaws.{idleBy, Joinable};
 
 // The gate's arrivals in step t.
@@ -129,8 +129,8 @@ fn put_joined_row(target: &mut [u8], at: usize, row: &[u32], next: &[u32]) -> us
     ensures { λ e. ⌜ Puts (now (target .entry)) at
         (numbersOf (joinedRow (now (row .entry)) (now (next .entry))) (length (joinedRow (now (row .entry)) (now (next .entry))))) (now (target .exit)) e ⌝ }
 {
-    let end = putting::put_row(target, at, row);
-    putting::put_row(target, end, &next[1..])
+    let end = encoding::put_row(target, at, row);
+    encoding::put_row(target, end, &next[1..])
 }
 
 // The rows of all steps, joined step by step.
@@ -180,7 +180,7 @@ fn put_joined(
 {
     let n = road.n;
     let m = next.n;
-    let to_cells = putting::put_header(
+    let to_cells = encoding::put_header(
         target,
         road.version,
         n + m,
@@ -190,8 +190,8 @@ fn put_joined(
         start.gate_queue,
     );
     let joint = with_share(road, share);
-    let to_next = putting::put_cells(target, to_cells, joint, start);
-    let to_rows = putting::put_cells(target, to_next, next, next_start);
+    let to_next = encoding::put_cells(target, to_cells, joint, start);
+    let to_rows = encoding::put_cells(target, to_next, next, next_start);
     put_joined_rows(target, to_rows, upstream, n, downstream, m, steps)
 }
 

@@ -8,7 +8,7 @@ ghost use mathlib.Core.Path.{_≡_};
 ghost use Rattle.reading.specs.Reading.{studyBy};
 ghost use Rattle.schedules.specs.Schedules.{endAnswer, judgeEnd, judgingOf};
 ghost use Rattle.schedules.specs.Judged.{AcceptsExactly};
-ghost use Rattle.judging.specs.Passed.{Judgeable};
+ghost use Rattle.judging.specs.Obeyed.{Judgeable};
 
 // Goes through a schedule of the right length up to its first fault: 9, 10, 13 or 14.
 fn judge_rows(

@@ -1,6 +1,6 @@
 -- Laws of lanes: what they leave of a capacity, and what the tests of 17 and 18 say. Assumes nothing.
 use mathlib.Core.Path.{_≡_, refl, sym, ap, _∙_}
-use mathlib.Core.Bool.{Bool, true, false}
+use mathlib.Core.Bool.{Bool, true}
 use mathlib.Core.Logic.{⊎-elim}
 use mathlib.Core.List.{List}
 use Prim.Native.Nat.{ℕ, zero, suc, _+_, _*_, _/_, _%_, _-_, min, _≤_, _<_}
@@ -14,11 +14,10 @@ use lib.Count.{onesIn, ones, ones-step}
 use lib.Dec.{eqb}
 use lib.ListN.{length, set, take, drop, List·getD-eq-default}
 use borrow.Author.Tests.{eqb-true, eq-eqb}
-use borrow.Author.Count.{below-more, below-none}
 use Rattle.numbers.specs.Lists.{at}
 use Rattle.numbers.specs.Tests.{order, le-head, le-then}
-use Rattle.numbers.specs.First.{firstOf, allOf}
-use Rattle.numbers.specs.FirstLaws.{all-at, all-true, all-fails, first-stop, first-none}
+use Rattle.numbers.specs.First.{allOf}
+use Rattle.numbers.specs.FirstLaws.{all-at}
 use Rattle.rows.specs.Rows.{fillOf}
 use Rattle.rows.specs.RowsLaws.{fill-more}
 use Rattle.rows.specs.Tables.{rowAt}
@@ -94,32 +93,6 @@ pub lanes-all : (built : ℕ) → 0 < built → lanesOk built built ≡ true
 unfolding lanesOk
 lanes-all built l = le-then 1 built (eqb (bitAnd built built) built) l (eq-eqb (bitAnd built built) built (and-self built))
 
--- a loop over the cells whose lanes are as they should be
-pub record Passed (f : ℕ → Bool) (n i : ℕ) : Type 0 where
-  pub within : i ≤ n
-  pub before : (j : ℕ) → j < i → f j ≡ true
-
-module _ {f : ℕ → Bool} {n : ℕ} where
-  pub passed-none : Passed f n 0
-  passed-none = record { within = omega arith; before = below-none _ }
-
-  module _ {i : ℕ} (h : Passed f n i) where
-    pub passed-more : {b : Bool} → i < n → b ≡ f i → b ≡ true → Passed f n (i + 1)
-    passed-more l e t = record { within = omega arith; before = below-more _ _ (h .before) (sym e ∙ t) }
-
-    pub passed-stop : {b : Bool} → i < n → b ≡ f i → b ≡ false → i ≡ firstOf f n
-    passed-stop l e z = first-stop f n i l (h .before) (sym e ∙ z)
-
-    pub passed-end : n ≤ i → i ≡ firstOf f n
-    passed-end l = let e : i ≡ n = omega (arith, h .within) in e ∙ sym (first-none f n (λ j m. h .before j (omega arith)))
-
-    -- and as one test of all
-    pub passed-fails : {b : Bool} → i < n → b ≡ f i → b ≡ false → false ≡ allOf f n
-    passed-fails l e z = sym (all-fails f n i l (sym e ∙ z))
-
-    pub passed-all : n ≤ i → true ≡ allOf f n
-    passed-all l = sym (all-true f n (λ j m. h .before j (omega (arith, h .within))))
-
 -- the byte of a table at a cell, in the row of lanes built and in a step's
 pub built-byte : (table : List ℕ) (n i : ℕ) → i < n → at table i ≡ at (builtIn table n) i
 built-byte table n i l =
@@ -161,21 +134,21 @@ table-within table n T e h k i l = ⊎-elim
     (order T k)
 
 -- the loop that opens lanes cell by cell
-pub record Opened (capacity built usable left : List ℕ) (i : ℕ) : Type 0 where
+pub record OpenedCells (capacity built usable left : List ℕ) (i : ℕ) : Type 0 where
   pub done : left ≡ openCapacities capacity built usable i
 
 module _ {capacity built usable : List ℕ} where
-  pub opened-none : Opened capacity built usable capacity 0
+  pub opened-none : OpenedCells capacity built usable capacity 0
   unfolding fillOf
   opened-none = record { done = refl }
 
-  pub opened-more : {left : List ℕ} {i x : ℕ} → Opened capacity built usable left i
-      → x ≡ openCapacity (at capacity i) (at built i) (at usable i) → Opened capacity built usable (set left i x) (i + 1)
+  pub opened-more : {left : List ℕ} {i x : ℕ} → OpenedCells capacity built usable left i
+      → x ≡ openCapacity (at capacity i) (at built i) (at usable i) → OpenedCells capacity built usable (set left i x) (i + 1)
   opened-more {left} {i} {x} h e = record {
     done = rw (h .done, e) (sym (fill-more (λ j. openCapacity (at capacity j) (at built j) (at usable j)) i capacity));
   }
 
-  pub opened-end : {left : List ℕ} {n i : ℕ} → Opened capacity built usable left i → i ≡ n → left ≡ openCapacities capacity built usable n
+  pub opened-end : {left : List ℕ} {n i : ℕ} → OpenedCells capacity built usable left i → i ≡ n → left ≡ openCapacities capacity built usable n
   opened-end h e = h .done ∙ ap (openCapacities capacity built usable) e
 
 -- the rows of a step, as the code cuts them from a table

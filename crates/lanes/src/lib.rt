@@ -4,6 +4,7 @@ ghost use Prim.Native.Nat.{_+_, _*_, _≤_, _<_};
 ghost use lib.Count.{ones};
 ghost use lib.ListN.{length};
 ghost use Rattle.numbers.specs.First.{firstOf};
+ghost use Rattle.road.specs.Road.{mostCells, mostSteps};
 ghost use Rattle.lanes.specs.Lanes.{openCapacity, openCapacities, lanesOk, lanesAt, builtIn, openIn, tableAt, tableBytes};
 
 // How many lanes a byte has.
@@ -37,7 +38,7 @@ pub fn lanes_ok(built: u8, usable: u8) -> bool
 
 // The lowest of n cells whose lanes are not as they should be, counted from 0, or n.
 pub fn first_cell(built: [u8; 64], usable: [u8; 64], n: usize) -> usize
-    requires { ⌜ n ≤ 64 ⌝ }
+    requires { ⌜ n ≤ mostCells ⌝ }
     ensures { λ i. ⌜ i ≡ firstOf (lanesAt built usable) n ⌝ }
 {
     let mut i = 0;
@@ -85,7 +86,7 @@ pub fn first_in_table(table: &[u8], n: usize, steps: usize) -> usize
 
 // The capacities of a step by the rows of its lanes.
 pub fn open_capacities(capacity: [u32; 64], built: &[u8], usable: &[u8], n: usize) -> [u32; 64]
-    requires { ⌜ (n ≤ 64) × ((n ≤ length (now built)) × (n ≤ length (now usable))) ⌝ }
+    requires { ⌜ (n ≤ mostCells) × ((n ≤ length (now built)) × (n ≤ length (now usable))) ⌝ }
     ensures { λ c. ⌜ c ≡ openCapacities capacity (now (built .entry)) (now (usable .entry)) n ⌝ }
 {
     let mut left = capacity;
@@ -99,7 +100,7 @@ pub fn open_capacities(capacity: [u32; 64], built: &[u8], usable: &[u8], n: usiz
 
 // The capacities of step k by a table that is not empty.
 pub fn step_capacities(capacity: [u32; 64], table: &[u8], n: usize, k: usize) -> [u32; 64]
-    requires { ⌜ (n ≤ 64) × ((k ≤ 1440) × ((k + 1) * n + n ≤ length (now table))) ⌝ }
+    requires { ⌜ (n ≤ mostCells) × ((k ≤ mostSteps) × ((k + 1) * n + n ≤ length (now table))) ⌝ }
     ensures { λ c. ⌜ c ≡ openCapacities capacity (builtIn (now (table .entry)) n) (openIn (now (table .entry)) n k) n ⌝ }
 {
     let from = (k + 1) * n;

@@ -1,6 +1,7 @@
 // The lines of the model's listing, put into a buffer: each contract gives the bytes.
 ghost use Prim.Native.Nat.{_+_, _*_, _≤_, _<_};
 ghost use lib.ListN.{length};
+ghost use Rattle.road.specs.Road.{mostCells};
 ghost use Rattle.road.specs.declared.State.{State};
 ghost use Rattle.listing.specs.Listing.{mostLine, mostLast, mostTime, headerLine, lineOf, linesOf, showing, totalLine};
 ghost use Rattle.listing.specs.Listing.{secondsLine, refusedLine};
@@ -37,7 +38,7 @@ pub fn lines<'a>(
     held: &'a [u32; 64],
     queue: &'a [u32; 64],
 ) -> usize
-    requires { ⌜ (n ≤ 64) × ((n < length (now outflows)) × (at + mostLine * (n + 1) ≤ length (now buffer))) ⌝ }
+    requires { ⌜ (n ≤ mostCells) × ((n < length (now outflows)) × (at + mostLine * (n + 1) ≤ length (now buffer))) ⌝ }
     ensures { λ r. ⌜ ((s : State) → Puts (now (buffer .entry)) at
         (linesOf step (now (outflows .entry)) (showing s «gate_queue» (now (held .entry)) (now (queue .entry))) n) (now (buffer .exit)) r) ⌝ }
 {

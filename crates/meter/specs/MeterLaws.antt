@@ -7,7 +7,6 @@ use Prim.Native.Nat.{ℕ, zero, suc, _+_, _-_, _*_, _^_, _≤_, _<_, min}
 use native.Mathlib.Nat.{le-refl, le-div-iff-mul-le, mul-pos, sub-self, zero-mul, le-of-suc-le-suc}
 use native.Mathlib.Omega.{arith}
 use borrow.Author.Tests.{leb-true, leb-false, ltb-true, le-leb, le-ltb, eqb-true, eqb-false, eq-eqb, ne-eqb}
-use borrow.Author.Count.{below-more, below-none}
 use lib.Dec.{T, leb, ltb, eqb, le→leb, leb→le, lit<}
 use lib.IntN.{pos, negsuc}
 use lib.ListN.{getD, length, List·getD-eq-default}
@@ -21,7 +20,7 @@ use lib.Ieee.Scale.{finite, round-same}
 use Rattle.numbers.specs.Lists.{at}
 use Rattle.numbers.specs.Tests.{order}
 use Rattle.numbers.specs.First.{unless, firstOf, allOf}
-use Rattle.numbers.specs.FirstLaws.{First, first, first-is, first-stop, all-at, all-true, all-fails}
+use Rattle.numbers.specs.FirstLaws.{First, Passed, first, first-is, all-at, all-true, passed-stop, passed-fails, passed-all}
 use Rattle.meter.specs.declared.DemandCapacity.{DemandCapacity}
 use Rattle.meter.specs.declared.Law.{Law}
 use Rattle.meter.specs.Meter.{count, demandCapacityOf, wholeBelow, lawFinite, lawAt, lawOk, lawFaultOf}
@@ -144,36 +143,6 @@ whole-greatest x cap k some within short h = leb-true k (wholeBelow x cap) (sym 
 pub whole-under : (x : Float) (cap k : ℕ) → 0 < k → k ≤ cap → cap < 2 ^ 32 → le (count k) x ≡ false → wholeBelow x cap < k
 whole-under x cap k some within short h = leb-false k (wholeBelow x cap) (sym (whole-agrees x cap k some within (omega arith)) ∙ h)
 
--- narrowing by halves: the release lies between two numbers
-pub record Between (x : Float) (cap low high : ℕ) : Type 0 where
-  pub least : low ≤ wholeBelow x cap
-  pub most : wholeBelow x cap ≤ high
-  pub within : high ≤ cap
-
-pub between-none : {x : Float} {cap : ℕ} → Between x cap 0 cap
-between-none {x} {cap} = record { least = omega arith; most = whole-most x cap; within = le-refl cap }
-
--- a number between them that is not above the wish is the lower one
-pub between-fits : {x : Float} {cap low high middle : ℕ} → Between x cap low high → low < middle → middle ≤ high → cap < 2 ^ 32
-    → le (count middle) x ≡ true → Between x cap middle high
-between-fits {x} {cap} {middle = middle} b l m short h = record {
-  least = whole-greatest x cap middle (omega arith) (omega (arith, b .within)) short h;
-  most = b .most;
-  within = b .within;
-}
-
--- the one before a number that is above it is the higher one
-pub between-above : {x : Float} {cap low high middle : ℕ} → Between x cap low high → low < middle → middle ≤ high → cap < 2 ^ 32
-    → le (count middle) x ≡ false → Between x cap low (middle - 1)
-between-above {x} {cap} {middle = middle} b l m short h = record {
-  least = b .least;
-  most = omega (arith, whole-under x cap middle (omega arith) (omega (arith, b .within)) short h);
-  within = omega (arith, b .within);
-}
-
-pub between-end : {x : Float} {cap low high : ℕ} → Between x cap low high → high ≤ low → low ≡ wholeBelow x cap
-between-end b l = omega (arith, b .least, b .most)
-
 -- finite numbers
 
 -- a zero over any c rounds to 0
@@ -225,39 +194,26 @@ law-at laws i d h = any-default laws i d (lawAt [] 0) h
 
 -- what the code finds of the cell at i is this test
 pub ok-is : (laws : List Law) (ramp : List ℕ) (i : ℕ) (d : Law) {t : Bool} → i < length laws → t ≡ lawFinite (getD laws i d)
-    → lawOk laws ramp i ≡ eqb (at ramp i) 0 || t
+    → eqb (at ramp i) 0 || t ≡ lawOk laws ramp i
 unfolding lawOk
 ok-is laws ramp i d h e = rw (e, law-at laws i d h)
 
--- what holds when the loop over the cells has passed the first i of them
-pub record Passed (laws : List Law) (ramp : List ℕ) (n i : ℕ) : Type 0 where
-  pub within : i ≤ n
-  pub passed : (j : ℕ) → j < i → lawOk laws ramp j ≡ true
+-- the loop over the cells ends at the first that fails, after the last, or past the marks, where there is no ramp
+module _ (laws : List Law) (ramp : List ℕ) {n i : ℕ} (h : Passed (lawOk laws ramp) n i) where
+  pub fault-stop : {t : Bool} → i < n → t ≡ lawOk laws ramp i → t ≡ false → i + 1 ≡ lawFaultOf laws ramp n
+  unfolding lawFaultOf
+  fault-stop l e z = rw (← passed-fails h l e z, ← passed-stop h l e z)
 
-pub passed-none : {laws : List Law} {ramp : List ℕ} {n : ℕ} → Passed laws ramp n 0
-passed-none = record { within = omega arith; passed = below-none _ }
+  pub fault-end : n ≤ i → 0 ≡ lawFaultOf laws ramp n
+  unfolding lawFaultOf
+  fault-end l = rw (← passed-all h l)
 
-pub passed-more : {laws : List Law} {ramp : List ℕ} {n i : ℕ} → Passed laws ramp n i → i < n → lawOk laws ramp i ≡ true
-    → Passed laws ramp n (i + 1)
-passed-more p l e = record { within = omega arith; passed = below-more _ _ (p .passed) e }
-
-pub passed-stop : {laws : List Law} {ramp : List ℕ} {n i : ℕ} → Passed laws ramp n i → i < n → lawOk laws ramp i ≡ false
-    → i + 1 ≡ lawFaultOf laws ramp n
-unfolding lawFaultOf
-passed-stop {laws} {ramp} {n} {i} p l e =
-    rw (all-fails (lawOk laws ramp) n i l e, ← first-stop (lawOk laws ramp) n i l (p .passed) e)
-
-pub passed-end : {laws : List Law} {ramp : List ℕ} {n i : ℕ} → Passed laws ramp n i → n ≤ i → 0 ≡ lawFaultOf laws ramp n
-unfolding lawFaultOf
-passed-end {laws} {ramp} {n} p l = rw (all-true (lawOk laws ramp) n (λ j h. p .passed j (omega arith)))
-
--- past the marks there is no ramp
-pub passed-past : {laws : List Law} {ramp : List ℕ} {n i : ℕ} → Passed laws ramp n i → length ramp ≤ i → 0 ≡ lawFaultOf laws ramp n
-unfolding lawFaultOf
-passed-past {laws} {ramp} {n} {i} p l = rw (all-true (lawOk laws ramp) n (λ j h. ⊎-elim (past j) (p .passed j) (order i j)))
-  where
-    past : (j : ℕ) → i ≤ j → lawOk laws ramp j ≡ true
-    past j m = ok-no-ramp laws ramp j (List·getD-eq-default ramp 0 (omega arith))
+  pub fault-past : length ramp ≤ i → 0 ≡ lawFaultOf laws ramp n
+  unfolding lawFaultOf
+  fault-past l = rw (all-true (lawOk laws ramp) n (λ j m. ⊎-elim (past j) (h .before j) (order i j)))
+    where
+      past : (j : ℕ) → i ≤ j → lawOk laws ramp j ≡ true
+      past j m = ok-no-ramp laws ramp j (List·getD-eq-default ramp 0 (omega arith))
 
 -- 16's place: 0 where every ramp's law has finite numbers alone
 pub fault-none : (laws : List Law) (ramp : List ℕ) (n : ℕ) → lawFaultOf laws ramp n ≡ 0

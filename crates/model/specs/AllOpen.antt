@@ -3,6 +3,7 @@ use mathlib.Core.Path.{_≡_, refl, ap, _∙_}
 use mathlib.Core.Bool.{Bool, true, false}
 use mathlib.Core.List.{List}
 use Prim.Native.Nat.{ℕ, _<_}
+use Rattle.road.specs.Refusals.{fault}
 use Rattle.numbers.specs.Lists.{at}
 use Rattle.numbers.specs.First.{unless}
 use Rattle.numbers.specs.FirstLaws.{first-none}
@@ -12,7 +13,7 @@ use Rattle.road.specs.declared.Road.{Road}
 use Rattle.road.specs.declared.State.{State}
 use Rattle.limits.specs.Limits.{inputOk}
 use Rattle.limits.specs.LimitsLaws.{input-facts}
-use Rattle.model.specs.Step.{Answer, fault, answer, stepOn, steppingOf}
+use Rattle.model.specs.Step.{Answer, answer, stepOn, steppingOf}
 use Rattle.model.specs.StepLaws.{stepping-input, stepping-on}
 use Rattle.model.specs.Opened.{opened-all}
 

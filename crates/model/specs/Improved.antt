@@ -9,7 +9,7 @@ use lib.Dec.{eqb}
 use lib.ListN.{length}
 use Rattle.lanes.specs.Lanes.{builtIn, openIn}
 use Rattle.road.specs.declared.Road.{Road}
-use Rattle.road.specs.Study.{Study, openRoad, roadAt}
+use Rattle.studies.specs.Study.{Study, openRoad, roadAt}
 use Rattle.model.specs.Roads.{Wider, step-alike}
 use Rattle.model.specs.Opened.{opened-wider}
 use Rattle.model.specs.Runs.{engineAfter, outflowsAt, Fitting}

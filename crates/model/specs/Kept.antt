@@ -6,11 +6,12 @@ use Prim.Native.Nat.{ℕ, suc, _+_, _≤_, _<_}
 use native.Mathlib.Omega.{arith}
 use Rattle.flow.specs.FlowLaws.{supply-space, room-release}
 use Rattle.rows.specs.SumLaws.{sum-bound}
+use Rattle.road.specs.Refusals.{fault}
 use Rattle.road.specs.declared.Road.{Road}
 use Rattle.road.specs.declared.State.{State}
 use Rattle.numbers.specs.Lists.{at}
 use Rattle.road.specs.Road.{mostSteps, mostRate, mostPresent}
-use Rattle.road.specs.Study.{openRoad}
+use Rattle.studies.specs.Study.{openRoad}
 use Rattle.numbers.specs.First.{firstOf}
 use Rattle.lanes.specs.Lanes.{lanesAt}
 use Rattle.limits.specs.Limits.{mostQueue, mostCumulative, inputOk}
@@ -18,7 +19,7 @@ use Rattle.limits.specs.LimitsLaws.{StateOk, RowOk, InputOk, input-facts, input
 use Rattle.model.specs.Places.{releaseAt, supplyAt, capacityAt, cumulativeAt}
 use Rattle.model.specs.Move.{nextOf, presentOf}
 use Rattle.model.specs.Rules.{Released, Obeys, outflowsOf, Sized}
-use Rattle.model.specs.Step.{fault, answer, steppingOf}
+use Rattle.model.specs.Step.{answer, steppingOf}
 use Rattle.model.specs.MoveLaws.{next-done, next-total, next-gate-queue, next-held, next-queue, next-cumulative, next-sized}
 use Rattle.model.specs.RulesLaws.{demand-rate, outflows-obey}
 use Rattle.model.specs.StepLaws.{stepping-next}

@@ -14,7 +14,7 @@ use Rattle.rows.specs.RowsLaws.{fill-at, fill-same, fill-own}
 use Rattle.lanes.specs.Lanes.{openCapacity, builtIn, openIn}
 use Rattle.lanes.specs.LanesLaws.{open-all, open-le, open-mono, table-within}
 use Rattle.road.specs.declared.Road.{Road}
-use Rattle.road.specs.Study.{Study, withCapacity, openRoad, roadAt}
+use Rattle.studies.specs.Study.{Study, withCapacity, openRoad, roadAt}
 use Rattle.limits.specs.LimitsLaws.{RoadOk}
 use Rattle.model.specs.Places.{capacityAt}
 use Rattle.model.specs.StepLaws.{TableOk}

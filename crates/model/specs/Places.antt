@@ -2,7 +2,7 @@
 -- so the cell at p is the one after place p. Assumes nothing.
 use mathlib.Core.List.{List}
 use Prim.Native.Nat.{ℕ, zero, suc, _+_, _*_}
-use Rattle.flow.specs.Flow.{whole, demandOf, gateDemandOf, supplyOf, roomOf, onwardOf, enteringOf, outflowOf}
+use Rattle.flow.specs.Flow.{whole, demandOf, gateDemandOf, supplyOf, roomOf, onwardOf, enteringOf, outflowOf, mostReleaseOf}
 use Rattle.road.specs.declared.Road.{Road}
 use Rattle.road.specs.declared.State.{State}
 use Rattle.numbers.specs.Lists.{at}
@@ -32,7 +32,7 @@ supplyAt r s i = supplyOf (at (r .wave) i) (capacityAt r i) (at (r .jam) i) (at 
 
 -- what the release at the cell at i may be at most: the ramp's queue and this step's arrivals there
 unfoldable pub mostReleaseAt : State → List ℕ → ℕ → ℕ
-mostReleaseAt s row i = at (s .queue) i + arrivalsAt row i
+mostReleaseAt s row i = mostReleaseOf (at (s .queue) i) (arrivalsAt row i)
 
 -- the supply of the cell at i less its release
 abbrev pub roomAt : Road → State → List ℕ → ℕ → ℕ

@@ -2,7 +2,7 @@
 use mathlib.Core.List.{List}
 use Prim.Native.Nat.{ℕ, zero, suc, _+_, _<_}
 use Rattle.road.specs.declared.State.{State}
-use Rattle.road.specs.Study.{Study, roadAt}
+use Rattle.studies.specs.Study.{Study, roadAt}
 use Rattle.model.specs.Move.{nextOf, arrivalsOf}
 use Rattle.model.specs.Rules.{Released, Obeys, outflowsOf}
 

@@ -7,7 +7,7 @@ use native.Mathlib.Omega.{arith}
 use Rattle.road.specs.declared.Road.{Road}
 use Rattle.road.specs.declared.State.{State}
 use Rattle.road.specs.Road.{mostSteps}
-use Rattle.road.specs.Study.{Study, roadAt}
+use Rattle.studies.specs.Study.{Study, roadAt}
 use Rattle.limits.specs.LimitsLaws.{RoadOk, StateOk, RowOk, InputOk}
 use Rattle.model.specs.Move.{nextOf, presentOf, exitsOf}
 use Rattle.model.specs.Rules.{Released, Obeys, Greatest, Sized, outflowsOf}

@@ -7,6 +7,7 @@ use native.Mathlib.Omega.{arith}
 use lib.Dec.{eqb}
 use lib.ListN.{length}
 use borrow.Author.Tests.{eqb-false}
+use Rattle.road.specs.Refusals.{fault}
 use Rattle.numbers.specs.First.{firstFault}
 use Rattle.numbers.specs.FirstLaws.{first-same, fault-within, fault-same}
 use Rattle.rows.specs.RowsLaws.{fill-same, list-same}
@@ -14,12 +15,12 @@ use Rattle.road.specs.declared.Road.{Road}
 use Rattle.road.specs.declared.State.{State}
 use Rattle.road.specs.Road.{totalOf}
 use Rattle.lanes.specs.Lanes.{builtIn, openIn}
-use Rattle.road.specs.Study.{Study, openRoad, roadAt}
+use Rattle.studies.specs.Study.{Study, openRoad, roadAt}
 use Rattle.limits.specs.Limits.{placeOk, inputOk}
 use Rattle.model.specs.Places.{capacityAt, demandAt, shareAt, outflowAt}
 use Rattle.model.specs.Move.{heldOf, movedTo, countedOf, nextOf, exitsOf}
 use Rattle.model.specs.Rules.{outflowsOf}
-use Rattle.model.specs.Step.{fault, lowestOf, releasesOf, stepOn, steppingOf}
+use Rattle.model.specs.Step.{lowestOf, releasesOf, stepOn, steppingOf}
 use Rattle.model.specs.Verdict.{outflowFaultAt, verdictOf}
 use Rattle.model.specs.Runs.{scheduleAfter, engineAfter, outflowsAt}
 

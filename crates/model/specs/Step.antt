@@ -6,26 +6,19 @@ use Prim.Native.Nat.{ℕ, _+_}
 use lib.Dec.{leb, eqb}
 use lib.ListN.{length}
 use Rattle.lanes.specs.Lanes.{lanesAt, tableAt, tableBytes}
+use Rattle.road.specs.Refusals.{fault, FaultAnswer}
 use Rattle.road.specs.declared.Road.{Road}
 use Rattle.road.specs.declared.State.{State}
 use Rattle.road.specs.Road.{mostSteps}
-use Rattle.road.specs.Study.{openRoad}
+use Rattle.studies.specs.Study.{openRoad}
 use Rattle.numbers.specs.First.{unless, unlessFirst, firstOf, allOf, firstFault}
 use Rattle.limits.specs.Limits.{inputOk}
 use Rattle.model.specs.Places.{releaseAt, mostReleaseAt, supplyAt}
 use Rattle.model.specs.Move.{nextOf}
 use Rattle.model.specs.Rules.{outflowsOf}
 
--- a refusal's number, 0 for none, and its place
-pub record Fault : Type 0 where
-  pub number : ℕ
-  pub place : ℕ
-
-abbrev pub fault : ℕ → ℕ → Fault
-fault number place = record { number = number; place = place }
-
 -- the fault of the lowest of n cells or places that has one; `base` is the place of the first
-unfoldable pub lowestOf : (ℕ → ℕ) → ℕ → ℕ → Fault
+unfoldable pub lowestOf : (ℕ → ℕ) → ℕ → ℕ → FaultAnswer
 lowestOf f n base = cond (eqb (firstFault f n) n) (fault 0 0) (fault (f (firstFault f n)) (firstFault f n + base))
 
 -- at one cell: 9, release above what its ramp may release at most, before 10, release above supply
@@ -36,7 +29,7 @@ abbrev pub releaseFaultAt : Road → State → List ℕ → ℕ → ℕ
 releaseFaultAt r s row i = releaseFault (releaseAt row i) (mostReleaseAt s row i) (supplyAt r s i)
 
 -- at the lowest cell with either
-abbrev pub releasesOf : Road → State → List ℕ → Fault
+abbrev pub releasesOf : Road → State → List ℕ → FaultAnswer
 releasesOf r s row = lowestOf (releaseFaultAt r s row) (r .n) 1
 
 -- what stepping answers: the refusal's number or 0, step and place, and a state
@@ -47,11 +40,11 @@ pub record Answer : Type 0 where
   pub state : State
 
 -- a step or place that no rule names is 0: stepping's step always
-abbrev pub answer : Fault → State → Answer
+abbrev pub answer : FaultAnswer → State → Answer
 answer q s = record { number = q .number; step = 0; place = q .place; state = s }
 
 -- with no fault of a release, the next state; a refusal returns the state that was given
-abbrev pub settledOf : Road → State → List ℕ → Fault → Answer
+abbrev pub settledOf : Road → State → List ℕ → FaultAnswer → Answer
 settledOf r s row q = unless (eqb (q .number) 0) (answer q s) (answer q (nextOf r s row (outflowsOf r s row)))
 
 -- 8, s is 1,440; then 9 or 10, on the step's road
@@ -66,7 +59,7 @@ steppingOf r s row built usable =
     (stepOn (openRoad r built usable) s row))
 
 -- of a table of lanes: 17, neither empty nor of n × (T + 1) bytes; 18, at the lowest such cell over all rows
-unfoldable pub tableFault : List ℕ → ℕ → ℕ → Fault
+unfoldable pub tableFault : List ℕ → ℕ → ℕ → FaultAnswer
 tableFault table n T =
     cond (eqb (length table) 0) (fault 0 0)
     (unless (eqb (length table) (tableBytes n T)) (fault 17 0)

@@ -12,16 +12,16 @@ use borrow.Author.Tests.{eqb-true, eqb-false, eq-eqb, ne-eqb}
 use Rattle.road.specs.declared.Road.{Road}
 use Rattle.road.specs.declared.State.{State}
 use Rattle.road.specs.Road.{mostSteps}
-use Rattle.road.specs.Study.{openRoad}
-use Rattle.road.specs.Refusals.{began}
+use Rattle.studies.specs.Study.{openRoad}
+use Rattle.road.specs.Refusals.{began, fault, FaultAnswer}
 use Rattle.numbers.specs.First.{unless, oneOf, firstFrom, firstOf, allOf, firstFault}
-use Rattle.numbers.specs.FirstLaws.{fault-within, fault-before, fault-there, fault-at, fault-none}
-use Rattle.numbers.specs.Tests.{two-zero, two-pass}
+use Rattle.numbers.specs.FirstLaws.{Faultless, fault-within, fault-before, fault-there, fault-none, faultless-stop}
+use Rattle.numbers.specs.Tests.{unless-elim, two-zero, two-pass}
 use Rattle.limits.specs.Limits.{inputOk}
 use Rattle.model.specs.Places.{releaseAt, mostReleaseAt, supplyAt}
 use Rattle.model.specs.Move.{nextOf}
 use Rattle.model.specs.Rules.{Released, outflowsOf}
-use Rattle.model.specs.Step.{Fault, fault, lowestOf, releaseFaultAt, releasesOf, answer, stepOn, steppingOf, tableFault}
+use Rattle.model.specs.Step.{lowestOf, releaseFaultAt, releasesOf, answer, stepOn, steppingOf, tableFault}
 
 -- two cells, a lane built in each, two steps: cell 2 is wrong in step 0 and cell 1 in step 1, and cell 1 is named
 pub lowest-over-rows : tableFault (1 ∷ 1 ∷ 1 ∷ 2 ∷ 2 ∷ 1 ∷ []) 2 2 ≡ fault 18 1
@@ -29,8 +29,8 @@ unfolding tableFault firstOf firstFrom lanesOk rowAt
 lowest-over-rows = refl
 
 -- equal faults have equal numbers
-pub number-of : {p q : Fault} → p ≡ q → p .number ≡ q .number
-number-of e = ap (λ (q : Fault). q .number) e
+pub number-of : {p q : FaultAnswer} → p ≡ q → p .number ≡ q .number
+number-of e = ap (λ (q : FaultAnswer). q .number) e
 
 -- the lowest fault
 module _ (f : ℕ → ℕ) (n base : ℕ) where
@@ -38,10 +38,14 @@ module _ (f : ℕ → ℕ) (n base : ℕ) where
   unfolding lowestOf
   lowest-none h = rw (eq-eqb (firstFault f n) n (fault-none f n h))
 
-  -- the lowest with a fault has one, and none below it has
-  pub lowest-at : (i m : ℕ) → i < n → ((j : ℕ) → j < i → f j ≡ 0) → f i ≡ m → (m ≡ 0 → ⊥) → lowestOf f n base ≡ fault m (i + base)
-  unfolding lowestOf
-  lowest-at i m l h e ne = rw (fault-at f n i l h (λ z. ne (sym e ∙ z)), ne-eqb i n (λ z. omega arith), e)
+  -- as a loop over the numbers finds it
+  module _ {i : ℕ} (h : Faultless f n i) where
+    pub lowest-stop : {m : ℕ} → i < n → m ≡ f i → (m ≡ 0 → ⊥) → fault m (i + base) ≡ lowestOf f n base
+    unfolding lowestOf
+    lowest-stop l e ne = rw (← faultless-stop h l e ne, ne-eqb i n (λ z. omega arith), e)
+
+    pub lowest-end : n ≤ i → fault 0 0 ≡ lowestOf f n base
+    lowest-end l = sym (lowest-none (λ j m. h .before j (omega arith)))
 
   pub lowest-zero : lowestOf f n base .number ≡ 0 → (i : ℕ) → i < n → f i ≡ 0
   unfolding lowestOf
@@ -154,16 +158,16 @@ pub record TableOk (table : List ℕ) (n T : ℕ) : Type 0 where
   pub right : (length table ≡ 0 → ⊥) → length table ≡ tableBytes n T
   pub cells : (length table ≡ 0 → ⊥) → allOf (tableAt table n T) n ≡ true
 
-pub table-ok : (table : List ℕ) (n T : ℕ) → tableFault table n T .number ≡ 0 → TableOk table n T
-unfolding tableFault
-table-ok table n T h =
-    go (eqb (length table) 0) (eqb (length table) (tableBytes n T)) (eqb (firstOf (tableAt table n T) n) n) refl refl refl h
-  where
-    go : (a b c : Bool) → eqb (length table) 0 ≡ a → eqb (length table) (tableBytes n T) ≡ b → eqb (firstOf (tableAt table n T) n) n ≡ c
-        → cond a (fault 0 0) (unless b (fault 17 0) (unless c (fault 18 (firstOf (tableAt table n T) n + 1)) (fault 0 0))) .number ≡ 0
-        → TableOk table n T
-    go true b c ea eb ec z =
-        let e = eqb-true (length table) 0 ea in record { right = λ no. absurd (no e); cells = λ no. absurd (no e) }
-    go false true true ea eb ec z = record { right = λ no. eqb-true (length table) (tableBytes n T) eb; cells = λ no. ec }
-    go false true false ea eb ec z = absurd (omega arith)
-    go false false c ea eb ec z = absurd (omega arith)
+module _ (table : List ℕ) (n T : ℕ) where
+  abbrev Whole : FaultAnswer → Type 0
+  Whole x = x .number ≡ 0 → TableOk table n T
+
+  pub table-ok : tableFault table n T .number ≡ 0 → TableOk table n T
+  unfolding tableFault
+  table-ok =
+      unless-elim Whole (eqb (length table) 0)
+      (λ _.
+      unless-elim Whole (eqb (length table) (tableBytes n T)) (λ _ z. absurd (omega arith)) (λ right.
+      unless-elim Whole (allOf (tableAt table n T) n) (λ _ z. absurd (omega arith)) (λ cells _.
+      record { right = λ _. eqb-true (length table) (tableBytes n T) right; cells = λ _. cells })))
+      (λ none _. let e = eqb-true (length table) 0 none in record { right = λ no. absurd (no e); cells = λ no. absurd (no e) })

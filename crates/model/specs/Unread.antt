@@ -3,6 +3,7 @@ use mathlib.Core.Path.{_≡_, ap, _∙_}
 use mathlib.Core.List.{List}
 use Prim.Native.Nat.{ℕ, _+_, _<_}
 use lib.Dec.{eqb}
+use Rattle.road.specs.Refusals.{fault}
 use Rattle.numbers.specs.Lists.{at}
 use Rattle.numbers.specs.First.{unless, firstOf}
 use Rattle.numbers.specs.FirstLaws.{first-same}
@@ -10,9 +11,9 @@ use Rattle.rows.specs.RowsLaws.{fill-same}
 use Rattle.lanes.specs.Lanes.{openCapacity, lanesAt}
 use Rattle.road.specs.declared.Road.{Road}
 use Rattle.road.specs.declared.State.{State}
-use Rattle.road.specs.Study.{withCapacity, openRoad}
+use Rattle.studies.specs.Study.{withCapacity, openRoad}
 use Rattle.limits.specs.Limits.{inputOk}
-use Rattle.model.specs.Step.{Answer, fault, answer, stepOn, steppingOf}
+use Rattle.model.specs.Step.{Answer, answer, stepOn, steppingOf}
 
 -- two rows of lanes that agree up to cell n
 pub record SameTo (n : ℕ) (lanes other : List ℕ) : Type 0 where

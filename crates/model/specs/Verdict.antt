@@ -3,12 +3,13 @@ use mathlib.Core.Bool.{cond}
 use mathlib.Core.List.{List}
 use Prim.Native.Nat.{ℕ, _+_}
 use lib.Dec.{leb, ltb, eqb}
+use Rattle.road.specs.Refusals.{FaultAnswer}
 use Rattle.road.specs.declared.Road.{Road}
 use Rattle.road.specs.declared.State.{State}
 use Rattle.numbers.specs.Lists.{at}
 use Rattle.numbers.specs.First.{unless}
 use Rattle.model.specs.Places.{demandAt, roomAt, enteringAt}
-use Rattle.model.specs.Step.{Fault, lowestOf, releasesOf}
+use Rattle.model.specs.Step.{lowestOf, releasesOf}
 
 -- at a place before the last: 13, outflow above demand, before 14, too much let into the next cell
 abbrev pub outflowFault : ℕ → ℕ → ℕ → ℕ → ℕ
@@ -26,9 +27,9 @@ outflowFaultAt r s row y p =
     (lastFault (at y p) (demandAt r s p))
 
 -- at the lowest place with either; the place of 14 is the sender
-abbrev pub outflowsFaultOf : Road → State → List ℕ → List ℕ → Fault
+abbrev pub outflowsFaultOf : Road → State → List ℕ → List ℕ → FaultAnswer
 outflowsFaultOf r s row y = lowestOf (outflowFaultAt r s row y) (r .n + 1) 0
 
 -- 9 or 10 as in stepping, and then 13 or 14
-unfoldable pub verdictOf : Road → State → List ℕ → List ℕ → Fault
+unfoldable pub verdictOf : Road → State → List ℕ → List ℕ → FaultAnswer
 verdictOf r s row y = unless (eqb (releasesOf r s row .number) 0) (releasesOf r s row) (outflowsFaultOf r s row y)

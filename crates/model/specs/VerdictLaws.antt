@@ -13,10 +13,10 @@ use Rattle.road.specs.declared.State.{State}
 use Rattle.numbers.specs.Lists.{at}
 use Rattle.numbers.specs.First.{unless, oneOf}
 use Rattle.numbers.specs.Tests.{one-zero, one-pass, two-zero, two-pass}
-use Rattle.road.specs.Refusals.{began}
+use Rattle.road.specs.Refusals.{began, fault}
 use Rattle.model.specs.Places.{demandAt, roomAt, enteringAt}
 use Rattle.model.specs.Rules.{Obeys}
-use Rattle.model.specs.Step.{fault, releasesOf}
+use Rattle.model.specs.Step.{releasesOf}
 use Rattle.model.specs.Verdict.{outflowFault, lastFault, outflowFaultAt, outflowsFaultOf, verdictOf}
 use Rattle.model.specs.StepLaws.{number-of, lowest-none, lowest-zero, lowest-one, releases-fit, releases-class, fit-releases}
 

@@ -5,6 +5,7 @@ ghost use mathlib.Core.Path.{_≡_};
 ghost use Prim.Native.Nat.{_*_, _≤_};
 ghost use lib.ListN.{length, take};
 ghost use Rattle.rows.specs.Sum.{sumOf};
+ghost use Rattle.road.specs.Road.{mostCells};
 ghost use Rattle.road.specs.declared.Road.{Road};
 ghost use Rattle.model.specs.Move.{nextOf};
 ghost use Rattle.columns.specs.Columns.{sharing, stateOf};
@@ -18,7 +19,7 @@ fn wide(x: u32) -> u64
 
 // The sum of the first n counts.
 fn first_sum(counts: &[u32], n: usize) -> u64
-    requires { ⌜ (n ≤ 64) × (n ≤ length (now counts)) ⌝ }
+    requires { ⌜ (n ≤ mostCells) × (n ≤ length (now counts)) ⌝ }
     ensures { λ x. ⌜ (x ≡ sumOf (take n (now (counts .entry)))) × (x ≤ 4294967295 * n) ⌝ }
 {
     rows::sum(&counts[..n])

@@ -7,6 +7,7 @@ use native.Mathlib.Nat.{eq-or-lt-of-le, le-refl}
 use native.Mathlib.Omega.{arith}
 use lib.Dec.{eqb}
 use borrow.Author.Tests.{eqb-true, eqb-false, eq-eqb, ne-eqb}
+use borrow.Author.Count.{below-more, below-none}
 use Rattle.numbers.specs.First.{firstFrom, firstOf, allOf, firstFault}
 
 -- what holds of firstOf f n, and of no other number
@@ -61,10 +62,6 @@ first-is f n i h =
     let q : i < firstOf f n → ⊥ = λ l. never (f i) (a .before i l) (h .stops (omega (arith, a .within))) in
     omega arith
 
--- a loop over i that has found no failure before i ends so
-pub first-stop : (f : ℕ → Bool) (n i : ℕ) → i < n → ((j : ℕ) → j < i → f j ≡ true) → f i ≡ false → i ≡ firstOf f n
-first-stop f n i l h e = sym (first-is f n i (record { within = omega arith; before = h; stops = λ _. e }))
-
 pub first-none : (f : ℕ → Bool) (n : ℕ) → ((j : ℕ) → j < n → f j ≡ true) → firstOf f n ≡ n
 first-none f n h = first-is f n n (record { within = le-refl n; before = h; stops = λ l. absurd (omega arith) })
 
@@ -92,6 +89,33 @@ all-fails f n i l e = go (allOf f n) refl
     go true h = absurd (never (f i) (all-at f n h i l) e)
     go false h = refl
 
+-- a loop over the numbers below n that has found no failure before i
+pub record Passed (f : ℕ → Bool) (n i : ℕ) : Type 0 where
+  pub within : i ≤ n
+  pub before : (j : ℕ) → j < i → f j ≡ true
+
+module _ {f : ℕ → Bool} {n : ℕ} where
+  pub passed-none : Passed f n 0
+  passed-none = record { within = omega arith; before = below-none _ }
+
+  module _ {i : ℕ} (h : Passed f n i) where
+    pub passed-more : {b : Bool} → i < n → b ≡ f i → b ≡ true → Passed f n (i + 1)
+    passed-more l e t = record { within = omega arith; before = below-more _ _ (h .before) (sym e ∙ t) }
+
+    -- it ends at the first failure, or with none
+    pub passed-stop : {b : Bool} → i < n → b ≡ f i → b ≡ false → i ≡ firstOf f n
+    passed-stop l e z = sym (first-is f n i (record { within = h .within; before = h .before; stops = λ _. sym e ∙ z }))
+
+    pub passed-end : n ≤ i → i ≡ firstOf f n
+    passed-end l = sym (first-is f n i (record { within = h .within; before = h .before; stops = λ m. absurd (omega arith) }))
+
+    -- and as one test of all
+    pub passed-fails : {b : Bool} → i < n → b ≡ f i → b ≡ false → false ≡ allOf f n
+    passed-fails l e z = sym (all-fails f n i l (sym e ∙ z))
+
+    pub passed-all : n ≤ i → true ≡ allOf f n
+    passed-all l = sym (all-true f n (λ j m. h .before j (omega arith)))
+
 -- the first fault
 module _ (f : ℕ → ℕ) (n : ℕ) where
   pub fault-within : firstFault f n ≤ n
@@ -106,24 +130,40 @@ module _ (f : ℕ → ℕ) (n : ℕ) where
   unfolding firstFault
   fault-there l = eqb-false (f (firstOf (λ i. eqb (f i) 0) n)) 0 (first (λ i. eqb (f i) 0) n .stops l)
 
-  -- a loop over the numbers that has found no fault before i ends so
-  pub fault-at : (i : ℕ) → i < n → ((j : ℕ) → j < i → f j ≡ 0) → (f i ≡ 0 → ⊥) → firstFault f n ≡ i
-  unfolding firstFault
-  fault-at i l h ne = first-is (λ i. eqb (f i) 0) n i (record {
-    within = omega arith;
-    before = λ j m. eq-eqb (f j) 0 (h j m);
-    stops = λ _. ne-eqb (f i) 0 ne;
-  })
-
   pub fault-none : ((j : ℕ) → j < n → f j ≡ 0) → firstFault f n ≡ n
   unfolding firstFault
   fault-none h = first-none (λ i. eqb (f i) 0) n (λ j m. eq-eqb (f j) 0 (h j m))
 
-  -- all numbers without a fault come before it
-  pub fault-far : (i : ℕ) → i ≤ n → ((j : ℕ) → j < i → f j ≡ 0) → i ≤ firstFault f n
-  fault-far i l h =
-      let m : firstFault f n < i → ⊥ = λ k. fault-there (omega arith) (h (firstFault f n) k) in
-      omega arith
+-- a loop over the numbers below n that has found no fault before i
+pub record Faultless (f : ℕ → ℕ) (n i : ℕ) : Type 0 where
+  pub within : i ≤ n
+  pub before : (j : ℕ) → j < i → f j ≡ 0
+
+module _ {f : ℕ → ℕ} {n : ℕ} where
+  pub faultless-none : Faultless f n 0
+  faultless-none = record { within = omega arith; before = below-none _ }
+
+  module _ {i : ℕ} (h : Faultless f n i) where
+    pub faultless-more : {m : ℕ} → i < n → m ≡ f i → m ≡ 0 → Faultless f n (i + 1)
+    faultless-more l e z = record { within = omega arith; before = below-more _ _ (h .before) (sym e ∙ z) }
+
+    tests : Passed (λ j. eqb (f j) 0) n i
+    tests = record { within = h .within; before = λ j l. eq-eqb (f j) 0 (h .before j l) }
+
+    -- it ends at the first fault, or with none
+    pub faultless-stop : {m : ℕ} → i < n → m ≡ f i → (m ≡ 0 → ⊥) → i ≡ firstFault f n
+    unfolding firstFault
+    faultless-stop l e ne = passed-stop tests l refl (ne-eqb (f i) 0 (λ z. ne (e ∙ z)))
+
+    pub faultless-end : n ≤ i → i ≡ firstFault f n
+    unfolding firstFault
+    faultless-end l = passed-end tests l
+
+    -- and the first fault is not before it
+    pub faultless-far : i ≤ firstFault f n
+    faultless-far =
+        let m : firstFault f n < i → ⊥ = λ k. fault-there f n (omega (arith, h .within)) (h .before (firstFault f n) k) in
+        omega arith
 
 -- faults that agree below n have the same first
 pub fault-same : (f g : ℕ → ℕ) (n : ℕ) → ((i : ℕ) → i < n → f i ≡ g i) → firstFault f n ≡ firstFault g n

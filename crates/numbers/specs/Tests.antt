@@ -5,8 +5,36 @@ use mathlib.Core.Logic.{_⊎_, inl, inr}
 use Prim.Native.Nat.{ℕ, _≤_, _<_}
 use native.Mathlib.Omega.{arith}
 use lib.Dec.{leb, eqb}
-use borrow.Author.Tests.{leb-true, leb-false, eqb-true, le-leb, eq-eqb}
+use borrow.Author.Tests.{leb-true, leb-false, eqb-true, eqb-false, le-leb, eq-eqb}
 use Rattle.numbers.specs.First.{unless}
+
+-- a chain of refusals is left one test at a time: what holds of the refusal where the test fails, and of the rest where it passes
+pub unless-elim : {A : Type 0} (P : A → Type 0) (test : Bool) {refused rest : A} → (test ≡ false → P refused) → (test ≡ true → P rest)
+    → P (unless test refused rest)
+unless-elim P true f g = g refl
+unless-elim P false f g = f refl
+
+-- two chains that begin alike are equal where what follows is
+pub unless-same : {A : Type 0} (test : Bool) (refused : A) {rest other : A} → (test ≡ true → rest ≡ other)
+    → unless test refused rest ≡ unless test refused other
+unless-same true refused h = h refl
+unless-same false refused h = refl
+
+-- a test that passes does not fail, and one that does not fail passes
+pub never : {t : Bool} → t ≡ true → t ≡ false → ⊥
+never h k = let z : _≡_ {A = ℕ} 0 1 = cc in omega arith
+
+pub passes : (t : Bool) → (t ≡ false → ⊥) → t ≡ true
+passes true h = refl
+passes false h = absurd (h refl)
+
+-- a number is a fault, or it is 0
+pub fault-elim : {P : Type 0} (number : ℕ) → ((number ≡ 0 → ⊥) → P) → (number ≡ 0 → P) → P
+fault-elim {P} number f g = go (eqb number 0) refl
+  where
+    go : (t : Bool) → eqb number 0 ≡ t → P
+    go true e = g (eqb-true number 0 e)
+    go false e = f (eqb-false number 0 e)
 
 pub and-true : (a b : Bool) → a && b ≡ true → (a ≡ true) × (b ≡ true)
 and-true true b h = (refl, h)
@@ -38,23 +66,16 @@ order a b = go (leb a b) refl
 
 -- a test with a fault
 pub one-zero : (a b m : ℕ) → (m ≡ 0 → ⊥) → unless (leb a b) m 0 ≡ 0 → a ≤ b
-one-zero a b m hm h = go (leb a b) refl h
-  where
-    go : (t : Bool) → leb a b ≡ t → unless t m 0 ≡ 0 → a ≤ b
-    go true e z = leb-true a b e
-    go false e z = absurd (hm z)
+one-zero a b m hm = unless-elim (λ (x : ℕ). x ≡ 0 → a ≤ b) (leb a b) (λ _ z. absurd (hm z)) (λ e _. leb-true a b e)
 
 pub one-pass : (a b m : ℕ) → a ≤ b → unless (leb a b) m 0 ≡ 0
 one-pass a b m h = rw (le-leb a b h)
 
 -- two tests with a fault each, one before the other
 pub two-zero : (a b c d m k : ℕ) → (m ≡ 0 → ⊥) → (k ≡ 0 → ⊥) → unless (leb a b) m (unless (leb c d) k 0) ≡ 0 → (a ≤ b) × (c ≤ d)
-two-zero a b c d m k hm hk h = go (leb a b) (leb c d) refl refl h
-  where
-    go : (t u : Bool) → leb a b ≡ t → leb c d ≡ u → unless t m (unless u k 0) ≡ 0 → (a ≤ b) × (c ≤ d)
-    go true true e f z = (leb-true a b e, leb-true c d f)
-    go true false e f z = absurd (hk z)
-    go false u e f z = absurd (hm z)
+two-zero a b c d m k hm hk =
+    unless-elim (λ (x : ℕ). x ≡ 0 → (a ≤ b) × (c ≤ d)) (leb a b) (λ _ z. absurd (hm z)) (λ e.
+    unless-elim (λ (x : ℕ). x ≡ 0 → (a ≤ b) × (c ≤ d)) (leb c d) (λ _ z. absurd (hk z)) (λ f _. (leb-true a b e, leb-true c d f)))
 
 pub two-pass : (a b c d m k : ℕ) → a ≤ b → c ≤ d → unless (leb a b) m (unless (leb c d) k 0) ≡ 0
 two-pass a b c d m k h l = rw (le-leb a b h, le-leb c d l)

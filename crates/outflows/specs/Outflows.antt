@@ -41,20 +41,20 @@ outflows-end r s row l i y demand e long ey ed =
     ∙ ap (λ (x : ℕ). listOf f n ++ (x ∷ [])) (ed ∙ ap (demandAt r s) e)
 
 -- what holds when the loop over the places has filled the first i of them
-pub record Filled (r : Road) (s : State) (row l y : List ℕ) (share cumulative demand i : ℕ) : Type 0 where
+pub record FilledOutflows (r : Road) (s : State) (row l y : List ℕ) (share cumulative demand i : ℕ) : Type 0 where
   pub carried : Carried r s share cumulative demand i
   pub filled : y ≡ fillOf (outflowAt r s row) i l
   pub places : length y ≡ r .n + 1
 
 pub filled-none : {r : Road} {s : State} {row l : List ℕ} {demand : ℕ} → demand ≡ gateDemandOf (r .«gate_capacity») (s .«gate_queue»)
-    → length l ≡ r .n + 1 → Filled r s row l l whole (s .«gate_cumulative») demand 0
+    → length l ≡ r .n + 1 → FilledOutflows r s row l l whole (s .«gate_cumulative») demand 0
 unfolding fillOf
 filled-none {r} {s} {demand = demand} e h = record { carried = carried-gate r s demand e; filled = refl; places = h }
 
 pub filled-more : {r : Road} {s : State} {row l y : List ℕ} {share cumulative demand i room z next : ℕ}
-    → Filled r s row l y share cumulative demand i → i < r .n → room ≡ roomAt r s row i → z ≡ outflowOf share cumulative room demand
+    → FilledOutflows r s row l y share cumulative demand i → i < r .n → room ≡ roomAt r s row i → z ≡ outflowOf share cumulative room demand
     → next ≡ demandOf (at (r .speed) i) (at (r .capacity) i) (at (s .held) i)
-    → Filled r s row l (set y i z) (at (r .share) i) (at (s .cumulative) i) next (i + 1)
+    → FilledOutflows r s row l (set y i z) (at (r .share) i) (at (s .cumulative) i) next (i + 1)
 filled-more {r} {s} {row} {l} {y} {share} {cumulative} {demand} {i} {room} {z} {next} h less er ez en =
     let k = h .carried in
     record {
@@ -64,7 +64,7 @@ filled-more {r} {s} {row} {l} {y} {share} {cumulative} {demand} {i} {room} {z} {
       places = simp length-set (h .places);
     }
 
-pub filled-end : {r : Road} {s : State} {row l y : List ℕ} {share cumulative demand i : ℕ} → Filled r s row l y share cumulative demand i → r .n ≤ i
+pub filled-end : {r : Road} {s : State} {row l y : List ℕ} {share cumulative demand i : ℕ} → FilledOutflows r s row l y share cumulative demand i → r .n ≤ i
     → length l ≡ r .n + 1 → set y (r .n) demand ≡ outflowsOf r s row
 filled-end {r} {s} {row} {l} {y} {demand = demand} {i} h end long =
     outflows-end r s row l i y demand (omega (arith, h .carried .within)) long (h .filled) (h .carried .demands)

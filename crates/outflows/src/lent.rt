@@ -4,6 +4,7 @@ ghost use mathlib.Core.Path.{_≡_};
 ghost use mathlib.Core.List.{List};
 ghost use Prim.Native.Nat.{ℕ, _+_, _≤_};
 ghost use lib.ListN.{length};
+ghost use Rattle.road.specs.Road.{mostCells};
 ghost use Rattle.road.specs.declared.Road.{Road};
 ghost use Rattle.model.specs.Rules.{outflowsOf};
 ghost use Rattle.columns.specs.declared.Ledger.{Ledger};
@@ -24,7 +25,7 @@ pub fn outflows<'a, 'b>(
     room: &[u32; 64],
     y: &mut [u32],
 )
-    requires { ⌜ (n ≤ 64) × (length (now y) ≡ n + 1) ⌝ }
+    requires { ⌜ (n ≤ mostCells) × (length (now y) ≡ n + 1) ⌝ }
     ensures { λ _. ⌜ ((r : Road) (l : Ledger) (queue row : List ℕ)
         → Rooms (sending r n «gate_capacity» (now (speed .entry)) (now (share .entry)) (now (capacity .entry)))
         (stateOf (gated l «gate_queue» «gate_cumulative») (now (held .entry)) queue (now (cumulative .entry))) row (now (room .entry))

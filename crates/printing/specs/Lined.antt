@@ -11,16 +11,17 @@ use lib.ListN.{length, length-append}
 use lib.Seq.{length-take-le}
 use borrow.Author.Tests.{eq-eqb, ne-eqb}
 use Rattle.rows.specs.TablesLaws.{row-ends, mul-more}
+use Rattle.road.specs.Refusals.{FaultAnswer}
 use Rattle.road.specs.declared.Road.{Road}
 use Rattle.road.specs.declared.State.{State}
 use Rattle.road.specs.Road.{mostSteps, mostSeconds, mostLong, totalOf}
-use Rattle.road.specs.Study.{Study, places, tableSize}
+use Rattle.studies.specs.Study.{Study, places, tableSize}
 use Rattle.timing.specs.Seconds.{vehicleSeconds, vehicleSecondsOf}
 use Rattle.fields.specs.Fields.{secondVersion}
 use Rattle.limits.specs.Limits.{mostTotal}
 use Rattle.model.specs.Move.{nextOf, exitsOf}
 use Rattle.model.specs.Rules.{outflowsOf}
-use Rattle.model.specs.Step.{Fault, releasesOf}
+use Rattle.model.specs.Step.{releasesOf}
 use Rattle.model.specs.Runs.{engineAfter, outflowsAt}
 use Rattle.model.specs.RunsLaws.{StudyOk}
 use Rattle.reading.specs.Reading.{ReadAnswer, readingWithin, readingOf, studyBy}
@@ -156,7 +157,7 @@ module _ {a : Study} {before : List ℕ} {start : ℕ} where
           seconds = seconds;
         })
 
-    module _ {q : Road} {row : List ℕ} (t : RanTurn a u k q row) {f : Fault} (e : f ≡ releasesOf q u row) (z : f .number ≡ 0) where
+    module _ {q : Road} {row : List ℕ} (t : RanTurn a u k q row) {f : FaultAnswer} (e : f ≡ releasesOf q u row) (z : f .number ≡ 0) where
       -- one step more is made and put
       pub lined-more : {v : State} {y c : List ℕ} {m : ℕ} → v ≡ nextOf q u row (outflowsOf q u row) → y ≡ outflowsOf q u row
           → Puts buffer end (linesOf k y v (a .road .n)) c m → Lined a before start c v m (k + 1)

@@ -7,7 +7,7 @@ use Rattle.numbers.specs.First.{unless}
 use Rattle.road.specs.declared.Road.{Road}
 use Rattle.road.specs.declared.State.{State}
 use Rattle.road.specs.Road.{mostCells, mostBytes, totalOf}
-use Rattle.road.specs.Study.{Study}
+use Rattle.studies.specs.Study.{Study}
 use Rattle.timing.specs.Seconds.{vehicleSeconds}
 use Rattle.fields.specs.Fields.{secondVersion}
 use Rattle.model.specs.Move.{exitsOf}

@@ -5,24 +5,11 @@ use Prim.Native.Nat.{ℕ, zero, suc, _*_, _≤_}
 use lib.Dec.{leb, ltb, eqb}
 use Rattle.numbers.specs.Lists.{at}
 use Rattle.numbers.specs.First.{unless}
-use Rattle.road.specs.declared.Released.{Released}
 use Rattle.road.specs.Road.{mostRate}
-use Rattle.road.specs.Refusals.{refusalNumber}
+use Rattle.road.specs.Refusals.{FaultAnswer, fault}
 use Rattle.fields.specs.Fields.{HoldsRow}
 use Rattle.reading.specs.Reading.{readingOf}
 use Rattle.releasing.specs.Releases.{putEntry}
-
--- what putting answers: the refusal's number and its place
-pub record PutAnswer : Type 0 where
-  pub number : ℕ
-  pub place : ℕ
-
-abbrev pub answer : ℕ → ℕ → PutAnswer
-answer number place = record { number = number; place = place }
-
--- the code's answer, in the model's numbers
-abbrev pub putAnswer : Released → PutAnswer
-putAnswer a = answer (refusalNumber (a .refusal)) (a .place)
 
 -- 5: a cell from 1 to n that has a ramp
 unfoldable pub rampOk : List ℕ → ℕ → ℕ → Bool
@@ -43,12 +30,12 @@ pub record Place (bytes : List ℕ) (n step cell : ℕ) : Type 0 where
   pub within : cell ≤ n
 
 -- the refusals of reading; 5 at a cell that has no ramp or isn't on the road; 6 at a step from T on or with a release above 1,000,000
-unfoldable pub puttingOf : List ℕ → ℕ → ℕ → ℕ → PutAnswer
+unfoldable pub puttingOf : List ℕ → ℕ → ℕ → ℕ → FaultAnswer
 puttingOf bytes step cell release =
-    unless (eqb (readingOf bytes .number) 0) (answer (readingOf bytes .number) (readingOf bytes .place))
-    (unless (rampOk (readingOf bytes .road .ramp) (readingOf bytes .road .n) cell) (answer 5 cell)
-    (unless (ratesOk step (readingOf bytes .steps) release) (answer 6 step)
-    (answer 0 0)))
+    unless (eqb (readingOf bytes .number) 0) (fault (readingOf bytes .number) (readingOf bytes .place))
+    (unless (rampOk (readingOf bytes .road .ramp) (readingOf bytes .road .n) cell) (fault 5 cell)
+    (unless (ratesOk step (readingOf bytes .steps) release) (fault 6 step)
+    (fault 0 0)))
 
 -- the record then; a refusal leaves it unchanged
 unfoldable pub releasedRecord : List ℕ → ℕ → ℕ → ℕ → List ℕ

@@ -1,20 +1,17 @@
 -- Laws of putting a release: what each test says, and each end of it. Assumes nothing.
 use mathlib.Core.Path.{_≡_, refl, sym, ap, _∙_}
-use mathlib.Core.Bool.{Bool, true, false}
+use mathlib.Core.Bool.{true, false}
 use mathlib.Core.List.{List}
-use Prim.Native.Nat.{ℕ, zero, suc, _+_, _-_, _*_, _≤_, _<_}
+use Prim.Native.Nat.{ℕ, zero, suc, _-_, _≤_, _<_}
 use native.Mathlib.Omega.{arith}
 use lib.Dec.{leb, ltb, eqb}
 use borrow.Author.Tests.{eqb-true, eq-eqb, ne-eqb, leb-true, ltb-true, le-leb, lt-leb, lt-ltb}
 use Rattle.numbers.specs.Lists.{at}
-use Rattle.numbers.specs.Tests.{and-true, both-true, le-head}
+use Rattle.numbers.specs.Tests.{never, and-true, both-true, le-head}
 use Rattle.road.specs.Road.{mostRate}
+use Rattle.road.specs.Refusals.{FaultAnswer, fault}
 use Rattle.reading.specs.Reading.{ReadAnswer, readingOf}
-use Rattle.put.specs.Put.{PutAnswer, answer, rampOk, ratesOk, releasedAt, puttingOf, releasedRecord}
-
--- a test is not both
-pub never : {b : Bool} → b ≡ true → b ≡ false → ⊥
-never h k = let z : _≡_ {A = ℕ} 0 1 = cc in omega arith
+use Rattle.put.specs.Put.{rampOk, ratesOk, releasedAt, puttingOf, releasedRecord}
 
 -- a cell that has a ramp, as the code counts it
 pub record Ramp (ramp : List ℕ) (n cell : ℕ) : Type 0 where
@@ -65,32 +62,32 @@ pub facts-rates : (step T release : ℕ) → step < T → release ≤ mostRate �
 facts-rates step T release l m = both-true (ltb step T) (leb release mostRate) (lt-ltb step T l) (le-leb release mostRate m)
 
 -- what putting answers, and what it leaves of the record
-pub record Left (bytes : List ℕ) (step cell release : ℕ) (a : PutAnswer) (left : List ℕ) : Type 0 where
+pub record Left (bytes : List ℕ) (step cell release : ℕ) (a : FaultAnswer) (left : List ℕ) : Type 0 where
   pub says : a ≡ puttingOf bytes step cell release
   pub leaves : left ≡ releasedRecord bytes step cell release
 
 -- an answer with a refusal leaves the record as it was, one without puts the release
-left-refused : (bytes : List ℕ) (step cell release : ℕ) (a : PutAnswer) → (a .number ≡ 0 → ⊥) → a ≡ puttingOf bytes step cell release
+left-refused : (bytes : List ℕ) (step cell release : ℕ) (a : FaultAnswer) → (a .number ≡ 0 → ⊥) → a ≡ puttingOf bytes step cell release
     → Left bytes step cell release a bytes
 unfolding releasedRecord
 left-refused bytes step cell release a n e = record { says = e; leaves = rw (← e, ne-eqb (a .number) 0 n) }
 
 module _ (bytes : List ℕ) (step cell release : ℕ) {x : ReadAnswer} (e : x ≡ readingOf bytes) where
-  pub ends-unread : (x .number ≡ 0 → ⊥) → Left bytes step cell release (answer (x .number) (x .place)) bytes
+  pub ends-unread : (x .number ≡ 0 → ⊥) → Left bytes step cell release (fault (x .number) (x .place)) bytes
   unfolding puttingOf
-  ends-unread n = left-refused bytes step cell release (answer (x .number) (x .place)) n (rw (← e, ne-eqb (x .number) 0 n))
+  ends-unread n = left-refused bytes step cell release (fault (x .number) (x .place)) n (rw (← e, ne-eqb (x .number) 0 n))
 
   module _ (z : x .number ≡ 0) where
-    pub ends-ramp : rampOk (x .road .ramp) (x .road .n) cell ≡ false → Left bytes step cell release (answer 5 cell) bytes
+    pub ends-ramp : rampOk (x .road .ramp) (x .road .n) cell ≡ false → Left bytes step cell release (fault 5 cell) bytes
     unfolding puttingOf
-    ends-ramp f = left-refused bytes step cell release (answer 5 cell) (λ k. omega arith) (rw (← e, eq-eqb (x .number) 0 z, f))
+    ends-ramp f = left-refused bytes step cell release (fault 5 cell) (λ k. omega arith) (rw (← e, eq-eqb (x .number) 0 z, f) refl)
 
     module _ (r : rampOk (x .road .ramp) (x .road .n) cell ≡ true) where
-      pub ends-rates : ratesOk step (x .steps) release ≡ false → Left bytes step cell release (answer 6 step) bytes
+      pub ends-rates : ratesOk step (x .steps) release ≡ false → Left bytes step cell release (fault 6 step) bytes
       unfolding puttingOf
-      ends-rates f = left-refused bytes step cell release (answer 6 step) (λ k. omega arith) (rw (← e, eq-eqb (x .number) 0 z, r, f))
+      ends-rates f = left-refused bytes step cell release (fault 6 step) (λ k. omega arith) (rw (← e, eq-eqb (x .number) 0 z, r, f) refl)
 
       pub ends-put : ratesOk step (x .steps) release ≡ true
-          → Left bytes step cell release (answer 0 0) (releasedAt bytes (x .road .n) step cell release)
+          → Left bytes step cell release (fault 0 0) (releasedAt bytes (x .road .n) step cell release)
       unfolding puttingOf releasedRecord
       ends-put f = record { says = rw (← e, eq-eqb (x .number) 0 z, r, f); leaves = rw (← e, eq-eqb (x .number) 0 z, r, f) }

@@ -1,30 +1,31 @@
 -- The theorems of putting a release: exactly that number changes, all else of the record and of its reading stands; each refusal comes exactly where
 -- it should, and leaves the record as it was. Assumes nothing.
 use mathlib.Core.Path.{_≡_, refl, sym, ap, _∙_}
-use mathlib.Core.Bool.{Bool, true, false}
-use mathlib.Core.Logic.{_⊎_, ⊎-elim, inl, inr}
+use mathlib.Core.Logic.{_⊎_, ⊎-elim, inl}
 use mathlib.Core.List.{List}
-use Prim.Native.Nat.{ℕ, _+_, _-_, _*_, _^_, _≤_, _<_}
+use Prim.Native.Nat.{ℕ, _+_, _-_, _*_, _≤_, _<_}
 use native.Mathlib.Nat.{mul-le-mul-right}
 use native.Mathlib.Omega.{arith}
 use lib.Dec.{eqb}
-use lib.ListN.{length, set, length-set}
+use lib.ListN.{set, length-set}
 use lib.Seq.{getD-set-same, getD-set-other}
-use borrow.Author.Tests.{eqb-true, eqb-false, eq-eqb}
+use borrow.Author.Tests.{eqb-true, eqb-false}
 use Rattle.numbers.specs.Lists.{at}
 use Rattle.numbers.specs.First.{unless}
+use Rattle.numbers.specs.Tests.{unless-elim, never}
 use Rattle.road.specs.declared.Road.{Road}
 use Rattle.road.specs.Road.{mostRate}
-use Rattle.fields.specs.Fields.{versionOf, rowSize, rowStart, recordRow}
+use Rattle.road.specs.Refusals.{FaultAnswer, fault}
+use Rattle.fields.specs.Fields.{rowSize, recordRow}
 use Rattle.limits.specs.LimitsLaws.{RowOk, row-ok}
-use Rattle.reading.specs.Reading.{ReadAnswer, readingOf}
+use Rattle.reading.specs.Reading.{readingOf}
 use Rattle.reading.specs.Found.{Accepted}
 use Rattle.reading.specs.Within.{read-within, read-row}
 use Rattle.releasing.specs.Bytes.{compare}
 use Rattle.releasing.specs.ReleasesLaws.{Put, put-entry}
 use Rattle.releasing.specs.Same.{rows-replaced}
-use Rattle.put.specs.Put.{PutAnswer, answer, rampOk, ratesOk, releasedAt, puttingOf, releasedRecord}
-use Rattle.put.specs.PutLaws.{never, Ramp, ramp-facts, facts-ramp, rates-facts, facts-rates}
+use Rattle.put.specs.Put.{rampOk, ratesOk, releasedAt, puttingOf, releasedRecord}
+use Rattle.put.specs.PutLaws.{Ramp, ramp-facts, facts-ramp, rates-facts, facts-rates}
 
 -- what no refusal asks: the record reads, the cell is on the road and has a ramp, the step is one of its T, and the release is a rate
 pub record Asked (bytes : List ℕ) (step cell release : ℕ) : Type 0 where
@@ -102,13 +103,13 @@ module _ (bytes : List ℕ) (step cell release : ℕ) (asked : Asked bytes step 
   }
 
 -- the ends of putting, with what each leaves of the record
-pub data Ends (bytes : List ℕ) (step cell release : ℕ) : PutAnswer → List ℕ → Type 0 where
-  unread : (readingOf bytes .number ≡ 0 → ⊥) → Ends bytes step cell release (answer (readingOf bytes .number) (readingOf bytes .place)) bytes
+pub data Ends (bytes : List ℕ) (step cell release : ℕ) : FaultAnswer → List ℕ → Type 0 where
+  unread : (readingOf bytes .number ≡ 0 → ⊥) → Ends bytes step cell release (fault (readingOf bytes .number) (readingOf bytes .place)) bytes
   noRamp : readingOf bytes .number ≡ 0 → (Ramp (readingOf bytes .road .ramp) (readingOf bytes .road .n) cell → ⊥)
-      → Ends bytes step cell release (answer 5 cell) bytes
+      → Ends bytes step cell release (fault 5 cell) bytes
   noRate : readingOf bytes .number ≡ 0 → Ramp (readingOf bytes .road .ramp) (readingOf bytes .road .n) cell
-      → (step < readingOf bytes .steps → release ≤ mostRate → ⊥) → Ends bytes step cell release (answer 6 step) bytes
-  put : Asked bytes step cell release → {after : List ℕ} → Stands bytes after step cell release → Ends bytes step cell release (answer 0 0) after
+      → (step < readingOf bytes .steps → release ≤ mostRate → ⊥) → Ends bytes step cell release (fault 6 step) bytes
+  put : Asked bytes step cell release → {after : List ℕ} → Stands bytes after step cell release → Ends bytes step cell release (fault 0 0) after
 
 -- 1: every answer is one of them
 module _ (bytes : List ℕ) (step cell release : ℕ) where
@@ -118,27 +119,24 @@ module _ (bytes : List ℕ) (step cell release : ℕ) where
   abbrev T : ℕ
   T = readingOf bytes .steps
 
-  abbrev saying : Bool → Bool → Bool → PutAnswer
-  saying a b c =
-      unless a (answer (readingOf bytes .number) (readingOf bytes .place)) (unless b (answer 5 cell) (unless c (answer 6 step) (answer 0 0)))
+  -- an answer, with the record that it leaves
+  abbrev End : FaultAnswer → Type 0
+  End x = Ends bytes step cell release x (unless (eqb (x .number) 0) bytes (releasedAt bytes (r .n) step cell release))
 
   pub ends : Ends bytes step cell release (puttingOf bytes step cell release) (releasedRecord bytes step cell release)
   unfolding puttingOf releasedRecord
-  ends = go (eqb (readingOf bytes .number) 0) (rampOk (r .ramp) (r .n) cell) (ratesOk step T release) refl refl refl
-    where
-      go : (a b c : Bool) → eqb (readingOf bytes .number) 0 ≡ a → rampOk (r .ramp) (r .n) cell ≡ b → ratesOk step T release ≡ c
-          → Ends bytes step cell release (saying a b c) (unless (eqb (saying a b c .number) 0) bytes (releasedAt bytes (r .n) step cell release))
-      go false b c e f g = rw e (unread (eqb-false (readingOf bytes .number) 0 e))
-      go true false c e f g = noRamp (eqb-true _ 0 e) (λ h. never (facts-ramp (r .ramp) (r .n) cell h) f)
-      go true true false e f g = noRate (eqb-true _ 0 e) (ramp-facts (r .ramp) (r .n) cell f) (λ l m. never (facts-rates step T release l m) g)
-      go true true true e f g =
-          let k = rates-facts step T release g in
-          let asked : Asked bytes step cell release =
-          record { reads = eqb-true _ 0 e; ramp = ramp-facts (r .ramp) (r .n) cell f; before = k .0; rate = k .1 } in
-          put asked (stands bytes step cell release asked)
+  ends =
+      unless-elim End (eqb (readingOf bytes .number) 0) (λ e. rw e (unread (eqb-false (readingOf bytes .number) 0 e))) (λ e.
+      let reads = eqb-true (readingOf bytes .number) 0 e in
+      unless-elim End (rampOk (r .ramp) (r .n) cell) (λ f. noRamp reads (λ h. never (facts-ramp (r .ramp) (r .n) cell h) f)) (λ f.
+      let ramp = ramp-facts (r .ramp) (r .n) cell f in
+      unless-elim End (ratesOk step T release) (λ g. noRate reads ramp (λ l m. never (facts-rates step T release l m) g)) (λ g.
+      let rates = rates-facts step T release g in
+      let asked : Asked bytes step cell release = record { reads = reads; ramp = ramp; before = rates .0; rate = rates .1 } in
+      put asked (stands bytes step cell release asked))))
 
 -- 2: with no refusal the release stands there and nothing else is changed
-put-stands : {bytes : List ℕ} {step cell release : ℕ} {a : PutAnswer} {after : List ℕ} → Ends bytes step cell release a after → a .number ≡ 0
+put-stands : {bytes : List ℕ} {step cell release : ℕ} {a : FaultAnswer} {after : List ℕ} → Ends bytes step cell release a after → a .number ≡ 0
     → Asked bytes step cell release × Stands bytes after step cell release
 put-stands (Ends.unread h) e = absurd (h e)
 put-stands (Ends.noRamp q h) e = absurd (omega arith)
@@ -150,18 +148,18 @@ pub puts : (bytes : List ℕ) (step cell release : ℕ) → puttingOf bytes step
 puts bytes step cell release = put-stands (ends bytes step cell release)
 
 -- and there is none exactly where all that it asks holds
-asked-put : {bytes : List ℕ} {step cell release : ℕ} {a : PutAnswer} {after : List ℕ} → Ends bytes step cell release a after → Asked bytes step cell release
-    → a ≡ answer 0 0
+asked-put : {bytes : List ℕ} {step cell release : ℕ} {a : FaultAnswer} {after : List ℕ} → Ends bytes step cell release a after → Asked bytes step cell release
+    → a ≡ fault 0 0
 asked-put (Ends.unread h) q = absurd (h (q .reads))
 asked-put (Ends.noRamp z h) q = absurd (h (q .ramp))
 asked-put (Ends.noRate z p h) q = absurd (h (q .before) (q .rate))
 asked-put (Ends.put asked s) q = refl
 
-pub put-if : (bytes : List ℕ) (step cell release : ℕ) → Asked bytes step cell release → puttingOf bytes step cell release ≡ answer 0 0
+pub put-if : (bytes : List ℕ) (step cell release : ℕ) → Asked bytes step cell release → puttingOf bytes step cell release ≡ fault 0 0
 put-if bytes step cell release = asked-put (ends bytes step cell release)
 
 -- 3: a refusal leaves the record unchanged
-refused-left : {bytes : List ℕ} {step cell release : ℕ} {a : PutAnswer} {after : List ℕ} → Ends bytes step cell release a after → (a .number ≡ 0 → ⊥)
+refused-left : {bytes : List ℕ} {step cell release : ℕ} {a : FaultAnswer} {after : List ℕ} → Ends bytes step cell release a after → (a .number ≡ 0 → ⊥)
     → after ≡ bytes
 refused-left (Ends.unread h) n = refl
 refused-left (Ends.noRamp q h) n = refl

@@ -1,11 +1,12 @@
 // A release put into a record, for one ramp in one step.
+use road::Fault;
 use road::Refusal;
-use road::Released;
 use road::Road;
 ghost use mathlib.Core.Path.{_≡_};
 ghost use Prim.Native.Nat.{_≤_};
 ghost use Rattle.road.specs.Road.{mostCells};
-ghost use Rattle.put.specs.Put.{Place, rampOk, ratesOk, putAnswer, puttingOf, releasedAt, releasedRecord};
+ghost use Rattle.road.specs.Refusals.{faultAnswer};
+ghost use Rattle.put.specs.Put.{Place, rampOk, ratesOk, puttingOf, releasedAt, releasedRecord};
 
 // Whether a cell is on a road of n cells and has a ramp.
 fn has_ramp(ramp: [u16; 64], n: usize, cell: usize) -> bool
@@ -38,14 +39,14 @@ fn put_release(bytes: &mut [u8], n: usize, step: usize, cell: usize, release: u3
 }
 
 // Puts a release into a record at a step and a cell: the refusals of reading, then 5, then 6.
-pub fn put(bytes: &mut [u8], step: usize, cell: usize, release: u32) -> Released
-    ensures answer { λ r. ⌜ putAnswer r ≡ puttingOf (now (bytes .entry)) step cell release ⌝ }
+pub fn put(bytes: &mut [u8], step: usize, cell: usize, release: u32) -> Fault
+    ensures answer { λ r. ⌜ faultAnswer r ≡ puttingOf (now (bytes .entry)) step cell release ⌝ }
     ensures bytes { λ r. ⌜ now (bytes .exit) ≡ releasedRecord (now (bytes .entry)) step cell release ⌝ }
 {
     let a = reading::read(bytes);
     let refusal = a.refusal;
     if refusal.number() != 0 {
-        return Released {
+        return Fault {
             refusal: refusal,
             place: a.place,
         };
@@ -54,19 +55,19 @@ pub fn put(bytes: &mut [u8], step: usize, cell: usize, release: u32) -> Released
     let ramp = road.ramp;
     let n = road.n;
     if !has_ramp(ramp, n, cell) {
-        return Released {
+        return Fault {
             refusal: Refusal::Limits,
             place: cell,
         };
     }
     if !rates_within(step, a.steps, release) {
-        return Released {
+        return Fault {
             refusal: Refusal::Rates,
             place: step,
         };
     }
     put_release(bytes, n, step, cell, release);
-    Released {
+    Fault {
         refusal: Refusal::None,
         place: 0,
     }

@@ -3,19 +3,19 @@ use mathlib.Core.Path.{_≡_, refl, sym, ap, _∙_}
 use mathlib.Core.Bool.{Bool, true, false}
 use mathlib.Core.List.{List}
 use mathlib.Core.Logic.{_⊎_, inl, inr}
-use Prim.Native.Nat.{ℕ, _+_, min, _≤_, _<_}
+use Prim.Native.Nat.{ℕ, min, _≤_, _<_}
 use native.Mathlib.Omega.{arith}
 use lib.Dec.{eqb}
 use lib.ListN.{length}
-use borrow.Author.Tests.{eqb-true, eqb-false, eq-eqb}
+use borrow.Author.Tests.{eqb-true, eqb-false}
 use Rattle.road.specs.Road.{mostCells, mostBytes}
-use Rattle.numbers.specs.First.{unless, oneOf, firstOf, allOf}
-use Rattle.fields.specs.Fields.{versionOf, secondsOf}
-use Rattle.limits.specs.Limits.{placeOk}
-use Rattle.header.specs.Header.{cellsOf, stepsOf, sizeOf, bothVersions, lengthOk, cellsAndStepsOk, secondsOk, callerOk}
+use Rattle.numbers.specs.Tests.{unless-elim, unless-same, passes}
+use Rattle.header.specs.Header.{cellsOf, stepsOf, bothVersions, callerOk}
 use Rattle.header.specs.HeaderLaws.{length-facts, counts-facts, caller-facts, caller-fails, caller-above, caller-full}
 use Rattle.reading.specs.Headers.{Header}
-use Rattle.reading.specs.Reading.{ReadAnswer, roadOf, startOf, stepOk, refusedOf, acceptedOf, readingBy, readingWithin, readingOf}
+use Rattle.reading.specs.Reading.{ReadAnswer, refusedOf, readingBy, readingWithin, readingOf}
+use Rattle.reading.specs.ReadingLaws.{answer-caller}
+use Rattle.reading.specs.Found.{lengthFits, versionKnown, countsFit, secondsFit, sizeFits, callerTakes, placesFit, rowsFit, header-of}
 
 -- no refusal before 26 applies, and n or the count of bytes is above the caller's
 pub record Beyond (cells most : ℕ) (s : List ℕ) : Type 0 where
@@ -23,91 +23,39 @@ pub record Beyond (cells most : ℕ) (s : List ℕ) : Type 0 where
   pub above : (cells < cellsOf s) ⊎ (most < length s)
 
 module _ (s : List ℕ) where
-  -- the tests, each by its refusal's number
-  abbrev test1 : Bool
-  test1 = lengthOk bothVersions s
-
-  abbrev test2 : Bool
-  test2 = oneOf bothVersions (versionOf s)
-
-  abbrev test3 : Bool
-  test3 = cellsAndStepsOk (cellsOf s) (stepsOf s)
-
-  abbrev test19 : Bool
-  test19 = secondsOk (versionOf s) (secondsOf s)
-
-  abbrev test4 : Bool
-  test4 = eqb (length s) (sizeOf (versionOf s) (cellsOf s) (stepsOf s))
-
-  abbrev test5 : Bool
-  test5 = allOf (placeOk (roadOf s) (startOf s)) (cellsOf s + 1)
-
-  abbrev test6 : Bool
-  test6 = allOf (stepOk s (roadOf s)) (stepsOf s)
-
-  passed : test1 ≡ true → test2 ≡ true → test3 ≡ true → test19 ≡ true → test4 ≡ true → Header s (cellsOf s) (stepsOf s)
-  passed a b c d e = record {
-    lengths = a;
-    version = b;
-    cells = refl;
-    steps = refl;
-    counts = c;
-    seconds = d;
-    size = eqb-true (length s) (sizeOf (versionOf s) (cellsOf s) (stepsOf s)) e;
-  }
-
   module _ (cells most : ℕ) where
-    abbrev test26 : Bool
-    test26 = callerOk cells most (cellsOf s) (length s)
+    abbrev Told : ReadAnswer → Type 0
+    Told x = x .number ≡ 26 → Beyond cells most s
 
     -- 26 where it applies,
     pub beyond-refused : Beyond cells most s → readingWithin cells most s ≡ refusedOf 26 0
-    unfolding readingBy
-    beyond-refused b =
-        let h = b .header in
-        let size = eq-eqb (length s) (sizeOf (versionOf s) (cellsOf s) (stepsOf s)) (h .size) in
-        rw (h .lengths, h .version, h .counts, h .seconds, size, caller-fails (b .above)) refl
+    beyond-refused b = sym (answer-caller cells most (b .header) (caller-fails (b .above)) refl)
 
     -- and nowhere else
     pub refused-beyond : readingWithin cells most s .number ≡ 26 → Beyond cells most s
     unfolding readingBy
-    refused-beyond = go test1 test2 test3 test19 test4 test26 test5 test6 refl refl refl refl refl refl
-      where
-        go : (a b c d e k f g : Bool) → test1 ≡ a → test2 ≡ b → test3 ≡ c → test19 ≡ d → test4 ≡ e → test26 ≡ k
-            → unless a (refusedOf 1 0)
-            (unless b (refusedOf 2 0)
-            (unless c (refusedOf 3 0)
-            (unless d (refusedOf 19 0)
-            (unless e (refusedOf 4 0)
-            (unless k (refusedOf 26 0)
-            (unless f (refusedOf 5 (firstOf (placeOk (roadOf s) (startOf s)) (cellsOf s + 1)))
-            (unless g (refusedOf 6 (firstOf (stepOk s (roadOf s)) (stepsOf s)))
-            (acceptedOf (stepsOf s) (roadOf s) (startOf s))))))))) .number ≡ 26
-            → Beyond cells most s
-        go false b c d e k f g ea eb ec ed ee ek n = absurd (omega arith)
-        go true false c d e k f g ea eb ec ed ee ek n = absurd (omega arith)
-        go true true false d e k f g ea eb ec ed ee ek n = absurd (omega arith)
-        go true true true false e k f g ea eb ec ed ee ek n = absurd (omega arith)
-        go true true true true false k f g ea eb ec ed ee ek n = absurd (omega arith)
-        go true true true true true false f g ea eb ec ed ee ek n = record { header = passed ea eb ec ed ee; above = caller-above ek }
-        go true true true true true true false g ea eb ec ed ee ek n = absurd (omega arith)
-        go true true true true true true true false ea eb ec ed ee ek n = absurd (omega arith)
-        go true true true true true true true true ea eb ec ed ee ek n = absurd (omega arith)
+    refused-beyond =
+        unless-elim Told (lengthFits s) (λ _ n. absurd (omega arith)) (λ a.
+        unless-elim Told (versionKnown s) (λ _ n. absurd (omega arith)) (λ b.
+        unless-elim Told (countsFit s) (λ _ n. absurd (omega arith)) (λ c.
+        unless-elim Told (secondsFit s) (λ _ n. absurd (omega arith)) (λ d.
+        unless-elim Told (sizeFits s) (λ _ n. absurd (omega arith)) (λ e.
+        unless-elim Told (callerTakes s cells most) (λ k _. record { header = header-of s a b c d e; above = caller-above k }) (λ _.
+        unless-elim Told (placesFit s) (λ _ n. absurd (omega arith)) (λ _.
+        unless-elim Told (rowsFit s) (λ _ n. absurd (omega arith)) (λ _ n.
+        absurd (omega arith)))))))))
 
     -- elsewhere the record is read as without limits of the caller
     pub within-same : (Beyond cells most s → ⊥) → readingWithin cells most s ≡ readingOf s
     unfolding readingBy
-    within-same fits = go test1 test2 test3 test19 test4 test26 refl refl refl refl refl refl
-      where
-        go : (a b c d e k : Bool) → test1 ≡ a → test2 ≡ b → test3 ≡ c → test19 ≡ d → test4 ≡ e → test26 ≡ k
-            → readingWithin cells most s ≡ readingOf s
-        go false b c d e k ea eb ec ed ee ek = rw ea
-        go true false c d e k ea eb ec ed ee ek = rw (ea, eb)
-        go true true false d e k ea eb ec ed ee ek = rw (ea, eb, ec)
-        go true true true false e k ea eb ec ed ee ek = rw (ea, eb, ec, ed)
-        go true true true true false k ea eb ec ed ee ek = rw (ea, eb, ec, ed, ee)
-        go true true true true true false ea eb ec ed ee ek = absurd (fits (record { header = passed ea eb ec ed ee; above = caller-above ek }))
-        go true true true true true true ea eb ec ed ee ek = rw (ek, caller-full bothVersions s ea ec)
+    within-same fits =
+        unless-same (lengthFits s) (refusedOf 1 0) (λ a.
+        unless-same (versionKnown s) (refusedOf 2 0) (λ b.
+        unless-same (countsFit s) (refusedOf 3 0) (λ c.
+        unless-same (secondsFit s) (refusedOf 19 0) (λ d.
+        unless-same (sizeFits s) (refusedOf 4 0) (λ e.
+        let takes = passes (callerTakes s cells most) (λ k. fits (record { header = header-of s a b c d e; above = caller-above k })) in
+        rw (takes, caller-full bothVersions s a c))))))
 
     pub within-other : (readingWithin cells most s .number ≡ 26 → ⊥) → readingWithin cells most s ≡ readingOf s
     within-other h = within-same (λ b. h (ap (λ (a : ReadAnswer). a .number) (beyond-refused b)))
@@ -128,25 +76,18 @@ module _ (s : List ℕ) where
       pub accepted-reads : readingOf s .number ≡ 0
       accepted-reads = sym (ap (λ (a : ReadAnswer). a .number) within-accepted) ∙ h
 
+      abbrev Kept : ReadAnswer → Type 0
+      Kept x = x .number ≡ 0 → (cellsOf s ≤ cells) × (length s ≤ most)
+
       pub accepted-kept : (cellsOf s ≤ cells) × (length s ≤ most)
       unfolding readingBy
-      accepted-kept = go test1 test2 test3 test19 test4 test26 _ refl h
-        where
-          go : (a b c d e k : Bool) (x : ReadAnswer) → test26 ≡ k
-              → unless a (refusedOf 1 0)
-              (unless b (refusedOf 2 0)
-              (unless c (refusedOf 3 0)
-              (unless d (refusedOf 19 0)
-              (unless e (refusedOf 4 0)
-              (unless k (refusedOf 26 0) x))))) .number ≡ 0
-              → (cellsOf s ≤ cells) × (length s ≤ most)
-          go false b c d e k x ek z = absurd (omega arith)
-          go true false c d e k x ek z = absurd (omega arith)
-          go true true false d e k x ek z = absurd (omega arith)
-          go true true true false e k x ek z = absurd (omega arith)
-          go true true true true false k x ek z = absurd (omega arith)
-          go true true true true true false x ek z = absurd (omega arith)
-          go true true true true true true x ek z = caller-facts ek
+      accepted-kept =
+          unless-elim Kept (lengthFits s) (λ _ z. absurd (omega arith)) (λ _.
+          unless-elim Kept (versionKnown s) (λ _ z. absurd (omega arith)) (λ _.
+          unless-elim Kept (countsFit s) (λ _ z. absurd (omega arith)) (λ _.
+          unless-elim Kept (secondsFit s) (λ _ z. absurd (omega arith)) (λ _.
+          unless-elim Kept (sizeFits s) (λ _ z. absurd (omega arith)) (λ _.
+          unless-elim Kept (callerTakes s cells most) (λ _ z. absurd (omega arith)) (λ k _. caller-facts k)))))) h
 
   -- reading itself, which takes 64 cells and 65,536 bytes, never meets 26
   pub read-never : readingOf s .number ≡ 26 → ⊥

@@ -1,5 +1,5 @@
 -- What reading found, as facts: one case for each way through its tests. Assumes nothing.
-use mathlib.Core.Path.{_≡_, refl}
+use mathlib.Core.Path.{_≡_, refl, sym}
 use mathlib.Core.Bool.{Bool, true, false}
 use mathlib.Core.List.{List}
 use Prim.Native.Nat.{ℕ, _+_, _-_, _≤_, _<_}
@@ -11,17 +11,19 @@ use Rattle.road.specs.declared.Road.{Road}
 use Rattle.road.specs.declared.State.{State}
 use Rattle.road.specs.Road.{mostCells, mostSteps, mostBytes}
 use Rattle.road.specs.Refusals.{inHeader}
-use Rattle.numbers.specs.First.{unless, oneOf, firstOf, allOf}
+use Rattle.numbers.specs.First.{oneOf, firstOf, allOf}
 use Rattle.fields.specs.Fields.{versionOf, secondsOf, countSize, numberOf, recordRow}
 use Rattle.fields.specs.FieldsLaws.{length-row}
-use Rattle.numbers.specs.Tests.{le-head}
-use Rattle.numbers.specs.FirstLaws.{First, first, all-at}
+use Rattle.numbers.specs.Tests.{unless-elim, le-head}
+use Rattle.numbers.specs.FirstLaws.{First, first, first-none, all-at}
 use Rattle.limits.specs.Limits.{placeOk}
 use Rattle.limits.specs.LimitsLaws.{RoadOk, StateOk, RowOk, places-road, places-state, row-facts}
 use Rattle.header.specs.Header.{cellsOf, stepsOf, sizeOf, bothVersions, lengthOk, cellsAndStepsOk, secondsOk, callerOk}
+use Rattle.header.specs.HeaderLaws.{length-facts, counts-facts}
+use Rattle.reading.specs.Headers.{Header}
 use Rattle.reading.specs.Reading.{ReadAnswer, roadOf, startOf, stepOk}
 use Rattle.reading.specs.Reading.{refusedOf, acceptedOf, readingBy, readingWithin, readingOf}
-use Rattle.header.specs.HeaderLaws.{length-facts, counts-facts}
+use Rattle.reading.specs.ReadingLaws.{Body, answer-accepted}
 
 -- a number below n at which a test fails, as it does nowhere below
 pub record Lowest (test : ℕ → Bool) (n i : ℕ) : Type 0 where
@@ -35,6 +37,7 @@ lowest test n h =
 
 -- what holds of the road, T and the state of a record that reads
 pub record Accepted (s : List ℕ) (T : ℕ) (r : Road) (q : State) : Type 0 where
+  pub header : Header s (r .n) T
   pub size : length s ≡ sizeOf (versionOf s) (r .n) T
   pub bytes : length s ≤ mostBytes
   pub count : numberOf s 0 countSize ≡ length s - countSize
@@ -53,42 +56,57 @@ pub data Found (s : List ℕ) : ReadAnswer → Type 0 where
   atStep : (step : ℕ) → Lowest (stepOk s (roadOf s)) (stepsOf s) step → Found s (refusedOf 6 step)
   clear : Accepted s (stepsOf s) (roadOf s) (startOf s) → Found s (acceptedOf (stepsOf s) (roadOf s) (startOf s))
 
+-- the tests of 1, 2, 3, 19, 4, 26, 5 and 6
 module _ (s : List ℕ) where
-  -- the tests of the header, of the places and of the rows
-  abbrev lengths : Bool
-  lengths = lengthOk bothVersions s
+  abbrev pub lengthFits : Bool
+  lengthFits = lengthOk bothVersions s
 
-  abbrev version : Bool
-  version = oneOf bothVersions (versionOf s)
+  abbrev pub versionKnown : Bool
+  versionKnown = oneOf bothVersions (versionOf s)
 
-  abbrev counts : Bool
-  counts = cellsAndStepsOk (cellsOf s) (stepsOf s)
+  abbrev pub countsFit : Bool
+  countsFit = cellsAndStepsOk (cellsOf s) (stepsOf s)
 
-  abbrev seconds : Bool
-  seconds = secondsOk (versionOf s) (secondsOf s)
+  abbrev pub secondsFit : Bool
+  secondsFit = secondsOk (versionOf s) (secondsOf s)
 
-  abbrev size : Bool
-  size = eqb (length s) (sizeOf (versionOf s) (cellsOf s) (stepsOf s))
+  abbrev pub sizeFits : Bool
+  sizeFits = eqb (length s) (sizeOf (versionOf s) (cellsOf s) (stepsOf s))
 
-  abbrev places : Bool
-  places = allOf (placeOk (roadOf s) (startOf s)) (cellsOf s + 1)
+  abbrev pub callerTakes : ℕ → ℕ → Bool
+  callerTakes cells most = callerOk cells most (cellsOf s) (length s)
 
-  abbrev rows : Bool
-  rows = allOf (stepOk s (roadOf s)) (stepsOf s)
+  abbrev pub placesFit : Bool
+  placesFit = allOf (placeOk (roadOf s) (startOf s)) (cellsOf s + 1)
 
-  accepted : lengths ≡ true → version ≡ true → counts ≡ true → seconds ≡ true → size ≡ true → places ≡ true → rows ≡ true
-      → Accepted s (stepsOf s) (roadOf s) (startOf s)
-  accepted a b c d e f g =
-      let n = counts-facts (cellsOf s) (stepsOf s) c in
-      let counted = eqb-true (numberOf s 0 countSize) (length s - countSize) (le-head (length s) mostBytes _ (le-head _ (length s) _ a .1) .1) in
+  abbrev pub rowsFit : Bool
+  rowsFit = allOf (stepOk s (roadOf s)) (stepsOf s)
+
+  pub header-of : lengthFits ≡ true → versionKnown ≡ true → countsFit ≡ true → secondsFit ≡ true → sizeFits ≡ true
+      → Header s (cellsOf s) (stepsOf s)
+  header-of a b c d e = record {
+    lengths = a;
+    version = b;
+    cells = refl;
+    steps = refl;
+    counts = c;
+    seconds = d;
+    size = eqb-true (length s) (sizeOf (versionOf s) (cellsOf s) (stepsOf s)) e;
+  }
+
+  accepted : Header s (cellsOf s) (stepsOf s) → placesFit ≡ true → rowsFit ≡ true → Accepted s (stepsOf s) (roadOf s) (startOf s)
+  accepted h f g =
+      let n = counts-facts (cellsOf s) (stepsOf s) (h .counts) in
+      let counted = le-head (length s) mostBytes _ (le-head _ (length s) _ (h .lengths) .1) .1 in
       let all = all-at (placeOk (roadOf s) (startOf s)) (cellsOf s + 1) f in
       let road = places-road (roadOf s) (startOf s) all (n .someCells) (n .cells) in
       record {
-        size = eqb-true (length s) (sizeOf (versionOf s) (cellsOf s) (stepsOf s)) e;
-        bytes = length-facts s a .1;
-        count = counted;
-        version = b;
-        seconds = d;
+        header = h;
+        size = h .size;
+        bytes = length-facts s (h .lengths) .1;
+        count = eqb-true (numberOf s 0 countSize) (length s - countSize) counted;
+        version = h .version;
+        seconds = h .seconds;
         someSteps = n .someSteps;
         steps = n .steps;
         road = road;
@@ -99,33 +117,28 @@ module _ (s : List ℕ) where
   -- whatever the caller's limits
   pub found-within : (cells most : ℕ) → Found s (readingWithin cells most s)
   unfolding readingBy inHeader oneOf
-  found-within cells most = go lengths version counts seconds size (callerOk cells most (cellsOf s) (length s)) places rows refl refl refl refl refl refl refl
-    where
-      go : (a b c d e k f g : Bool) → lengths ≡ a → version ≡ b → counts ≡ c → seconds ≡ d → size ≡ e → places ≡ f → rows ≡ g
-          → Found s
-          (unless a (refusedOf 1 0)
-          (unless b (refusedOf 2 0)
-          (unless c (refusedOf 3 0)
-          (unless d (refusedOf 19 0)
-          (unless e (refusedOf 4 0)
-          (unless k (refusedOf 26 0)
-          (unless f (refusedOf 5 (firstOf (placeOk (roadOf s) (startOf s)) (cellsOf s + 1)))
-          (unless g (refusedOf 6 (firstOf (stepOk s (roadOf s)) (stepsOf s)))
-          (acceptedOf (stepsOf s) (roadOf s) (startOf s))))))))))
-      go false b c d e k f g ea eb ec ed ee ef eg = early 1 refl
-      go true false c d e k f g ea eb ec ed ee ef eg = early 2 refl
-      go true true false d e k f g ea eb ec ed ee ef eg = early 3 refl
-      go true true true false e k f g ea eb ec ed ee ef eg = early 19 refl
-      go true true true true false k f g ea eb ec ed ee ef eg = early 4 refl
-      go true true true true true false f g ea eb ec ed ee ef eg = early 26 refl
-      go true true true true true true false g ea eb ec ed ee ef eg =
-          atPlace (firstOf (placeOk (roadOf s) (startOf s)) (cellsOf s + 1)) (lowest (placeOk (roadOf s) (startOf s)) (cellsOf s + 1) ef)
-      go true true true true true true true false ea eb ec ed ee ef eg =
-          atStep (firstOf (stepOk s (roadOf s)) (stepsOf s)) (lowest (stepOk s (roadOf s)) (stepsOf s) eg)
-      go true true true true true true true true ea eb ec ed ee ef eg = clear (accepted ea eb ec ed ee ef eg)
+  found-within cells most =
+      unless-elim (Found s) lengthFits (λ _. early 1 refl) (λ a.
+      unless-elim (Found s) versionKnown (λ _. early 2 refl) (λ b.
+      unless-elim (Found s) countsFit (λ _. early 3 refl) (λ c.
+      unless-elim (Found s) secondsFit (λ _. early 19 refl) (λ d.
+      unless-elim (Found s) sizeFits (λ _. early 4 refl) (λ e.
+      unless-elim (Found s) (callerTakes cells most) (λ _. early 26 refl) (λ _.
+      unless-elim (Found s) placesFit (λ f. atPlace _ (lowest (placeOk (roadOf s) (startOf s)) (cellsOf s + 1) f)) (λ f.
+      unless-elim (Found s) rowsFit (λ g. atStep _ (lowest (stepOk s (roadOf s)) (stepsOf s) g)) (λ g.
+      clear (accepted (header-of a b c d e) f g)))))))))
 
   pub read-found : Found s (readingOf s)
   read-found = found-within mostCells mostBytes
+
+-- a record whose header passes, and whose places and rows are all within their limits, is accepted
+pub reads : {s : List ℕ} {n T : ℕ} → Header s n T → ((p : ℕ) → p < n + 1 → placeOk (roadOf s) (startOf s) p ≡ true)
+    → ((t : ℕ) → t < T → stepOk s (roadOf s) t ≡ true) → readingOf s ≡ acceptedOf T (roadOf s) (startOf s)
+reads {s} {n} {T} h places rows =
+    let none = first-none (placeOk (roadOf s) (startOf s)) (cellsOf s + 1) (λ p l. places p (omega (arith, h .cells))) in
+    let body : Body s n T (roadOf s) (startOf s) (firstOf (placeOk (roadOf s) (startOf s)) (cellsOf s + 1)) =
+    record { header = h; road = refl; start = refl; place = refl } in
+    sym (answer-accepted body (omega (arith, none, h .cells)) refl (first-none (stepOk s (roadOf s)) T rows))
 
 -- none of the header's refusals is 0, 5 or 6
 module _ {number : ℕ} (h : inHeader number ≡ true) where

@@ -9,7 +9,7 @@ use Rattle.road.specs.declared.State.{State}
 use Rattle.road.specs.Road.{mostCells, mostBytes, zeros, emptyRoad, emptyState}
 use Rattle.numbers.specs.First.{unless, oneOf, unlessFirst}
 use Rattle.road.specs.Refusals.{refusalNumber}
-use Rattle.road.specs.Study.{Study, study}
+use Rattle.studies.specs.Study.{Study, study}
 use Rattle.fields.specs.Fields.{shortSize, numberSize, numberOf, columnOf, recordRow, versionOf, secondsOf, gateCapacityOffset, gateQueueOffset}
 use Rattle.fields.specs.Fields.{speedOffset, waveOffset, shareOffset, rampOffset, jamOffset, capacityOffset, heldOffset, queueOffset}
 use Rattle.limits.specs.Limits.{placeOk, rowOk}

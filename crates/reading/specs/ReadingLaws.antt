@@ -4,7 +4,6 @@ use mathlib.Core.Bool.{Bool, true, false}
 use mathlib.Core.List.{List}
 use Prim.Native.Nat.{ℕ, _+_, _*_, _≤_, _<_}
 use native.Mathlib.Omega.{arith}
-use borrow.Author.Count.{below-more, below-none}
 use lib.ListN.{length}
 use borrow.Author.Tests.{eq-eqb, ne-eqb}
 use Rattle.road.specs.declared.Road.{Road}
@@ -14,8 +13,7 @@ use Rattle.fields.specs.Fields.{versionOf, secondsOf, numberSize, rowSize, rowS
 use Rattle.fields.specs.FieldsLaws.{holds-row, row-at}
 use Rattle.numbers.specs.Lists.{at}
 use Rattle.numbers.specs.First.{oneOf, firstOf}
-use Rattle.numbers.specs.FirstLaws.{first-stop, first-none}
-use Rattle.limits.specs.Limits.{placeOk, ratesOk, ratesAt, rowOk}
+use Rattle.limits.specs.Limits.{placeOk, ratesOk, ratesAt}
 use Rattle.numbers.specs.First.{unlessFirst}
 use Rattle.reading.specs.Headers.{Cells, Steps, Header}
 use Rattle.header.specs.Header.{cellsOf, stepsOf, sizeOf, bothVersions, lengthOk, cellsAndStepsOk, secondsOk, callerOk}
@@ -150,36 +148,6 @@ module _ {s : List ℕ} {n T : ℕ} {r : Road} {q : State} {p : ℕ} (b : Body s
 pub steps-row : {s : List ℕ} {n T t : ℕ} → Steps s n T → t < T → HoldsRow s n t
 steps-row {s} {n} {T} {t} h l = holds-row s n t T (h .most) (h .held) l
 
--- the loop over the steps: the rows of the first t are within their limits
-pub record Checked (s ramp : List ℕ) (n T t : ℕ) : Type 0 where
-  pub within : t ≤ T
-  pub before : (j : ℕ) → j < t → rowOk ramp n (recordRow s n j) ≡ true
-
--- a turn of it: what the code finds of the row
-pub record Turn (s ramp : List ℕ) (n T t : ℕ) (b : Bool) : Type 0 where
-  pub checked : Checked s ramp n T t
-  pub left : t < T
-  pub test : b ≡ rowOk ramp n (recordRow s n t)
-
-pub checked-none : {s ramp : List ℕ} {n T : ℕ} → Checked s ramp n T 0
-checked-none = record { within = omega arith; before = below-none _ }
-
-module _ {s ramp : List ℕ} {n T t : ℕ} where
-  pub checked-end : Checked s ramp n T t → T ≤ t → t ≡ firstOf (λ (j : ℕ). rowOk ramp n (recordRow s n j)) T
-  checked-end h l =
-      let e : T ≡ t = omega (arith, h .within) in
-      sym (first-none (λ (j : ℕ). rowOk ramp n (recordRow s n j)) T (λ j k. h .before j (omega arith)) ∙ e)
-
-  module _ {b : Bool} (u : Turn s ramp n T t b) where
-    found : rowOk ramp n (recordRow s n t) ≡ b
-    found = sym (u .test)
-
-    pub checked-more : b ≡ true → Checked s ramp n T (t + 1)
-    checked-more z = record { within = omega (arith, u .left); before = below-more _ _ (u .checked .before) (found ∙ z) }
-
-    pub checked-fault : b ≡ false → t ≡ firstOf (λ (j : ℕ). rowOk ramp n (recordRow s n j)) T
-    checked-fault z = first-stop (λ (j : ℕ). rowOk ramp n (recordRow s n j)) T t (u .left) (u .checked .before) (found ∙ z)
-
 -- number k of a row, as the code reads it at its place in the bytes
 pub entry-read : (s : List ℕ) (n t k : ℕ) {start place x : ℕ} → start ≡ rowStart (versionOf s) n t → place ≡ start + numberSize * k
     → x ≡ numberOf s place numberSize → k < 1 + 2 * n → x ≡ at (recordRow s n t) k
@@ -188,6 +156,6 @@ entry-read s n t k e p ex l =
 
 -- and what it finds of a cell's rates
 pub rates-read : (ramp row : List ℕ) (i : ℕ) {arrivals release : ℕ} {b : Bool} → b ≡ ratesOk (at ramp i) arrivals release
-    → arrivals ≡ at row (2 * i + 1) → release ≡ at row (2 * i + 2) → ratesAt ramp row i ≡ b
+    → arrivals ≡ at row (2 * i + 1) → release ≡ at row (2 * i + 2) → b ≡ ratesAt ramp row i
 rates-read ramp row i {release = release} e a r =
-    sym (e ∙ ap (λ (x : ℕ). ratesOk (at ramp i) x release) a ∙ ap (ratesOk (at ramp i) (at row (2 * i + 1))) r)
+    e ∙ ap (λ (x : ℕ). ratesOk (at ramp i) x release) a ∙ ap (ratesOk (at ramp i) (at row (2 * i + 1))) r

@@ -1,8 +1,17 @@
--- What the code finds of the releases, in the model's numbers. Assumes nothing.
-use Rattle.road.specs.Refusals.{refusalNumber}
-use Rattle.model.specs.Step.{fault}
-use Rattle.releases.specs.declared.Fault.{Fault}
-use Rattle.model.specs.Step as model
+-- What the code finds of the release at a cell. Assumes nothing.
+use mathlib.Core.Path.{_≡_}
+use mathlib.Core.List.{List}
+use Prim.Native.Nat.{ℕ, _+_}
+use Rattle.flow.specs.Flow.{supplyOf}
+use Rattle.road.specs.declared.Road.{Road}
+use Rattle.road.specs.declared.State.{State}
+use Rattle.numbers.specs.Lists.{at}
+use Rattle.model.specs.Places.{arrivalsAt, releaseAt, capacityAt, mostReleaseAt}
+use Rattle.model.specs.Step.{releaseFault, releaseFaultAt}
 
-abbrev pub faultOf : Fault → model.Fault
-faultOf q = fault (refusalNumber (q .refusal)) (q .place)
+-- at a cell, from the supply and the most that it computes, and the number of the refusal that it gives
+pub release-found : (r : Road) (s : State) (row : List ℕ) (i : ℕ) {supply most m : ℕ}
+    → supply ≡ supplyOf (at (r .wave) i) (at (r .capacity) i) (at (r .jam) i) (at (s .held) i) → most ≡ at (s .queue) i + arrivalsAt row i
+    → m ≡ releaseFault (releaseAt row i) most supply → m ≡ releaseFaultAt r s row i
+unfolding capacityAt mostReleaseAt
+release-found r s row i es em e = rw (es, em) at e

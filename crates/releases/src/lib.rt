@@ -1,28 +1,16 @@
-// The releases of a row: what a ramp may release at most, and refusals 9 and 10.
+// The releases of a row: refusals 9 and 10.
 pub mod lent;
 
+use road::Fault;
 use road::Refusal;
 use road::Road;
 use road::State;
 ghost use mathlib.Core.Path.{_≡_};
 ghost use Prim.Native.Nat.{_+_, _*_, _≤_};
 ghost use lib.ListN.{length};
-ghost use Rattle.road.specs.Refusals.{refusalNumber};
+ghost use Rattle.road.specs.Road.{mostCells};
+ghost use Rattle.road.specs.Refusals.{refusalNumber, faultAnswer};
 ghost use Rattle.model.specs.Step.{releaseFault, releasesOf};
-ghost use Rattle.releases.specs.Faults.{faultOf};
-
-// A refusal, or none, with its place.
-pub struct Fault {
-    pub refusal: Refusal,
-    pub place: usize,
-}
-
-// What a ramp may release at most in a step: its queue and the step's arrivals there. In u64 the sum never wraps.
-pub fn most_release(queue: u32, arrivals: u32) -> u64
-    ensures { λ m. ⌜ m ≡ queue + arrivals ⌝ }
-{
-    queue as u64 + arrivals as u64
-}
 
 // One cell's release: not above what its ramp may release at most, nor above its supply.
 pub fn release_refusal(release: u32, most: u64, supply: u32) -> Refusal
@@ -39,8 +27,8 @@ pub fn release_refusal(release: u32, most: u64, supply: u32) -> Refusal
 
 // The lowest cell whose release does not fit, with its refusal.
 pub fn releases(r: Road, s: State, row: &[u32]) -> Fault
-    requires { ⌜ (r .n ≤ 64) × (length (now row) ≡ 1 + 2 * r .n) ⌝ }
-    ensures { λ q. ⌜ faultOf q ≡ releasesOf r s (now (row .entry)) ⌝ }
+    requires { ⌜ (r .n ≤ mostCells) × (length (now row) ≡ 1 + 2 * r .n) ⌝ }
+    ensures { λ q. ⌜ faultAnswer q ≡ releasesOf r s (now (row .entry)) ⌝ }
 {
     let mut room = [0u32; 64];
     lent::releases(

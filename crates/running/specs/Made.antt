@@ -5,12 +5,13 @@ use Prim.Native.Nat.{ℕ, _+_, _-_, _*_, _≤_, _<_}
 use native.Mathlib.Omega.{arith}
 use lib.ListN.{length, take, drop}
 use Rattle.rows.specs.TablesLaws.{row-ends, mul-more}
+use Rattle.road.specs.Refusals.{FaultAnswer}
 use Rattle.road.specs.declared.Road.{Road}
 use Rattle.road.specs.declared.State.{State}
-use Rattle.road.specs.Study.{Study, places, tableSize}
+use Rattle.studies.specs.Study.{Study, places, tableSize}
 use Rattle.model.specs.Move.{nextOf}
 use Rattle.model.specs.Rules.{outflowsOf}
-use Rattle.model.specs.Step.{Fault, releasesOf}
+use Rattle.model.specs.Step.{releasesOf}
 use Rattle.model.specs.RunsLaws.{StudyOk}
 use Rattle.schedules.specs.Schedules.{tableOf, runTable}
 use Rattle.schedules.specs.TableLaws.{length-table, table-none, table-more}
@@ -35,7 +36,7 @@ module _ {a : Study} {list : List ℕ} where
   module _ {out : List ℕ} {u : State} {k to : ℕ} (h : Made a list out u k to) where
     -- the list keeps its length
     pub same-length : StudyOk a → tableSize a ≤ length list → length out ≡ length list
-    same-length ok long = ap length (h .table) ∙ length-table a ok list k (h .ran .within) long
+    same-length ok long = ap length (h .table) ∙ length-table a ok list k (h .ran .faultless .within) long
 
     -- the next row lies within it, and within what bounds the table
     pub row-ends-by : (most : ℕ) → tableSize a ≤ most → k < a .steps → to + places a ≤ most
@@ -48,7 +49,7 @@ module _ {a : Study} {list : List ℕ} where
     pub table-end : a .steps ≤ k → out ≡ runTable a list
     table-end end = h .table ∙ ap (tableOf a list) (steps-all (h .ran) end)
 
-    module _ {q : Road} {row : List ℕ} (t : RanTurn a u k q row) {f : Fault} (e : f ≡ releasesOf q u row) where
+    module _ {q : Road} {row : List ℕ} (t : RanTurn a u k q row) {f : FaultAnswer} (e : f ≡ releasesOf q u row) where
       -- a fault leaves the rows before it
       pub table-fault : (f .number ≡ 0 → ⊥) → out ≡ runTable a list
       table-fault n = h .table ∙ ap (tableOf a list) (steps-fault t e n)

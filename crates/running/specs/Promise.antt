@@ -4,7 +4,7 @@ use mathlib.Core.Bool.{Bool, true, false, cond}
 use mathlib.Core.List.{List}
 use Prim.Native.Nat.{ℕ, _≤_, _<_}
 use lib.ListN.{length}
-use Rattle.road.specs.Study.{tableSize}
+use Rattle.studies.specs.Study.{tableSize}
 use Rattle.reading.specs.Reading.{ReadAnswer, readingOf, studyBy}
 use Rattle.schedules.specs.Schedules.{EndAnswer, noState, openingOf, runEnd, runningOf, runTable, listAfter}
 use Rattle.schedules.specs.Opening.{opened-taken, opened-reads}

@@ -5,26 +5,26 @@ use Prim.Native.Nat.{ℕ, _+_, _*_, _≤_, _<_}
 use lib.ListN.{length}
 use native.Mathlib.Numerals.{add-one}
 use native.Mathlib.Omega.{arith}
-use borrow.Author.Count.{below-more, below-none}
+use Rattle.numbers.specs.FirstLaws.{Faultless, faultless-none, faultless-more, faultless-stop, faultless-end}
+use Rattle.road.specs.Refusals.{FaultAnswer}
 use Rattle.road.specs.declared.Road.{Road}
 use Rattle.road.specs.declared.State.{State}
 use Rattle.road.specs.Road.{mostCells}
-use Rattle.road.specs.Study.{Study, roadAt, places}
+use Rattle.studies.specs.Study.{Study, roadAt, places}
 use Rattle.model.specs.Move.{nextOf}
 use Rattle.model.specs.Rules.{outflowsOf}
-use Rattle.model.specs.Step.{Fault, releasesOf}
+use Rattle.model.specs.Step.{releasesOf}
 use Rattle.model.specs.StepLaws.{number-of, releases-fit}
 use Rattle.model.specs.Runs.{engineAfter, outflowsAt}
 use Rattle.model.specs.RunsLaws.{StudyOk, Reached, StepOf, step-road, step-input, step-sized, step-left}
 use Rattle.moves.specs.Asked.{Steppable}
 use Rattle.schedules.specs.Schedules.{runSays, firstStep, EndAnswer, ended, runEnd}
-use Rattle.schedules.specs.SchedulesLaws.{step-at, step-none, ends-at, ends-all, run-reached}
+use Rattle.schedules.specs.SchedulesLaws.{ends-at, ends-all, run-reached}
 
 -- k steps are made without a fault, and u is the state after them
 pub record Ran (a : Study) (u : State) (k : ℕ) : Type 0 where
-  pub within : k ≤ a .steps
   pub state : u ≡ engineAfter a k
-  pub before : (j : ℕ) → j < k → runSays a j .number ≡ 0
+  pub faultless : Faultless (λ j. runSays a j .number) (a .steps) k
 
 -- a turn of the loop: q is the step's road, and the code holds the row of step k
 pub record RanTurn (a : Study) (u : State) (k : ℕ) (q : Road) (row : List ℕ) : Type 0 where
@@ -37,22 +37,22 @@ pub record RanTurn (a : Study) (u : State) (k : ℕ) (q : Road) (row : List ℕ)
 module _ {a : Study} where
   -- within the limits
   pub ran-reached : {u : State} {k : ℕ} → StudyOk a → Ran a u k → Reached a u k
-  ran-reached {k = k} ok h = rw (h .state) (run-reached a ok k (h .within) (h .before))
+  ran-reached {k = k} ok h = rw (h .state) (run-reached a ok k (h .faultless .within) (h .faultless .before))
 
   pub ran-none : Ran a (a .start) 0
   unfolding engineAfter
-  ran-none = record { within = omega arith; state = refl; before = below-none _ }
+  ran-none = record { state = refl; faultless = faultless-none }
 
   -- all steps are made
   module _ {u : State} {k : ℕ} (h : Ran a u k) (end : a .steps ≤ k) where
     pub all-ran : k ≡ a .steps
-    all-ran = omega (arith, h .within)
+    all-ran = omega (arith, h .faultless .within)
 
     pub steps-all : k ≡ firstStep (runSays a) (a .steps)
-    steps-all = all-ran ∙ sym (step-none (runSays a) (a .steps) (λ j m. h .before j (omega (arith, all-ran))))
+    steps-all = faultless-end (h .faultless) end
 
     pub ends-ran : {e : EndAnswer} → e ≡ ended 0 0 0 (a .road) u → e ≡ runEnd a
-    ends-ran g = g ∙ ends-all a (runSays a) (engineAfter a) k u all-ran (h .before) (h .state)
+    ends-ran g = g ∙ ends-all a (runSays a) (engineAfter a) (h .faultless) (h .state) end
 
   module _ {u : State} {k : ℕ} {q : Road} {row : List ℕ} (t : RanTurn a u k q row) where
     this-step : StepOf a q u row k
@@ -76,16 +76,16 @@ module _ {a : Study} where
     row-is e = rw (e, t .road, t .ran .state, t .numbers)
 
     -- what running says of the step, from what the code finds
-    module _ {f : Fault} (e : f ≡ releasesOf q u row) where
+    module _ {f : FaultAnswer} (e : f ≡ releasesOf q u row) where
       says : f ≡ runSays a k
       says = rw (e, t .road, t .ran .state, t .numbers)
 
       -- a fault ends the run before the step
       pub ends-fault : {x : EndAnswer} → (f .number ≡ 0 → ⊥) → x ≡ ended (f .number) k (f .place) (a .road) u → x ≡ runEnd a
-      ends-fault n g = g ∙ ends-at a (runSays a) (engineAfter a) k f u (t .left) (t .ran .before) says n (t .ran .state)
+      ends-fault n g = g ∙ ends-at a (runSays a) (engineAfter a) (t .ran .faultless) (t .ran .state) (t .left) says n
 
       pub steps-fault : (f .number ≡ 0 → ⊥) → k ≡ firstStep (runSays a) (a .steps)
-      steps-fault n = sym (step-at (runSays a) (a .steps) k (t .left) (t .ran .before) (λ z. n (number-of says ∙ z)))
+      steps-fault n = faultless-stop (t .ran .faultless) (t .left) (number-of says) n
 
       -- otherwise the step asks nothing more
       pub steps-on : f .number ≡ 0 → Steppable q u row
@@ -100,7 +100,6 @@ module _ {a : Study} where
       pub ran-more : f .number ≡ 0 → {v : State} → v ≡ nextOf q u row (outflowsOf q u row) → Ran a v (k + 1)
       unfolding engineAfter
       ran-more z ev = record {
-        within = omega (arith, t .left);
         state = rw (ev, t .road, t .ran .state, t .numbers, add-one k);
-        before = below-more _ _ (t .ran .before) (sym (number-of says) ∙ z);
+        faultless = faultless-more (t .ran .faultless) (t .left) (number-of says) z;
       }

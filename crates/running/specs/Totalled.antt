@@ -6,7 +6,7 @@ use native.Mathlib.Numerals.{add-one}
 use native.Mathlib.Omega.{arith}
 use Rattle.road.specs.declared.State.{State}
 use Rattle.road.specs.Road.{mostSteps}
-use Rattle.road.specs.Study.{Study}
+use Rattle.studies.specs.Study.{Study}
 use Rattle.model.specs.Runs.{engineAfter}
 use Rattle.model.specs.RunsLaws.{StudyOk}
 use Rattle.model.specs.Weights.{weightedOf, weightedTotal}

@@ -10,7 +10,7 @@ use Rattle.rows.specs.RowsLaws.{sum-list-none, sum-list-more}
 use Rattle.road.specs.declared.State.{State}
 use Rattle.road.specs.Road.{totalOf}
 use Rattle.road.specs.RoadLaws.{zeros-at}
-use Rattle.road.specs.Study.{Study, roadAt}
+use Rattle.studies.specs.Study.{Study, roadAt}
 use Rattle.model.specs.Places.{cumulativeAt}
 use Rattle.model.specs.Move.{heldSum, queueSum, presentOf, exitAt, exitsOf}
 use Rattle.model.specs.MoveLaws.{next-gate-time, next-road-time, next-ramp-time, next-total, next-cumulative}

@@ -9,7 +9,7 @@ use Rattle.road.specs.declared.Road.{Road}
 use Rattle.road.specs.declared.State.{State}
 use Rattle.road.specs.Road.{totalOf}
 use Rattle.road.specs.Refusals.{began}
-use Rattle.road.specs.Study.{Study, roadAt, tableSize}
+use Rattle.studies.specs.Study.{Study, roadAt, tableSize}
 use Rattle.model.specs.Rules.{Greatest}
 use Rattle.model.specs.Runs.{Obeying}
 use Rattle.model.specs.Weights.{Falling}

@@ -6,7 +6,7 @@ use native.Mathlib.Nat.{le-refl}
 use native.Mathlib.Omega.{arith}
 use Rattle.road.specs.declared.Road.{Road}
 use Rattle.road.specs.declared.State.{State}
-use Rattle.road.specs.Study.{Study, roadAt}
+use Rattle.studies.specs.Study.{Study, roadAt}
 use Rattle.model.specs.Places.{cumulativeAt}
 use Rattle.model.specs.Runs.{scheduleAfter, engineAfter, outflowsAt, Fitting, Obeying}
 use Rattle.model.specs.RulesLaws.{outflows-obey}

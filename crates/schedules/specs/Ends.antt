@@ -7,7 +7,7 @@ use lib.Dec.{eqb}
 use borrow.Author.Tests.{eq-eqb, ne-eqb, le-leb, lt-leb}
 use lib.ListN.{length}
 use Rattle.numbers.specs.First.{unless}
-use Rattle.road.specs.Study.{tableSize}
+use Rattle.studies.specs.Study.{tableSize}
 use Rattle.model.specs.Runs.{engineAfter}
 use Rattle.reading.specs.Reading.{ReadAnswer, refusedOf, readingOf, studyOf}
 use Rattle.schedules.specs.Demand.{Taken}

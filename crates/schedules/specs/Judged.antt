@@ -8,7 +8,7 @@ use native.Mathlib.Omega.{arith}
 use lib.Dec.{eqb}
 use lib.ListN.{length}
 use borrow.Author.Tests.{eqb-true, eqb-false}
-use Rattle.road.specs.Study.{Study, roadAt, tableSize}
+use Rattle.studies.specs.Study.{Study, roadAt, tableSize}
 use Rattle.model.specs.Rules.{Obeys}
 use Rattle.model.specs.RunsLaws.{StudyOk}
 use Rattle.reading.specs.Reading.{readingOf, studyOf}

@@ -16,7 +16,7 @@ pub mod Unclosed
 pub mod Restamped
 pub mod Weighted
 pub mod WeightedTimes
-pub mod Improved
+pub mod ImprovedRuns
 pub mod NotEmpty
 pub mod Rising
 pub mod Raised

@@ -13,7 +13,7 @@ use Rattle.rows.specs.Rows.{fillOf, listOf}
 use Rattle.rows.specs.Tables.{rowAt}
 use Rattle.lanes.specs.Lanes.{openCapacity, lanesOk}
 use Rattle.road.specs.Road.{totalOf}
-use Rattle.road.specs.Study.{roadAt, tableSize}
+use Rattle.studies.specs.Study.{roadAt, tableSize}
 use Rattle.fields.specs.Fields.{numberOf, secondsSize}
 use Rattle.limits.specs.Limits.{placeOk, rowOk}
 use Rattle.model.specs.Places.{capacityAt, demandAt, mostReleaseAt, shareAt, cumulativeAt}

@@ -1,11 +1,10 @@
 -- Laws of a record opened with a table of lanes. Assumes nothing.
 use mathlib.Core.Path.{_≡_, refl, _∙_}
-use mathlib.Core.Bool.{Bool, true, false}
 use mathlib.Core.List.{List, []}
 use Prim.Native.Nat.{ℕ}
 use lib.Dec.{eqb}
-use borrow.Author.Tests.{eqb-true, eqb-false, eq-eqb, ne-eqb}
-use Rattle.numbers.specs.First.{unless}
+use borrow.Author.Tests.{eq-eqb, ne-eqb}
+use Rattle.numbers.specs.Tests.{unless-elim, fault-elim}
 use Rattle.reading.specs.Reading.{ReadAnswer, refusedOf, readingOf, studyBy, studyOf}
 use Rattle.model.specs.StepLaws.{number-of, table-empty}
 use Rattle.schedules.specs.Demand.{Taken}
@@ -27,25 +26,19 @@ module _ (bytes lanes : List ℕ) where
   -- a table without a fault changes nothing
   pub opening-same : lanesFault (studyOf bytes lanes) .number ≡ 0 → openingOf bytes lanes ≡ readingOf bytes
   unfolding openingOf
-  opening-same z = rw (eq-eqb (lanesFault (studyOf bytes lanes) .number) 0 z) (go (eqb (readingOf bytes .number) 0) (readingOf bytes))
-    where
-      go : (b : Bool) (x : ReadAnswer) → unless b x x ≡ x
-      go true x = refl
-      go false x = refl
+  opening-same z =
+      rw (eq-eqb (lanesFault (studyOf bytes lanes) .number) 0 z)
+      (unless-elim (λ (x : ReadAnswer). x ≡ readingOf bytes) (eqb (readingOf bytes .number) 0) (λ _. refl) (λ _. refl))
 
   pub opening-taken : Taken bytes lanes → openingOf bytes lanes ≡ readingOf bytes
   opening-taken t = opening-same (t .opens)
 
   -- and without a refusal neither does
   pub opening-opens : openingOf bytes lanes .number ≡ 0 → Taken bytes lanes
-  opening-opens h = go (eqb (readingOf bytes .number) 0) (eqb (lanesFault (studyOf bytes lanes) .number) 0) refl refl
-    where
-      go : (b c : Bool) → eqb (readingOf bytes .number) 0 ≡ b → eqb (lanesFault (studyOf bytes lanes) .number) 0 ≡ c → Taken bytes lanes
-      go true true p q = record { reads = eqb-true (readingOf bytes .number) 0 p; opens = eqb-true (lanesFault (studyOf bytes lanes) .number) 0 q }
-      go true false p q =
-          let n = eqb-false (lanesFault (studyOf bytes lanes) .number) 0 q in
-          absurd (n (rw (opening-closed (eqb-true (readingOf bytes .number) 0 p) n) at h))
-      go false c p q = let n = eqb-false (readingOf bytes .number) 0 p in absurd (n (rw (opening-refused n) at h))
+  opening-opens h =
+      fault-elim (readingOf bytes .number) (λ n. absurd (n (rw (opening-refused n) at h))) (λ reads.
+      fault-elim (lanesFault (studyOf bytes lanes) .number) (λ n. absurd (n (rw (opening-closed reads n) at h))) (λ opens.
+      record { reads = reads; opens = opens }))
 
 -- x is what opening gave without a refusal
 module _ (bytes lanes : List ℕ) {x : ReadAnswer} (e : x ≡ openingOf bytes lanes) (h : x .number ≡ 0) where

@@ -4,7 +4,7 @@ use mathlib.Core.List.{List, []}
 use Prim.Native.Nat.{ℕ, _≤_, _<_}
 use native.Mathlib.Omega.{arith}
 use Rattle.road.specs.Road.{mostSeconds}
-use Rattle.road.specs.Study.{Study, tableSize}
+use Rattle.studies.specs.Study.{Study, tableSize}
 use Rattle.fields.specs.Fields.{HoldsRow}
 use Rattle.model.specs.Step.{tableFault}
 use Rattle.model.specs.StepLaws.{number-of, TableOk, table-ok, table-empty}

@@ -8,14 +8,14 @@ use native.Mathlib.Omega.{arith}
 use lib.Dec.{eqb}
 use lib.ListN.{length}
 use borrow.Author.Tests.{eqb-true, eqb-false}
+use Rattle.road.specs.Refusals.{FaultAnswer}
 use Rattle.numbers.specs.FirstLaws.{fault-same}
 use Rattle.numbers.specs.Tests.{order}
 use Rattle.road.specs.declared.Road.{Road}
 use Rattle.road.specs.declared.State.{State}
 use Rattle.rows.specs.Tables.{rowAt, frontOf}
 use Rattle.rows.specs.TablesLaws.{front-same}
-use Rattle.road.specs.Study.{Study, roadAt, places, tableSize}
-use Rattle.model.specs.Step.{Fault}
+use Rattle.studies.specs.Study.{Study, roadAt, places, tableSize}
 use Rattle.model.specs.StepLaws.{number-of}
 use Rattle.model.specs.Verdict.{verdictOf}
 use Rattle.model.specs.Runs.{scheduleAfter, engineAfter, outflowsAt}
@@ -28,17 +28,17 @@ use Rattle.schedules.specs.SchedulesLaws.{step-within, end-all, end-faul
 use Rattle.schedules.specs.Ends.{runs-short, runs-long, writes-short, writes-long, judges-length, judges-ends}
 
 -- answers that differ in their roads alone: the same refusal, step and place, and the same state, with its times and cumulative outflows
-pub record Alike (d e : EndAnswer) : Type 0 where
+pub record EndsAlike (d e : EndAnswer) : Type 0 where
   pub number : e .number ≡ d .number
   pub step : e .step ≡ d .step
   pub place : e .place ≡ d .place
   pub state : e .state ≡ d .state
 
-alike-self : (d : EndAnswer) → Alike d d
+alike-self : (d : EndAnswer) → EndsAlike d d
 alike-self d = record { number = refl; step = refl; place = refl; state = refl }
 
 -- two ends over the steps of studies that differ so, with the same faults and the same states
-module _ {a b : Study} (h : Restamped a b) (f g : ℕ → Fault) (x y : ℕ → State)
+module _ {a b : Study} (h : Restamped a b) (f g : ℕ → FaultAnswer) (x y : ℕ → State)
     (says : (k : ℕ) → k < a .steps → g k ≡ f k) (states : (k : ℕ) → k ≤ a .steps → y k ≡ x k) where
   abbrev T : ℕ
   T = a .steps
@@ -51,10 +51,10 @@ module _ {a b : Study} (h : Restamped a b) (f g : ℕ → Fault) (x y : ℕ → 
   same-first = ap (firstStep g) (h .steps) ∙ fault-same (λ k. g k .number) (λ k. f k .number) T (λ k l. number-of (says k l))
 
   -- and end alike
-  pub same-end : Alike (endOf a f x) (endOf b g y)
+  pub same-end : EndsAlike (endOf a f x) (endOf b g y)
   same-end = go (eqb K T) refl
     where
-      go : (t : Bool) → eqb (firstStep f (a .steps)) (a .steps) ≡ t → Alike (endOf a f x) (endOf b g y)
+      go : (t : Bool) → eqb (firstStep f (a .steps)) (a .steps) ≡ t → EndsAlike (endOf a f x) (endOf b g y)
       go true e =
           let all : K ≡ T = eqb-true K T e in
           let s : y (b .steps) ≡ x (a .steps) = ap y (h .steps) ∙ states T (omega arith) in
@@ -65,7 +65,7 @@ module _ {a b : Study} (h : Restamped a b) (f g : ℕ → Fault) (x y : ℕ → 
           let q : g (firstStep g (b .steps)) ≡ f (firstStep f (a .steps)) = ap g same-first ∙ says K l in
           let s : y (firstStep g (b .steps)) ≡ x (firstStep f (a .steps)) = ap y same-first ∙ states K (omega arith) in
           rw (end-fault a f x l, end-fault b g y m)
-          (record { number = number-of q; step = same-first; place = ap (λ (p : Fault). p .place) q; state = s })
+          (record { number = number-of q; step = same-first; place = ap (λ (p : FaultAnswer). p .place) q; state = s })
 
 module _ {a b : Study} (h : Restamped a b) where
   -- the same places, and so a table of the same size
@@ -79,11 +79,11 @@ module _ {a b : Study} (h : Restamped a b) where
   run-first : firstStep (runSays b) (b .steps) ≡ firstStep (runSays a) (a .steps)
   run-first = same-first h (runSays a) (runSays b) (engineAfter a) (engineAfter b) (same-releases h) (same-state h)
 
-  pub run-end : Alike (runEnd a) (runEnd b)
+  pub run-end : EndsAlike (runEnd a) (runEnd b)
   run-end = same-end h (runSays a) (runSays b) (engineAfter a) (engineAfter b) (same-releases h) (same-state h)
 
   -- the end of a schedule's judgement
-  pub judge-end : (zs : List ℕ) → Alike (judgeEnd a zs) (judgeEnd b zs)
+  pub judge-end : (zs : List ℕ) → EndsAlike (judgeEnd a zs) (judgeEnd b zs)
   judge-end zs =
       same-end h (judgeSays a zs) (judgeSays b zs) (scheduledAt a zs) (scheduledAt b zs)
       (λ k l.
@@ -101,7 +101,7 @@ module _ {a b : Study} (h : Restamped a b) where
 
 -- of two records that are taken with one table of lanes: running and judging answer alike, and running leaves the same list
 module _ (s t lanes : List ℕ) (first : Taken s lanes) (other : Taken t lanes) (h : Restamped (studyOf s lanes) (studyOf t lanes)) (list : List ℕ) where
-  pub runs-alike : Alike (runningOf s lanes list) (runningOf t lanes list)
+  pub runs-alike : EndsAlike (runningOf s lanes list) (runningOf t lanes list)
   runs-alike =
       let z = same-table h in
       ⊎-elim
@@ -125,10 +125,10 @@ module _ (s t lanes : List ℕ) (first : Taken s lanes) (other : Taken t lanes) 
       writes-short t lanes other list m ∙ sym (writes-short s lanes first list l))
       (order (tableSize (studyOf s lanes)) (length list))
 
-  pub judges-alike : (zs : List ℕ) → Alike (judgingOf s lanes zs) (judgingOf t lanes zs)
+  pub judges-alike : (zs : List ℕ) → EndsAlike (judgingOf s lanes zs) (judgingOf t lanes zs)
   judges-alike zs = go (eqb (length zs) (tableSize (studyOf s lanes))) refl
     where
-      go : (b : Bool) → eqb (length zs) (tableSize (studyOf s lanes)) ≡ b → Alike (judgingOf s lanes zs) (judgingOf t lanes zs)
+      go : (b : Bool) → eqb (length zs) (tableSize (studyOf s lanes)) ≡ b → EndsAlike (judgingOf s lanes zs) (judgingOf t lanes zs)
       go true e =
           let l : length zs ≡ tableSize (studyOf s lanes) = eqb-true (length zs) (tableSize (studyOf s lanes)) e in
           rw (judges-ends s lanes first zs l, judges-ends t lanes other zs (l ∙ sym (same-table h))) (judge-end h zs)

@@ -4,7 +4,7 @@ use mathlib.Core.List.{List}
 use Prim.Native.Nat.{ℕ}
 use native.Mathlib.Nat.{le-refl}
 use lib.ListN.{length}
-use Rattle.road.specs.Study.{tableSize}
+use Rattle.studies.specs.Study.{tableSize}
 use Rattle.reading.specs.Reading.{studyOf}
 use Rattle.schedules.specs.Demand.{Taken}
 use Rattle.schedules.specs.Schedules.{runningOf, listAfter, judgingOf, stepsMade}

@@ -9,7 +9,7 @@ use Rattle.flow.specs.Flow.{thousandthsOf, demandOf, gateDemandOf, supplyOf, ro
 use Rattle.rows.specs.Sum.{sumOf}
 use Rattle.rows.specs.Rows.{fillOf, listOf}
 use Rattle.rows.specs.Tables.{rowAt}
-use Rattle.road.specs.Study.{roadAt}
+use Rattle.studies.specs.Study.{roadAt}
 use Rattle.fields.specs.Fields.{numberOf, secondsSize}
 use Rattle.limits.specs.Limits.{placeOk, rowOk}
 use Rattle.model.specs.Places.{capacityAt, demandAt, mostReleaseAt, shareAt, cumulativeAt}

@@ -10,9 +10,9 @@ use Rattle.road.specs.declared.Road.{Road}
 use Rattle.road.specs.declared.State.{State}
 use Rattle.road.specs.declared.Ended.{Ended}
 use Rattle.road.specs.Road.{emptyRoad, emptyState}
-use Rattle.road.specs.Refusals.{refusalNumber}
-use Rattle.road.specs.Study.{Study, roadAt, places, tableSize}
-use Rattle.model.specs.Step.{Fault, releasesOf, tableFault}
+use Rattle.road.specs.Refusals.{refusalNumber, FaultAnswer}
+use Rattle.studies.specs.Study.{Study, roadAt, places, tableSize}
+use Rattle.model.specs.Step.{releasesOf, tableFault}
 use Rattle.model.specs.Verdict.{verdictOf}
 use Rattle.model.specs.Runs.{scheduleAfter, engineAfter, outflowsAt}
 use Rattle.reading.specs.Reading.{ReadAnswer, refusedOf, readingOf, studyOf}
@@ -26,15 +26,15 @@ abbrev pub scheduledAt : Study → List ℕ → ℕ → State
 scheduledAt a zs k = scheduleAfter a (proposedAt a zs) k
 
 -- what running says of step k: 9 or 10
-abbrev pub runSays : Study → ℕ → Fault
+abbrev pub runSays : Study → ℕ → FaultAnswer
 runSays a k = releasesOf (roadAt a k) (engineAfter a k) (a .rows k)
 
 -- what judging says of step k: 9 or 10 as in stepping, then 13 before 14
-abbrev pub judgeSays : Study → List ℕ → ℕ → Fault
+abbrev pub judgeSays : Study → List ℕ → ℕ → FaultAnswer
 judgeSays a zs k = verdictOf (roadAt a k) (scheduledAt a zs k) (a .rows k) (proposedAt a zs k)
 
 -- the first of T steps that has a fault, T where none has
-abbrev pub firstStep : (ℕ → Fault) → ℕ → ℕ
+abbrev pub firstStep : (ℕ → FaultAnswer) → ℕ → ℕ
 firstStep says T = firstFault (λ k. says k .number) T
 
 -- what running and judging answer: the refusal's number or 0, step, place, road and state
@@ -53,7 +53,7 @@ abbrev pub endAnswer : Ended → EndAnswer
 endAnswer e = ended (refusalNumber (e .refusal)) (e .step) (e .place) (e .road) (e .state)
 
 -- a fault comes with its step, its place and the state before; otherwise the final state
-unfoldable pub endOf : Study → (ℕ → Fault) → (ℕ → State) → EndAnswer
+unfoldable pub endOf : Study → (ℕ → FaultAnswer) → (ℕ → State) → EndAnswer
 endOf a says after =
     let k = firstStep says (a .steps) in
     cond (eqb k (a .steps))
@@ -72,7 +72,7 @@ abbrev pub judgeEnd : Study → List ℕ → EndAnswer
 judgeEnd a zs = endOf a (judgeSays a zs) (scheduledAt a zs)
 
 -- 17 and then 18, of the study's table of lanes
-abbrev pub lanesFault : Study → Fault
+abbrev pub lanesFault : Study → FaultAnswer
 lanesFault a = tableFault (a .lanes) (a .road .n) (a .steps)
 
 -- a record is opened with a table of lanes: the refusals of reading, then 17 and 18; otherwise what reading gives

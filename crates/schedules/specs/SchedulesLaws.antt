@@ -8,11 +8,10 @@ use native.Mathlib.Omega.{arith}
 use lib.Dec.{eqb}
 use borrow.Author.Tests.{eqb-true, eqb-false, eq-eqb, ne-eqb}
 use Rattle.numbers.specs.First.{oneOf}
-use Rattle.numbers.specs.FirstLaws.{fault-within, fault-before, fault-there, fault-at, fault-none, fault-far}
+use Rattle.numbers.specs.FirstLaws.{Faultless, fault-within, fault-before, fault-there, fault-none, faultless-stop, faultless-end, faultless-far}
 use Rattle.road.specs.declared.State.{State}
-use Rattle.road.specs.Refusals.{began}
-use Rattle.road.specs.Study.{Study, roadAt}
-use Rattle.model.specs.Step.{Fault}
+use Rattle.road.specs.Refusals.{began, FaultAnswer}
+use Rattle.studies.specs.Study.{Study, roadAt}
 use Rattle.model.specs.Runs.{engineAfter, Fitting, Obeying}
 use Rattle.model.specs.RunsLaws.{StudyOk, Reached, reached, engine-reached}
 use Rattle.model.specs.StepLaws.{number-of, releases-fit, releases-class}
@@ -20,7 +19,7 @@ use Rattle.model.specs.VerdictLaws.{verdict-obeys, obeys-verdict, verdict-class
 use Rattle.schedules.specs.Schedules.{proposedAt, scheduledAt, runSays, judgeSays, firstStep, EndAnswer, ended, endOf, runEnd, judgeEnd, stepsMade}
 
 -- the first step with a fault
-module _ (says : ℕ → Fault) (T : ℕ) where
+module _ (says : ℕ → FaultAnswer) (T : ℕ) where
   pub step-within : firstStep says T ≤ T
   step-within = fault-within (λ k. says k .number) T
 
@@ -30,17 +29,11 @@ module _ (says : ℕ → Fault) (T : ℕ) where
   step-there : firstStep says T < T → says (firstStep says T) .number ≡ 0 → ⊥
   step-there = fault-there (λ k. says k .number) T
 
-  pub step-at : (k : ℕ) → k < T → ((j : ℕ) → j < k → says j .number ≡ 0) → (says k .number ≡ 0 → ⊥) → firstStep says T ≡ k
-  step-at = fault-at (λ k. says k .number) T
-
   pub step-none : ((j : ℕ) → j < T → says j .number ≡ 0) → firstStep says T ≡ T
   step-none = fault-none (λ k. says k .number) T
 
-  pub step-far : (k : ℕ) → k ≤ T → ((j : ℕ) → j < k → says j .number ≡ 0) → k ≤ firstStep says T
-  step-far = fault-far (λ k. says k .number) T
-
 -- the end
-module _ (a : Study) (says : ℕ → Fault) (after : ℕ → State) where
+module _ (a : Study) (says : ℕ → FaultAnswer) (after : ℕ → State) where
   abbrev K : ℕ
   K = firstStep says (a .steps)
 
@@ -53,18 +46,17 @@ module _ (a : Study) (says : ℕ → Fault) (after : ℕ → State) where
   end-fault l = rw (ne-eqb K (a .steps) (λ e. omega arith)) refl
 
   -- as a loop over the steps finds it
-  pub ends-all : (k : ℕ) (u : State) → k ≡ a .steps → ((j : ℕ) → j < k → says j .number ≡ 0) → u ≡ after k
-      → ended 0 0 0 (a .road) u ≡ endOf a says after
-  ends-all k u e h eu =
-      let g : (j : ℕ) → j < a .steps → says j .number ≡ 0 = λ j m. h j (omega arith) in
-      ap (ended 0 0 0 (a .road)) (eu ∙ ap after e) ∙ sym (end-all (step-none says (a .steps) g))
+  module _ {k : ℕ} {u : State} (h : Faultless (λ j. says j .number) (a .steps) k) (eu : u ≡ after k) where
+    pub ends-all : a .steps ≤ k → ended 0 0 0 (a .road) u ≡ endOf a says after
+    ends-all l =
+        let e : k ≡ a .steps = omega (arith, h .within) in
+        ap (ended 0 0 0 (a .road)) (eu ∙ ap after e) ∙ sym (end-all (sym (faultless-end h l) ∙ e))
 
-  pub ends-at : (k : ℕ) (q : Fault) (u : State) → k < a .steps → ((j : ℕ) → j < k → says j .number ≡ 0) → q ≡ says k → (q .number ≡ 0 → ⊥)
-      → u ≡ after k → ended (q .number) k (q .place) (a .road) u ≡ endOf a says after
-  ends-at k q u l h e n eu =
-      let f : firstStep says (a .steps) ≡ k = step-at says (a .steps) k l h (λ z. n (number-of e ∙ z)) in
-      let g : endOf a says after ≡ ended (says k .number) k (says k .place) (a .road) (after k) = rw f at (end-fault (omega arith)) in
-      rw (e, eu) (sym g)
+    pub ends-at : {q : FaultAnswer} → k < a .steps → q ≡ says k → (q .number ≡ 0 → ⊥) → ended (q .number) k (q .place) (a .road) u ≡ endOf a says after
+    ends-at l e n =
+        let f : k ≡ firstStep says (a .steps) = faultless-stop h l (number-of e) n in
+        let g : endOf a says after ≡ ended (says k .number) k (says k .place) (a .road) (after k) = rw (← f) at (end-fault (omega arith)) in
+        rw (e, eu) (sym g)
 
   -- it ends after all steps, or at the first fault
   ends : (P : EndAnswer → Type 0) → (K ≡ a .steps → P (ended 0 0 0 (a .road) (after (a .steps))))
@@ -95,17 +87,20 @@ module _ (a : Study) (says : ℕ → Fault) (after : ℕ → State) where
   unfolding began oneOf
   end-began h = ends (λ (e : EndAnswer). began (e .number) ≡ true) (λ q. refl) (λ l. h K)
 
--- the same faults and states give the same end
-pub end-same : (a : Study) (says tells : ℕ → Fault) (after then : ℕ → State) → ((k : ℕ) → k < a .steps → says k ≡ tells k)
-    → ((k : ℕ) → k ≤ a .steps → after k ≡ then k) → endOf a says after ≡ endOf a tells then
+-- the same faults and states, up to the first fault, give the same end
+pub end-same : (a : Study) (says tells : ℕ → FaultAnswer) (after then : ℕ → State)
+    → ((k : ℕ) → k ≤ firstStep says (a .steps) → k < a .steps → says k ≡ tells k)
+    → ((k : ℕ) → k ≤ firstStep says (a .steps) → k ≤ a .steps → after k ≡ then k) → endOf a says after ≡ endOf a tells then
 end-same a says tells after then hs ha =
     let T = a .steps in
-    let before : (j : ℕ) → j < firstStep says T → tells j .number ≡ 0 =
-    λ j m. sym (number-of (hs j (omega (arith, step-within says T)))) ∙ step-before says T j m in
+    let K = firstStep says T in
+    let h : Faultless (λ j. tells j .number) T K = record {
+      within = step-within says T;
+      before = λ j m. sym (number-of (hs j (omega arith) (omega (arith, step-within says T)))) ∙ step-before says T j m;
+    } in
     ends a says after (λ (e : EndAnswer). e ≡ endOf a tells then)
-    (λ q. ends-all a tells then T (after T) refl (λ j m. before j (omega (arith, q))) (ha T (le-refl T)))
-    (λ l. ends-at a tells then (firstStep says T) (says (firstStep says T)) (after (firstStep says T)) l before (hs (firstStep says T) l)
-    (step-there says T l) (ha (firstStep says T) (omega arith)))
+    (λ q. ap (λ (k : ℕ). ended 0 0 0 (a .road) (after k)) (sym q) ∙ ends-all a tells then h (ha K (le-refl K) (h .within)) (omega (arith, q)))
+    (λ l. ends-at a tells then h (ha K (le-refl K) (h .within)) l (hs K (le-refl K) l) (step-there says T l))
 
 -- running and judging begin where they go step by step
 pub run-began : (a : Study) → began (runEnd a .number) ≡ true
@@ -131,8 +126,10 @@ module _ (a : Study) (ok : StudyOk a) where
 
   -- a schedule that obeys the rules in its first k steps has no fault in them
   pub obeys-faults : (zs : List ℕ) (k : ℕ) → k ≤ a .steps → Obeying a (proposedAt a zs) k → k ≤ firstStep (judgeSays a zs) (a .steps)
-  obeys-faults zs k l h = step-far (judgeSays a zs) (a .steps) k l
-      (λ j m. number-of (obeys-verdict (roadAt a j) (scheduledAt a zs j) (a .rows j) (proposedAt a zs j) (h j m)))
+  obeys-faults zs k l h = faultless-far (record {
+    within = l;
+    before = λ j m. number-of (obeys-verdict (roadAt a j) (scheduledAt a zs j) (a .rows j) (proposedAt a zs j) (h j m));
+  })
 
   -- and the other way round
   pub faults-obeys : (zs : List ℕ) → Obeying a (proposedAt a zs) (firstStep (judgeSays a zs) (a .steps))

@@ -2,27 +2,26 @@
 -- all T rows, or with the same 9 or 10 at the same step and cell. Assumes nothing.
 use mathlib.Core.Path.{_≡_, refl, sym, ap, _∙_}
 use mathlib.Core.Bool.{Bool, true, false}
-use mathlib.Core.Logic.{⊎-elim}
 use mathlib.Core.List.{List}
 use Prim.Native.Nat.{ℕ, zero, suc, _≤_, _<_}
-use native.Mathlib.Nat.{le-refl}
 use native.Mathlib.Omega.{arith}
 use lib.Dec.{eqb}
 use lib.ListN.{length}
-use borrow.Author.Tests.{eqb-true, eqb-false}
+use borrow.Author.Tests.{eqb-true, eqb-false, ne-eqb}
 use Rattle.numbers.specs.Lists.{at}
-use Rattle.numbers.specs.Tests.{order}
+use Rattle.numbers.specs.Tests.{unless-elim}
 use Rattle.numbers.specs.First.{firstOf}
-use Rattle.numbers.specs.FirstLaws.{first-none, all-at, fault-there}
+use Rattle.numbers.specs.FirstLaws.{first-none, all-at}
 use Rattle.lanes.specs.Lanes.{lanesAt, builtIn, openIn, tableAt}
 use Rattle.lanes.specs.LanesLaws.{lanes-all}
 use Rattle.road.specs.declared.Road.{Road}
 use Rattle.road.specs.declared.State.{State}
 use Rattle.road.specs.Road.{mostSteps}
-use Rattle.road.specs.Study.{Study, openRoad, roadAt, tableSize}
+use Rattle.road.specs.Refusals.{FaultAnswer, fault}
+use Rattle.studies.specs.Study.{Study, openRoad, roadAt, tableSize}
 use Rattle.limits.specs.LimitsLaws.{input-ok}
-use Rattle.model.specs.Step.{Fault, fault, Answer, answer, stepOn, steppingOf, releasesOf}
-use Rattle.model.specs.StepLaws.{TableOk, releases-fit, on-refused, on-next, stepping-on}
+use Rattle.model.specs.Step.{Answer, answer, stepOn, steppingOf, releasesOf}
+use Rattle.model.specs.StepLaws.{TableOk, releases-fit, on-next, stepping-on}
 use Rattle.model.specs.Opened.{opened-all, same-road, other-road}
 use Rattle.model.specs.Unread.{SameTo, fault-unread as unread, road-unread}
 use Rattle.model.specs.Runs.{engineAfter, outflowsAt}
@@ -30,7 +29,7 @@ use Rattle.model.specs.Move.{nextOf}
 use Rattle.model.specs.RunsLaws.{StudyOk, Reached}
 use Rattle.reading.specs.Reading.{readingOf, studyOf}
 use Rattle.schedules.specs.Schedules.{proposedAt, scheduledAt, runSays, firstStep, EndAnswer, endOf, runEnd, runningOf, stepsMade, tableOf, listAfter}
-use Rattle.schedules.specs.SchedulesLaws.{step-within, step-before, end-all, end-fault, end-made, ends-all, ends-at, run-reached}
+use Rattle.schedules.specs.SchedulesLaws.{step-within, step-before, end-made, end-same, run-reached}
 use Rattle.schedules.specs.TableLaws.{table-row}
 use Rattle.schedules.specs.Ends.{runs-long, writes-long}
 use Rattle.schedules.specs.Demand.{Taken}
@@ -97,6 +96,9 @@ module _ {bytes : List ℕ} {a : Study} (h : Readable bytes a) {built : List ℕ
   abbrev K : ℕ
   K = firstStep (runSays a) (a .steps)
 
+  abbrev says : ℕ → FaultAnswer
+  says k = fault (steppedIn a built usable k .number) (steppedIn a built usable k .place)
+
   reached : (k : ℕ) → k ≤ K → Reached a (engineAfter a k) k
   reached k l = run-reached a (h .ok) k (omega (arith, step-within (runSays a) (a .steps))) (λ j m. step-before (runSays a) (a .steps) j (omega arith))
 
@@ -113,8 +115,10 @@ module _ {bytes : List ℕ} {a : Study} (h : Readable bytes a) {built : List ℕ
         same-step
         ∙ on-next (roadAt a k) (engineAfter a k) (a .rows k) (left k l m) (releases-fit (roadAt a k) (engineAfter a k) (a .rows k) z)
 
-    refused : (runSays a k .number ≡ 0 → ⊥) → steppedIn a built usable k ≡ answer (runSays a k) (engineAfter a k)
-    refused n = same-step ∙ on-refused (roadAt a k) (engineAfter a k) (a .rows k) (left k l m) n
+    same-fault : runSays a k ≡ says k
+    same-fault =
+        rw (same-step, ne-eqb (engineAfter a k .done) mostSteps (left k l m))
+        (unless-elim (λ (x : Answer). runSays a k ≡ fault (x .number) (x .place)) (eqb (runSays a k .number) 0) (λ _. refl) (λ _. refl))
 
   -- the states
   pub stepped-runs : (k : ℕ) → k ≤ K → steppedAfter a built usable k ≡ engineAfter a k
@@ -125,33 +129,10 @@ module _ {bytes : List ℕ} {a : Study} (h : Readable bytes a) {built : List ℕ
       ap (λ (x : Answer). x .state) (accepted k (omega arith) m (stepped-runs k (omega arith)) (step-before (runSays a) (a .steps) k l))
 
   -- the end
-  abbrev says : ℕ → Fault
-  says k = fault (steppedIn a built usable k .number) (steppedIn a built usable k .place)
-
   pub steps-end : steppedEnd a built usable ≡ runEnd a
-  steps-end = ⊎-elim all some (order (a .steps) K)
-    where
-      said : {x : Answer} {q : Fault} {u : State} → x ≡ answer q u → q ≡ fault (x .number) (x .place)
-      said e = rw e refl
-
-      before : (j : ℕ) → j < K → says j .number ≡ 0
-      before j l =
-          let m : j < a .steps = omega (arith, step-within (runSays a) (a .steps)) in
-          ap (λ (x : Answer). x .number) (accepted j (omega arith) m (stepped-runs j (omega arith)) (step-before (runSays a) (a .steps) j l))
-
-      all : a .steps ≤ K → steppedEnd a built usable ≡ runEnd a
-      all l =
-          let e : K ≡ a .steps = omega (arith, step-within (runSays a) (a .steps)) in
-          sym (ends-all a says (steppedAfter a built usable) (a .steps) (engineAfter a (a .steps)) refl (λ j m. before j (omega (arith, e)))
-          (sym (stepped-runs (a .steps) l)))
-          ∙ sym (end-all a (runSays a) (engineAfter a) e)
-
-      some : K < a .steps → steppedEnd a built usable ≡ runEnd a
-      some l =
-          let n : runSays a K .number ≡ 0 → ⊥ = fault-there (λ k. runSays a k .number) (a .steps) l in
-          let e = stepped-runs K (le-refl K) in
-          sym (ends-at a says (steppedAfter a built usable) K (runSays a K) (engineAfter a K) l before (said (refused K (le-refl K) l e n)) n (sym e))
-          ∙ sym (end-fault a (runSays a) (engineAfter a) l)
+  steps-end =
+      sym (end-same a (runSays a) says (engineAfter a) (steppedAfter a built usable) (λ k l m. same-fault k l m (stepped-runs k l))
+      (λ k l _. sym (stepped-runs k l)))
 
 -- of a record and a table that are taken, with a list for all T rows
 module _ (bytes lanes list : List ℕ) (taken : Taken bytes lanes) (long : tableSize (studyOf bytes lanes) ≤ length list) (built : List ℕ)

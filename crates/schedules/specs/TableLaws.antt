@@ -9,7 +9,7 @@ use Rattle.rows.specs.Rows.{concatOf}
 use Rattle.rows.specs.Concat.{length-concat}
 use Rattle.rows.specs.Tables.{frontOf}
 use Rattle.rows.specs.TablesLaws.{concat-row, length-front, front-row, front-past, front-rows, front-more, front-none, front-same}
-use Rattle.road.specs.Study.{Study, roadAt, places, tableSize}
+use Rattle.studies.specs.Study.{Study, roadAt, places, tableSize}
 use Rattle.model.specs.Runs.{engineAfter, outflowsAt}
 use Rattle.model.specs.RulesLaws.{length-outflows}
 use Rattle.model.specs.RunsLaws.{StudyOk, Shared, shared-less, outflows-shared}

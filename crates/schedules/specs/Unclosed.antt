@@ -1,15 +1,16 @@
 -- Without closures nothing changes: with the empty table running and judging are those over one road, and so they are with a table that opens all
 -- built lanes in every row. Assumes nothing.
 use mathlib.Core.Path.{_≡_, refl, sym, ap, _∙_}
-use mathlib.Core.Bool.{Bool, true, false}
-use mathlib.Core.List.{List, [], _++_}
-use Prim.Native.Nat.{ℕ, zero, suc, _+_, _*_, _≤_, _<_}
+use mathlib.Core.List.{List, []}
+use Prim.Native.Nat.{ℕ, zero, suc, _+_, _≤_, _<_}
 use native.Mathlib.Nat.{mul-le-mul}
 use native.Mathlib.Omega.{arith}
 use lib.Dec.{leb, eqb}
 use lib.ListN.{length}
+use Rattle.road.specs.Refusals.{fault, FaultAnswer}
 use Rattle.numbers.specs.Lists.{at}
 use Rattle.numbers.specs.First.{unless}
+use Rattle.numbers.specs.Tests.{unless-elim}
 use Rattle.numbers.specs.FirstLaws.{first-none, all-true}
 use Rattle.rows.specs.Tables.{frontOf}
 use Rattle.rows.specs.TablesLaws.{front-same}
@@ -17,11 +18,11 @@ use Rattle.lanes.specs.Lanes.{lanesAt, builtIn, openIn, tableAt, tableBytes}
 use Rattle.lanes.specs.LanesLaws.{lanes-all}
 use Rattle.road.specs.declared.Road.{Road}
 use Rattle.road.specs.declared.State.{State}
-use Rattle.road.specs.Study.{Study, roadAt, places, tableSize}
+use Rattle.studies.specs.Study.{Study, roadAt, places, tableSize}
 use Rattle.limits.specs.LimitsLaws.{RoadOk}
 use Rattle.model.specs.Move.{nextOf}
 use Rattle.model.specs.Rules.{outflowsOf}
-use Rattle.model.specs.Step.{Fault, fault, releasesOf, tableFault}
+use Rattle.model.specs.Step.{releasesOf, tableFault}
 use Rattle.model.specs.StepLaws.{number-of, table-passes}
 use Rattle.model.specs.Verdict.{verdictOf}
 use Rattle.model.specs.Runs.{scheduleAfter, engineAfter, outflowsAt}
@@ -87,12 +88,13 @@ module _ (a : Study) (one : (k : ℕ) → k < a .steps → roadAt a k ≡ a .roa
 
   run-plain : runEnd a ≡ plainRun a
   run-plain =
-      end-same a _ _ (engineAfter a) (plainAfter (a .road) (a .start) (a .rows)) (λ k l. rw (one k l, after-plain k (omega arith)) refl) after-plain
+      end-same a _ _ (engineAfter a) (plainAfter (a .road) (a .start) (a .rows)) (λ k _ l. rw (one k l, after-plain k (omega arith)) refl)
+      (λ k _. after-plain k)
 
   judge-plain : (zs : List ℕ) → judgeEnd a zs ≡ plainJudge a zs
   judge-plain zs =
       end-same a _ _ (scheduledAt a zs) (plainScheduled (a .road) (a .start) (a .rows) (proposedAt a zs))
-      (λ k l. rw (one k l, scheduled-plain (proposedAt a zs) k (omega arith)) refl) (scheduled-plain (proposedAt a zs))
+      (λ k _ l. rw (one k l, scheduled-plain (proposedAt a zs) k (omega arith)) refl) (λ k _. scheduled-plain (proposedAt a zs) k)
 
   table-plain : (list : List ℕ) (k : ℕ) → k ≤ a .steps → tableOf a list k ≡ frontOf (plainOutflows a) (places a) list k
   table-plain list k l =
@@ -112,19 +114,17 @@ module _ (bytes : List ℕ) where
   empty-judges zs = rw (opening-empty bytes, judge-plain (studyOf bytes []) empty-one zs) refl
 
   -- no more steps than T are made
+  abbrev Within : EndAnswer → Type 0
+  Within x = stepsMade (studyOf bytes []) x ≤ studyOf bytes [] .steps
+
   made : (list : List ℕ) → stepsMade (studyOf bytes []) (plainRunning bytes list) ≤ studyOf bytes [] .steps
   unfolding plainRunning
-  made list = go (eqb (readingOf bytes .number) 0) (leb (tableSize (studyOf bytes [])) (length list)) refl
-    where
-      go : (b c : Bool) → eqb (readingOf bytes .number) 0 ≡ b
-          → stepsMade (studyOf bytes []) (unless b (noState (readingOf bytes .number) (readingOf bytes .place)) (unless c (noState 11 0) (plainRun (studyOf bytes []))))
-          ≤ studyOf bytes [] .steps
-      go true true e =
-          let a = studyOf bytes [] in
-          let says : ℕ → Fault = λ k. releasesOf (a .road) (plainAfter (a .road) (a .start) (a .rows) k) (a .rows k) in
-          omega (arith, end-made a says (plainAfter (a .road) (a .start) (a .rows)), step-within says (a .steps))
-      go true false e = omega arith
-      go false c e = rw e (omega arith)
+  made list =
+      unless-elim Within (eqb (readingOf bytes .number) 0) (λ e. rw e (omega arith)) (λ _.
+      unless-elim Within (leb (tableSize (studyOf bytes [])) (length list)) (λ _. omega arith) (λ _.
+      let a = studyOf bytes [] in
+      let says : ℕ → FaultAnswer = λ k. releasesOf (a .road) (plainAfter (a .road) (a .start) (a .rows) k) (a .rows k) in
+      omega (arith, end-made a says (plainAfter (a .road) (a .start) (a .rows)), step-within says (a .steps))))
 
   pub empty-writes : (list : List ℕ) → listAfter bytes [] list ≡ plainList bytes list
   unfolding listAfter plainList

@@ -1,7 +1,7 @@
 -- docs/MODEL.md, 'Weights': the weighted total of a run and of a schedule. Assumes nothing.
 use mathlib.Core.List.{List}
 use Prim.Native.Nat.{ℕ}
-use Rattle.road.specs.Study.{Study}
+use Rattle.studies.specs.Study.{Study}
 use Rattle.model.specs.Runs.{engineAfter}
 use Rattle.model.specs.Weights.{weightedTotal}
 use Rattle.reading.specs.Reading.{studyOf}

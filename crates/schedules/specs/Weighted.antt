@@ -8,7 +8,7 @@ use native.Mathlib.Omega.{arith}
 use lib.ListN.{length}
 use borrow.Author.Tests.{ne-eqb}
 use Rattle.numbers.specs.Tests.{order}
-use Rattle.road.specs.Study.{Study, tableSize}
+use Rattle.studies.specs.Study.{Study, tableSize}
 use Rattle.model.specs.Runs.{scheduleAfter, engineAfter, Fitting}
 use Rattle.model.specs.RunsLaws.{StudyOk, rivals-self, run-weighted}
 use Rattle.model.specs.Weights.{weightedTotal, Falling}

@@ -8,7 +8,7 @@ use Rattle.rows.specs.Rows.{listOf}
 use Rattle.rows.specs.RowsLaws.{sum-list-same}
 use Rattle.road.specs.declared.State.{State}
 use Rattle.road.specs.Road.{totalOf}
-use Rattle.road.specs.Study.{Study}
+use Rattle.studies.specs.Study.{Study}
 use Rattle.model.specs.Move.{heldSum, queueSum, presentOf}
 use Rattle.model.specs.Rules.{Sized}
 use Rattle.model.specs.RunsLaws.{schedule-sized}

@@ -18,7 +18,7 @@ use Rattle.road.specs.declared.State.{State}
 use Rattle.road.specs.Road.{emptyState, totalOf}
 use Rattle.road.specs.RoadLaws.{zeros-at}
 use Rattle.road.specs.Refusals.{began}
-use Rattle.road.specs.Study.{Study, tableSize}
+use Rattle.studies.specs.Study.{Study, tableSize}
 use Rattle.model.specs.Runs.{scheduleAfter, engineAfter, outflowsAt}
 use Rattle.model.specs.RunsLaws.{StudyOk}
 use Rattle.reading.specs.Reading.{readingOf, studyOf}

@@ -1,3 +1,3 @@
-pub mod Answers
+pub mod StepAnswers
 pub mod Looked
 pub mod Nexts

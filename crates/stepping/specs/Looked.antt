@@ -9,9 +9,9 @@ use lib.ListN.{length}
 use Rattle.road.specs.declared.Road.{Road}
 use Rattle.road.specs.declared.State.{State}
 use Rattle.numbers.specs.Lists.{at}
-use Rattle.road.specs.Refusals.{refusalNumber}
+use Rattle.road.specs.Refusals.{refusalNumber, FaultAnswer, fault, faultAnswer}
 use Rattle.road.specs.Road.{mostCells, mostSteps}
-use Rattle.road.specs.Study.{withCapacity}
+use Rattle.studies.specs.Study.{withCapacity}
 use Rattle.numbers.specs.First.{firstOf}
 use Rattle.numbers.specs.FirstLaws.{first, all-at}
 use Rattle.lanes.specs.Lanes.{openCapacities, lanesAt}
@@ -20,15 +20,13 @@ use Rattle.limits.specs.Limits.{inputOk}
 use Rattle.limits.specs.LimitsLaws.{InputOk, input-facts}
 use Rattle.model.specs.Move.{nextOf}
 use Rattle.model.specs.Rules.{Released, outflowsOf, Sized}
-use Rattle.model.specs.Step.{Answer, fault, releasesOf, answer, stepOn, steppingOf}
+use Rattle.model.specs.Step.{Answer, releasesOf, answer, stepOn, steppingOf}
 use Rattle.model.specs.RulesLaws.{length-outflows, outflows-obey}
 use Rattle.model.specs.StepLaws.{releases-fit, on-done, on-refused, on-next, stepping-input, stepping-lanes, stepping-on}
 use Rattle.model.specs.Roads.{step-state, step-row}
 use Rattle.model.specs.Opened.{opened}
 use Rattle.moves.specs.Asked.{Movable, Steppable}
-use Rattle.releases.specs.declared.Fault.{Fault}
-use Rattle.releases.specs.Faults.{faultOf}
-use Rattle.model.specs.Step as model
+use Rattle.road.specs.declared.Fault.{Fault}
 
 -- the engine's row may be moved by, and the state after it is the next
 module _ {r : Road} {s : State} {row y : List ℕ} (ok : Steppable r s row) (e : y ≡ outflowsOf r s row) where
@@ -52,7 +50,7 @@ pub record Stepping (r : Road) (s : State) (row : List ℕ) : Type 0 where
 pub record Looked (r : Road) (s : State) (row : List ℕ) (q : Fault) (m : ℕ) : Type 0 where
   pub input : Stepping r s row
   pub left : s .done ≡ mostSteps → ⊥
-  pub found : faultOf q ≡ releasesOf r s row
+  pub found : faultAnswer q ≡ releasesOf r s row
   pub number : m ≡ refusalNumber (q .refusal)
 
 -- the answers of a step on its road
@@ -62,11 +60,11 @@ module _ {r : Road} {s : State} {row : List ℕ} where
 
   module _ {q : Fault} {m : ℕ} (k : Looked r s row q m) where
     number-found : m ≡ releasesOf r s row .number
-    number-found = k .number ∙ ap (λ (x : model.Fault). x .number) (k .found)
+    number-found = k .number ∙ ap (λ (x : FaultAnswer). x .number) (k .found)
 
-    pub answer-fault : (m ≡ 0 → ⊥) → answer (faultOf q) s ≡ stepOn r s row
+    pub answer-fault : (m ≡ 0 → ⊥) → answer (faultAnswer q) s ≡ stepOn r s row
     answer-fault n =
-        ap (λ (x : model.Fault). answer x s) (k .found) ∙ sym (on-refused r s row (k .left) (λ z. n (number-found ∙ z)))
+        ap (λ (x : FaultAnswer). answer x s) (k .found) ∙ sym (on-refused r s row (k .left) (λ z. n (number-found ∙ z)))
 
     fits : m ≡ 0 → Released r s row
     fits z = releases-fit r s row (sym number-found ∙ z)

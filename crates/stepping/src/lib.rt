@@ -9,16 +9,17 @@ use road::Stepped;
 ghost use mathlib.Core.Path.{_≡_};
 ghost use Prim.Native.Nat.{_+_, _<_};
 ghost use lib.ListN.{length};
+ghost use Rattle.road.specs.Road.{mostSteps};
 ghost use Rattle.model.specs.Move.{nextOf};
 ghost use Rattle.model.specs.Rules.{outflowsOf};
 ghost use Rattle.model.specs.Step.{stepOn, steppingOf};
 ghost use Rattle.moves.specs.Asked.{Movable, Steppable};
-ghost use Rattle.stepping.specs.Answers.{stepAnswer};
+ghost use Rattle.stepping.specs.StepAnswers.{stepAnswer};
 ghost use Rattle.stepping.specs.Looked.{Stepping};
 
 // The state after a step by a row of outflows that obeys the rules.
 pub fn next_by(r: Road, s: State, row: &[u32], y: &[u32]) -> State
-    requires { ⌜ (Movable r s (now row) (now y)) × (s .done < 1440) ⌝ }
+    requires { ⌜ (Movable r s (now row) (now y)) × (s .done < mostSteps) ⌝ }
     ensures { λ t. ⌜ t ≡ nextOf r s (now (row .entry)) (now (y .entry)) ⌝ }
 {
     let mut held = s.held;

@@ -4,7 +4,7 @@ use mathlib.Core.List.{[], _∷_}
 use Rattle.numbers.specs.First.{firstOf, firstFrom}
 use Rattle.rows.specs.Sum.{sumOf}
 use Rattle.rows.specs.Rows.{listOf}
-use Rattle.limits.specs.Within.{allWithin}
+use Rattle.limits.specs.AllWithin.{allWithin}
 use Rattle.street.specs.Street.{askedOk, restBefore, grantsOf, grantingOf, grantsAfter}
 
 -- of a limit of 10, wishes 7, 1 and 9 first get 2, 1 and 1; of the 6 that remain the first ramp takes 5, the third 1

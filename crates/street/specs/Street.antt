@@ -10,7 +10,7 @@ use Rattle.rows.specs.Rows.{listOf}
 use Rattle.numbers.specs.Lists.{at}
 use Rattle.road.specs.Road.{mostRate, mostRamps}
 use Rattle.numbers.specs.First.{unless}
-use Rattle.limits.specs.Within.{allWithin}
+use Rattle.limits.specs.AllWithin.{allWithin}
 
 -- the limits of refusal 24, as facts
 pub record Asked (limit : ℕ) (guarantees wishes : List ℕ) : Type 0 where

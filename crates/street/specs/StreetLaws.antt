@@ -17,7 +17,7 @@ use Rattle.rows.specs.RowsLaws.{length-list, list-at, sum-list-none, sum-list-m
 use Rattle.numbers.specs.Lists.{at}
 use Rattle.road.specs.Road.{mostRate, mostRamps}
 use Rattle.numbers.specs.Tests.{and-true, both-true, le-head, eq-head, le-then, eq-then}
-use Rattle.limits.specs.Within.{allWithin, within-at, within-true}
+use Rattle.limits.specs.AllWithin.{allWithin, within-at, within-true}
 use Rattle.street.specs.Street.{Asked, frameOk, askedOk, sureOf, restBefore, grantAt, grantsOf, grantingOf, grantsAfter}
 
 module _ (limit : ℕ) (guarantees wishes : List ℕ) where

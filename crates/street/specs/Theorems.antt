@@ -10,6 +10,7 @@ use lib.ListN.{length, take}
 use lib.Seq.{ext-getD, take-all}
 use Rattle.numbers.specs.Lists.{at}
 use Rattle.numbers.specs.First.{unless}
+use Rattle.numbers.specs.Tests.{never}
 use Rattle.rows.specs.Sum.{sumOf}
 use Rattle.rows.specs.SumLaws.{sum-start, sum-more}
 use Rattle.street.specs.Street.{Asked, askedOk, grantsOf, grantingOf, grantsAfter}
@@ -95,9 +96,6 @@ pub data Ends (limit : ℕ) (guarantees wishes grants : List ℕ) : ℕ → List
   refused : (Asked limit guarantees wishes → length grants ≡ length guarantees → ⊥) → Ends limit guarantees wishes grants 24 grants
   granted : Asked limit guarantees wishes → length grants ≡ length guarantees → {filled : List ℕ} → Fair limit guarantees wishes filled
       → Ends limit guarantees wishes grants 0 filled
-
-never : {b : Bool} → b ≡ true → b ≡ false → ⊥
-never h k = let z : _≡_ {A = ℕ} 0 1 = cc in omega arith
 
 -- 4: every answer is one of them
 module _ (limit : ℕ) (guarantees wishes grants : List ℕ) where

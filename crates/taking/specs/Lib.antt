@@ -1,3 +1,3 @@
 pub mod Taking
 pub mod TakingLaws
-pub mod Again
+pub mod TakenRows

@@ -7,7 +7,7 @@ use lib.ListN.{length, take}
 use Rattle.rows.specs.Tables.{frontOf}
 use Rattle.road.specs.Road.{mostCells, mostSteps}
 use Rattle.fields.specs.Fields.{rowNumbers}
-use Rattle.rowing.specs.Rowing.{rowArray}
+use Rattle.picking.specs.Picking.{rowArray}
 
 -- the 1 + 2n numbers of step t's row, of any bytes
 abbrev pub takenRow : List ℕ → ℕ → ℕ → List ℕ

@@ -1,23 +1,23 @@
 -- Laws of a record's rows in one list: when there is room for them, and the two loops that put them there. Assumes nothing.
 use mathlib.Core.Path.{_≡_, refl, sym, ap, _∙_}
-use mathlib.Core.Bool.{Bool, true, false, cond, _&&_}
+use mathlib.Core.Bool.{true, false}
 use mathlib.Core.List.{List, _++_}
 use Prim.Native.Nat.{ℕ, _+_, _-_, _*_, _≤_, _<_}
 use native.Mathlib.Nat.{mul-le-mul, mul-le-mul-right}
 use native.Mathlib.Omega.{arith}
 use borrow.Author.Tests.{leb-true, le-leb, lt-leb}
-use lib.Dec.{leb}
 use lib.ListN.{length, take, drop, set}
 use lib.Seq.{length-take-le, getD-take, ext-getD}
 use Rattle.numbers.specs.Lists.{at}
+use Rattle.numbers.specs.Tests.{unless-elim, le-head}
 use Rattle.rows.specs.Rows.{fillOf, concatOf}
 use Rattle.rows.specs.RowsLaws.{fill-more, fill-at, length-fill}
 use Rattle.rows.specs.Tables.{rowAt, frontOf}
 use Rattle.rows.specs.TablesLaws.{row-ends, mul-more, part-length, length-front, front-row, front-past, front-rows, front-more, front-none}
 use Rattle.road.specs.Road.{mostCells, mostSteps}
 use Rattle.fields.specs.Fields.{rowNumbers}
-use Rattle.rowing.specs.Rowing.{rowArray}
-use Rattle.rowing.specs.RowingLaws.{length-array}
+use Rattle.picking.specs.Picking.{rowArray}
+use Rattle.picking.specs.PickingLaws.{length-array}
 use Rattle.taking.specs.Taking.{takenRow, roomy, takenCount, takenList}
 
 -- there is room for the rows
@@ -54,13 +54,9 @@ module _ (n T room : ℕ) where
   -- as many numbers of the list may be lent
   pub count-within : takenCount n T room ≤ room
   unfolding takenCount
-  count-within = go (leb n mostCells) (leb T mostSteps) (leb (T * rowNumbers n) room) refl
-    where
-      go : (b c d : Bool) → leb (T * rowNumbers n) room ≡ d → cond (b && (c && d)) (T * rowNumbers n) 0 ≤ room
-      go true true true e = leb-true (T * rowNumbers n) room e
-      go true true false e = omega arith
-      go true false d e = omega arith
-      go false c d e = omega arith
+  count-within =
+      unless-elim (λ (m : ℕ). m ≤ room) (roomy n T room) (λ _. omega arith) (λ e.
+      leb-true (T * rowNumbers n) room (le-head T mostSteps _ (le-head n mostCells _ e .1) .1))
 
 -- without room nothing is taken, and the list is as lent
 pub untaken : (bytes : List ℕ) (n T : ℕ) (list : List ℕ) → roomy n T (length list) ≡ false
@@ -101,20 +97,20 @@ module _ (bytes : List ℕ) (n T : ℕ) (list : List ℕ) (r : Roomy n T (length
       ∙ front-rows (takenRow bytes n) (rowNumbers n) size list T
 
 -- the loop over a row's numbers: the first k stand in the part
-pub record Copied (row start part : List ℕ) (k : ℕ) : Type 0 where
+pub record CopiedRow (row start part : List ℕ) (k : ℕ) : Type 0 where
   pub within : k ≤ length start
   pub numbers : part ≡ fillOf (at row) k start
 
 module _ {row start : List ℕ} where
-  pub copied-none : Copied row start start 0
+  pub copied-none : CopiedRow row start start 0
   unfolding fillOf
   copied-none = record { within = omega arith; numbers = refl }
 
-  module _ {part : List ℕ} {k : ℕ} (h : Copied row start part k) where
+  module _ {part : List ℕ} {k : ℕ} (h : CopiedRow row start part k) where
     pub copied-length : length part ≡ length start
     copied-length = ap length (h .numbers) ∙ length-fill (at row) k start
 
-    pub copied-more : {x : ℕ} → k < length start → x ≡ at row k → Copied row start (set part k x) (k + 1)
+    pub copied-more : {x : ℕ} → k < length start → x ≡ at row k → CopiedRow row start (set part k x) (k + 1)
     copied-more l e = record { within = omega arith; numbers = cc (fill-more (at row) k start, e, h .numbers) }
 
     pub copied-end : length start ≤ length row → length start ≤ k → part ≡ take (length start) row

@@ -37,7 +37,7 @@ pub fn rows(bytes: &[u8], n: usize, steps: usize, list: &mut [u32]) -> usize
     let mut from = 0;
     let mut t = 0;
     while t < steps {
-        let row = rowing::row(bytes, n, t);
+        let row = picking::row(bytes, n, t);
         let end = from + numbers;
         put_numbers(&mut list[from..end], row);
         from = end;

@@ -1,17 +1,18 @@
 // What judging says of one row, on a road and a state that are lent column by column, so that judging copies neither.
-use releases::Fault;
+use road::Fault;
 use road::Refusal;
 use road::Road;
 ghost use mathlib.Core.Path.{_≡_};
 ghost use mathlib.Core.List.{List};
 ghost use Prim.Native.Nat.{ℕ, _+_, _≤_};
 ghost use lib.ListN.{length};
+ghost use Rattle.road.specs.Road.{mostCells};
 ghost use Rattle.road.specs.declared.Road.{Road};
 ghost use Rattle.model.specs.Verdict.{outflowsFaultOf, verdictOf};
 ghost use Rattle.columns.specs.declared.Ledger.{Ledger};
 ghost use Rattle.columns.specs.Columns.{roadOf, sending, gated, stateOf};
 ghost use Rattle.outflows.specs.Rooms.{Rooms};
-ghost use Rattle.releases.specs.Faults.{faultOf};
+ghost use Rattle.road.specs.Refusals.{faultAnswer};
 ghost use Rattle.verdict.specs.Proposed.{Proposed};
 
 // The lowest place whose outflow does not obey, with its refusal, where `room` has the room of each cell. No cell follows the last
@@ -29,11 +30,11 @@ fn outflows_fault<'a, 'b>(
     room: &[u32; 64],
     y: &[u32],
 ) -> Fault
-    requires { ⌜ (n ≤ 64) × (length (now y) ≡ n + 1) ⌝ }
+    requires { ⌜ (n ≤ mostCells) × (length (now y) ≡ n + 1) ⌝ }
     ensures { λ q. ⌜ ((r : Road) (l : Ledger) (queue row : List ℕ)
         → Rooms (sending r n «gate_capacity» (now (speed .entry)) (now (share .entry)) (now (capacity .entry)))
         (stateOf (gated l «gate_queue» «gate_cumulative») (now (held .entry)) queue (now (cumulative .entry))) row (now (room .entry))
-        → faultOf q ≡ outflowsFaultOf (sending r n «gate_capacity» (now (speed .entry)) (now (share .entry)) (now (capacity .entry)))
+        → faultAnswer q ≡ outflowsFaultOf (sending r n «gate_capacity» (now (speed .entry)) (now (share .entry)) (now (capacity .entry)))
         (stateOf (gated l «gate_queue» «gate_cumulative») (now (held .entry)) queue (now (cumulative .entry))) row (now (y .entry))) ⌝ }
 {
     let mut part = Road::WHOLE;
@@ -85,11 +86,11 @@ pub fn verdict<'a, 'b>(
     room: &mut [u32; 64],
     y: &[u32],
 ) -> Fault
-    requires { ⌜ (Proposed n (now row) (now y)) × (length (now room) ≡ 64) ⌝ }
-    ensures fault { λ q. ⌜ ((r : Road) (l : Ledger) → faultOf q
+    requires { ⌜ (Proposed n (now row) (now y)) × (length (now room) ≡ mostCells) ⌝ }
+    ensures fault { λ q. ⌜ ((r : Road) (l : Ledger) → faultAnswer q
         ≡ verdictOf (roadOf r n «gate_capacity» (now (speed .entry)) (now (wave .entry)) (now (share .entry)) (now (jam .entry)) (now (capacity .entry)))
         (stateOf (gated l «gate_queue» «gate_cumulative») (now (held .entry)) (now (queue .entry)) (now (cumulative .entry))) (now (row .entry)) (now (y .entry))) ⌝ }
-    ensures length { λ q. ⌜ length (now (room .exit)) ≡ 64 ⌝ }
+    ensures length { λ q. ⌜ length (now (room .exit)) ≡ mostCells ⌝ }
 {
     let q = releases::lent::releases(n, wave, jam, capacity, held, queue, row, room);
     let refusal = q.refusal;

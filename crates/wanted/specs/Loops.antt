@@ -7,25 +7,24 @@ use Prim.Native.Nat.{ℕ, zero, suc, _+_, _-_, _*_, _≤_, _<_, max}
 use native.Mathlib.Nat.{eq-or-lt-of-le}
 use native.Mathlib.Numerals.{add-one}
 use native.Mathlib.Omega.{arith}
+use lib.Dec.{leb}
 use lib.ListN.{length, set, length-set}
 use lib.Seq.{ext-getD, getD-set-same, getD-set-other}
-use borrow.Author.Count.{below-more, below-none}
 use borrow.Author.Tests.{le-leb, lt-leb}
 use Rattle.rows.specs.RowsLaws.{length-list, list-at}
 use Rattle.numbers.specs.Lists.{at}
 use Rattle.road.specs.Road.{mostStart, mostRate}
-use Rattle.numbers.specs.FirstLaws.{all-true, all-fails}
-use Rattle.limits.specs.Within.{allWithin}
+use Rattle.numbers.specs.FirstLaws.{Passed, passed-none, passed-more, passed-fails, passed-all}
+use Rattle.limits.specs.AllWithin.{allWithin}
 use Rattle.wanted.specs.Wanted.{Comes, Limits, frameOk, askedOk, lowestQueue, possibleOf, inflowOf, leastAt, releaseOf, tableOf}
 use Rattle.wanted.specs.Wanted.{WantedAnswer, answer, wantedOf, tableAfter}
 use Rattle.wanted.specs.WantedLaws.{inflow-none, inflow-more, inflow-most, least-last, least-more, least-grows}
 
 -- after k steps of releasing as much as each may
 pub record Lowered (start ceiling rate : ℕ) (arrivals : List ℕ) (queue k : ℕ) : Type 0 where
-  pub within : k ≤ length arrivals
   pub lowest : queue ≡ lowestQueue start rate arrivals k
   pub small : queue ≤ mostStart
-  pub before : (j : ℕ) → j < k → lowestQueue start rate arrivals (suc j) ≤ ceiling
+  pub passed : Passed (λ j. leb (lowestQueue start rate arrivals (suc j)) ceiling) (length arrivals) k
 
 -- after k steps of adding up
 pub record Added (start : ℕ) (arrivals : List ℕ) (total k : ℕ) : Type 0 where
@@ -70,7 +69,7 @@ module _ {start : ℕ} {arrivals : List ℕ} where
 module _ {start ceiling rate : ℕ} {arrivals : List ℕ} where
   pub lowered-none : Limits start ceiling rate arrivals → Lowered start ceiling rate arrivals start 0
   unfolding lowestQueue
-  lowered-none h = record { within = omega arith; lowest = refl; small = h .comes .starts; before = below-none _ }
+  lowered-none h = record { lowest = refl; small = h .comes .starts; passed = passed-none }
 
   module _ {queue k next : ℕ} (h : Lowered start ceiling rate arrivals queue k) (l : k < length arrivals) (e : next ≡ queue + at arrivals k - rate) where
     next-lowest : next ≡ lowestQueue start rate arrivals (suc k)
@@ -79,20 +78,18 @@ module _ {start ceiling rate : ℕ} {arrivals : List ℕ} where
 
     pub lowered-more : ceiling ≤ mostStart → next ≤ ceiling → Lowered start ceiling rate arrivals next (k + 1)
     lowered-more m n = record {
-      within = omega arith;
       lowest = rw add-one next-lowest;
       small = omega arith;
-      before = below-more _ _ (h .before) (omega (arith, next-lowest));
+      passed = passed-more (h .passed) l refl (le-leb (lowestQueue start rate arrivals (suc k)) ceiling (omega (arith, next-lowest)));
     }
 
     pub lowered-stop : ceiling < next → false ≡ possibleOf start ceiling rate arrivals
     unfolding possibleOf
-    lowered-stop n = sym (all-fails _ (length arrivals) k l (lt-leb (lowestQueue start rate arrivals (suc k)) ceiling (omega (arith, next-lowest))))
+    lowered-stop n = passed-fails (h .passed) l refl (lt-leb (lowestQueue start rate arrivals (suc k)) ceiling (omega (arith, next-lowest)))
 
   pub lowered-end : {queue k : ℕ} → Lowered start ceiling rate arrivals queue k → length arrivals ≤ k → true ≡ possibleOf start ceiling rate arrivals
   unfolding possibleOf
-  lowered-end h l =
-      sym (all-true _ (length arrivals) (λ j m. le-leb (lowestQueue start rate arrivals (suc j)) ceiling (h .before j (omega arith))))
+  lowered-end h l = passed-all (h .passed) l
 
   -- filling starts at the last step
   pub filled-none : {total after k : ℕ} {table : List ℕ} → Limits start ceiling rate arrivals → length table ≡ length arrivals

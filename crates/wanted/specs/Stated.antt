@@ -5,7 +5,7 @@ use mathlib.Core.List.{[], _∷_}
 use Rattle.numbers.specs.First.{firstOf, firstFrom}
 use Rattle.rows.specs.Sum.{sumOf}
 use Rattle.rows.specs.Rows.{listOf}
-use Rattle.limits.specs.Within.{allWithin}
+use Rattle.limits.specs.AllWithin.{allWithin}
 use Rattle.wanted.specs.Wanted.{lowestQueue, possibleOf, inflowOf, leastFrom, releaseOf, tableOf, answer, wantedOf, tableAfter}
 
 -- three arrive in the last step, which can release two: the step before it releases one that no ceiling asks for yet

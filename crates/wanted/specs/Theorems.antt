@@ -1,14 +1,14 @@
 -- The theorems of releases for a wanted queue: the table found is the one whose running sum is least after every step; none and 23 come exactly
 -- where they should, and leave the lent table as it was. Assumes nothing.
 use mathlib.Core.Path.{_≡_, refl, sym, ap, _∙_}
-use mathlib.Core.Bool.{Bool, true, false, cond}
+use mathlib.Core.Bool.{true, false, cond}
 use mathlib.Core.List.{List}
 use Prim.Native.Nat.{ℕ, suc, _≤_, _<_}
 use native.Mathlib.Omega.{arith}
 use lib.ListN.{length}
 use lib.Seq.{ext-getD}
 use Rattle.numbers.specs.Lists.{at}
-use Rattle.numbers.specs.First.{unless}
+use Rattle.numbers.specs.Tests.{unless-elim, never}
 use Rattle.rows.specs.SumLaws.{sum-more}
 use Rattle.wanted.specs.Wanted.{Asked, Obeys, runningSum, askedOk, possibleOf, tableOf, WantedAnswer, answer, wantedOf, tableAfter}
 use Rattle.wanted.specs.WantedLaws.{asked-limits, limits-asked, obeyed-possible, table-obeys, table-least}
@@ -46,26 +46,20 @@ pub data Ends (start ceiling rate : ℕ) (arrivals table : List ℕ) : WantedAns
   found : Asked start ceiling rate arrivals (length table) → {filled : List ℕ} → Least start ceiling rate arrivals filled
       → Ends start ceiling rate arrivals table (answer 0 true) filled
 
-never : {b : Bool} → b ≡ true → b ≡ false → ⊥
-never h k = let z : _≡_ {A = ℕ} 0 1 = cc in omega arith
-
 -- 2: every answer is one of them
 module _ (start ceiling rate : ℕ) (arrivals table : List ℕ) where
-  abbrev saying : Bool → Bool → WantedAnswer
-  saying a p = unless a (answer 23 false) (unless p (answer 0 false) (answer 0 true))
+  -- an answer, with the table that it leaves
+  abbrev End : WantedAnswer → Type 0
+  End x = Ends start ceiling rate arrivals table x (cond (x .found) (tableOf start ceiling rate arrivals) table)
 
   pub ends : Ends start ceiling rate arrivals table (wantedOf start ceiling rate arrivals (length table)) (tableAfter start ceiling rate arrivals table)
   unfolding wantedOf tableAfter
-  ends = go (askedOk start ceiling rate arrivals (length table)) (possibleOf start ceiling rate arrivals) refl refl
-    where
-      go : (a p : Bool) → askedOk start ceiling rate arrivals (length table) ≡ a → possibleOf start ceiling rate arrivals ≡ p
-          → Ends start ceiling rate arrivals table (saying a p) (cond (saying a p .found) (tableOf start ceiling rate arrivals) table)
-      go false p e f = refused (λ asked. never (limits-asked start ceiling rate arrivals (length table) asked) e)
-      go true false e f =
-          none (asked-limits start ceiling rate arrivals (length table) e) (λ other o. never (obeyed-possible start ceiling rate arrivals other o) f)
-      go true true e f =
-          found (asked-limits start ceiling rate arrivals (length table) e)
-          (record { obeys = table-obeys start ceiling rate arrivals f; least = table-least start ceiling rate arrivals })
+  ends =
+      unless-elim End (askedOk start ceiling rate arrivals (length table))
+      (λ e. refused (λ asked. never (limits-asked start ceiling rate arrivals (length table) asked) e)) (λ e.
+      let asked = asked-limits start ceiling rate arrivals (length table) e in
+      unless-elim End (possibleOf start ceiling rate arrivals) (λ f. none asked (λ other o. never (obeyed-possible start ceiling rate arrivals other o) f)) (λ f.
+      found asked (record { obeys = table-obeys start ceiling rate arrivals f; least = table-least start ceiling rate arrivals })))
 
 -- so each comes exactly where it should
 module _ {start ceiling rate : ℕ} {arrivals table : List ℕ} where
@@ -85,7 +79,7 @@ module _ {start ceiling rate : ℕ} {arrivals table : List ℕ} where
       → (other : List ℕ) → Obeys start ceiling rate arrivals other → ⊥
   none-not (Ends.refused h) e other o = let z = ap (λ (x : WantedAnswer). x .number) e in omega arith
   none-not (Ends.none q h) e other o = h other o
-  none-not (Ends.found q h) e other o = never {b = true} refl (ap (λ (x : WantedAnswer). x .found) e)
+  none-not (Ends.found q h) e other o = never {t = true} refl (ap (λ (x : WantedAnswer). x .found) e)
 
   not-none : {a : WantedAnswer} {left : List ℕ} → Ends start ceiling rate arrivals table a left → Asked start ceiling rate arrivals (length table)
       → ((other : List ℕ) → Obeys start ceiling rate arrivals other → ⊥) → (a ≡ answer 0 false) × (left ≡ table)

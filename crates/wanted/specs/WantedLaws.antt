@@ -14,7 +14,7 @@ use Rattle.numbers.specs.Lists.{at}
 use Rattle.road.specs.Road.{mostRate, mostStart}
 use Rattle.numbers.specs.FirstLaws.{all-at, all-true}
 use Rattle.numbers.specs.Tests.{and-true, both-true, le-head, eq-head, le-then, eq-then}
-use Rattle.limits.specs.Within.{allWithin, within-at, within-true}
+use Rattle.limits.specs.AllWithin.{allWithin, within-at, within-true}
 use Rattle.wanted.specs.Wanted.{Comes, Asked, queueAfter, Obeys, runningSum, frameOk, askedOk, lowestQueue, possibleOf, inflowOf, leastFrom, leastAt, releaseOf, tableOf}
 
 -- the inflow

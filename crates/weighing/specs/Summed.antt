@@ -24,17 +24,17 @@ weighed-small weight count h l =
     omega (arith, mul-le-mul a b)
 
 -- when the first i values of f are added
-pub record Summed (f : ℕ → ℕ) (n sum i : ℕ) : Type 0 where
+pub record SummedProducts (f : ℕ → ℕ) (n sum i : ℕ) : Type 0 where
   pub within : i ≤ n
   pub values : sum ≡ sumOf (listOf f i)
   pub small : sum ≤ i * mostWeighed
 
 module _ {f : ℕ → ℕ} {n : ℕ} where
-  pub summed-none : Summed f n 0 0
+  pub summed-none : SummedProducts f n 0 0
   summed-none = record { within = omega arith; values = sym (sum-list-none f); small = omega arith }
 
-  module _ {sum i : ℕ} (h : Summed f n sum i) where
-    pub summed-more : {x : ℕ} → i < n → x ≡ f i → x ≤ mostWeighed → Summed f n (sum + x) (i + 1)
+  module _ {sum i : ℕ} (h : SummedProducts f n sum i) where
+    pub summed-more : {x : ℕ} → i < n → x ≡ f i → x ≤ mostWeighed → SummedProducts f n (sum + x) (i + 1)
     summed-more l e m = record {
       within = omega arith;
       values = rw (add-one i) (omega (arith, h .values, e, sum-list-more f i));

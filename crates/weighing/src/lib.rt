@@ -7,6 +7,7 @@ ghost use mathlib.Core.Bool.{cond};
 ghost use Prim.Native.Nat.{_+_, _*_, _≤_};
 ghost use lib.ListN.{length};
 ghost use Rattle.numbers.specs.Lists.{at};
+ghost use Rattle.road.specs.Road.{mostCells};
 ghost use Rattle.road.specs.declared.State.{State};
 ghost use Rattle.model.specs.Weights.{weighedSum, weightedOf};
 ghost use Rattle.weighing.specs.Bounds.{mostWeighed, mostWeighted, mostWeightedTotal};
@@ -21,8 +22,8 @@ fn weighed(weight: u8, count: u32) -> u64
 
 // The counts of the first n cells, each times its weight; the first cell's weight is at `from`.
 fn weighed_cells(weights: &[u8], from: usize, counts: &[u32], n: usize) -> u64
-    requires { ⌜ (n ≤ 64) × ((n ≤ length (now counts)) × (from + n ≤ length (now weights))) ⌝ }
-    ensures { λ r. ⌜ (r ≡ weighedSum (λ i. at (now (weights .entry)) (from + i)) (at (now (counts .entry))) n) × (r ≤ 64 * mostWeighed) ⌝ }
+    requires { ⌜ (n ≤ mostCells) × ((n ≤ length (now counts)) × (from + n ≤ length (now weights))) ⌝ }
+    ensures { λ r. ⌜ (r ≡ weighedSum (λ i. at (now (weights .entry)) (from + i)) (at (now (counts .entry))) n) × (r ≤ mostCells * mostWeighed) ⌝ }
 {
     let mut sum: u64 = 0;
     let mut i = 0;
@@ -42,7 +43,7 @@ fn weighed_places<'a, 'b>(
     places: &'b [u8; 65],
     ramps: &'b [u8; 64],
 ) -> u64
-    requires { ⌜ n ≤ 64 ⌝ }
+    requires { ⌜ n ≤ mostCells ⌝ }
     ensures present { λ r. ⌜ ((s : State) → Waiting «gate_queue» (now (held .entry)) (now (queue .entry)) s
         → r ≡ weightedOf (at (now (places .entry))) (at (now (ramps .entry))) n s) ⌝ }
     ensures bound { λ r. ⌜ r ≤ mostWeighted ⌝ }
@@ -79,7 +80,7 @@ pub fn added<'a, 'b>(
     places: &'b [u8; 65],
     ramps: &'b [u8; 64],
 ) -> u64
-    requires { ⌜ (total ≤ mostWeightedTotal) × (n ≤ 64) ⌝ }
+    requires { ⌜ (total ≤ mostWeightedTotal) × (n ≤ mostCells) ⌝ }
     ensures sum { λ r. ⌜ ((s : State) → Waiting «gate_queue» (now (held .entry)) (now (queue .entry)) s
         → r ≡ total + cond weighs (weightedOf (at (now (places .entry))) (at (now (ramps .entry))) n s) 0) ⌝ }
     ensures bound { λ r. ⌜ r ≤ total + mostWeighted ⌝ }

@@ -60,7 +60,7 @@ decimal-most n k h f = go (leb k 20) refl
         absurd (omega (arith, f .2 (omega arith)))
 
 -- the digits that io makes of a number
-pub record Made (n k : ℕ) (text : List ℕ) : Type 0 where
+pub record DigitsMade (n k : ℕ) (text : List ℕ) : Type 0 where
   pub fewest : Fewest 10 1 n k
   pub few : k ≤ 20
   pub made : text ≡ digits 10 k n
@@ -68,7 +68,7 @@ pub record Made (n k : ℕ) (text : List ℕ) : Type 0 where
 
 -- they and the byte after them, each put, are a word
 pub word-put : {a : List ℕ} {start n after k : ℕ} {text b : List ℕ} {m : ℕ} {c : List ℕ} {e : ℕ}
-    → Made n k text → Text a start text b m → Text b m (after ∷ []) c e → Puts a start (wordOf n after) c e
+    → DigitsMade n k text → Text a start text b m → Text b m (after ∷ []) c e → Puts a start (wordOf n after) c e
 word-put {a} {start} {n} {after} {k} {text} {b} {m} {c} {e} d (Text.put p) (Text.put q) =
     rw (d .made ∙ decimal-digits 20 k n (d .fewest) (d .few)) at (puts-more a start text b m (after ∷ []) c e p q)
 

@@ -1,105 +1,75 @@
 -- What writing that is not refused tells of what was given. Assumes nothing.
-use mathlib.Core.Path.{_≡_, refl, sym, ap, _∙_}
-use mathlib.Core.Bool.{Bool, true, false, cond}
+use mathlib.Core.Path.{_≡_, refl, sym, _∙_}
+use mathlib.Core.Bool.{Bool, true}
 use mathlib.Core.List.{List, _++_}
-use Prim.Native.Nat.{ℕ, _+_, _*_, _≤_, _<_}
+use Prim.Native.Nat.{ℕ, _+_, _≤_, _<_}
 use native.Mathlib.Omega.{arith}
-use lib.Dec.{leb}
+use lib.Dec.{leb, eqb}
 use lib.ListN.{length, drop}
-use borrow.Author.Tests.{leb-true, eqb-true, eq-eqb, ne-eqb}
-use Rattle.numbers.specs.First.{unless, oneOf, allOf}
+use borrow.Author.Tests.{leb-true, eqb-true, eqb-false, eq-eqb, ne-eqb}
+use Rattle.numbers.specs.First.{allOf}
 use Rattle.numbers.specs.FirstLaws.{all-at}
-use Rattle.rows.specs.Tables.{rowAt}
-use Rattle.rows.specs.TablesLaws.{row-ends}
+use Rattle.numbers.specs.Tests.{unless-elim}
 use Rattle.rows.specs.Placed.{Puts}
 use Rattle.road.specs.declared.Road.{Road}
 use Rattle.road.specs.declared.Start.{Start}
-use Rattle.road.specs.Road.{mostBytes}
-use Rattle.road.specs.Study.{Study}
-use Rattle.fields.specs.Fields.{rowNumbers}
+use Rattle.studies.specs.Study.{Study}
 use Rattle.limits.specs.Limits.{placeOk}
-use Rattle.header.specs.Header.{sizeOf, bothVersions, secondsOk}
-use Rattle.header.specs.HeaderLaws.{Counts, counts-facts}
-use Rattle.putting.specs.Record.{recordSize, recordOf, given}
-use Rattle.putting.specs.Putting.{Fits, length-record, record-stands}
-use Rattle.writing.specs.Checks.{known, counted, timed, short, whole}
-use Rattle.writing.specs.Writing.{WriteAnswer, unwritten, written, givenOk, numberCount, writingBy, writingOf, targetAfter}
+use Rattle.header.specs.Header.{sizeOf}
+use Rattle.encoding.specs.Record.{recordSize, recordOf, given}
+use Rattle.encoding.specs.Encoding.{Fits, length-record, record-stands}
+use Rattle.writing.specs.Writing.{WriteAnswer, written, givenOk, frameOf, writingBy, writingOf, targetAfter}
+use Rattle.writing.specs.Checks.{Framed, framed}
 
 -- no refusal applies
 pub record Accepted (a : Study) (numbers room : ℕ) : Type 0 where
-  pub version : oneOf bothVersions (a .road .version) ≡ true
-  pub counts : Counts (a .road .n) (a .steps)
-  pub seconds : secondsOk (a .road .version) (a .road .seconds) ≡ true
-  pub size : recordSize a ≤ mostBytes
-  pub all : numbers ≡ numberCount a
+  pub frame : Framed a numbers
   pub places : (p : ℕ) → p < a .road .n + 1 → placeOk (a .road) (a .start) p ≡ true
   pub rows : (t : ℕ) → t < a .steps → givenOk a t ≡ true
   pub enough : recordSize a ≤ room
   pub answer : writingBy a numbers room ≡ written (recordSize a)
 
--- the refusals by their tests, in order
-abbrev answerBy : (q r s t u v w x : Bool) (place step size : ℕ) → WriteAnswer
-answerBy q r s t u v w x place step size =
-    unless q (unwritten 2 0)
-    (unless r (unwritten 3 0)
-    (unless s (unwritten 19 0)
-    (unless t (unwritten 1 0)
-    (unless u (unwritten 4 0)
-    (unless v (unwritten 5 place)
-    (unless w (unwritten 6 step)
-    (unless x (unwritten 15 0) (written size))))))))
-
 module _ (a : Study) (numbers room : ℕ) where
-  abbrev placed : Bool
-  placed = allOf (placeOk (a .road) (a .start)) (a .road .n + 1)
+  abbrev framedOk : Bool
+  framedOk = eqb (frameOf a numbers) 0
 
-  abbrev rated : Bool
-  rated = allOf (givenOk a) (a .steps)
+  abbrev placesOk : Bool
+  placesOk = allOf (placeOk (a .road) (a .start)) (a .road .n + 1)
 
-  abbrev roomy : Bool
-  roomy = leb (recordSize a) room
+  abbrev allRowsOk : Bool
+  allRowsOk = allOf (givenOk a) (a .steps)
+
+  abbrev roomOk : Bool
+  roomOk = leb (recordSize a) room
+
+  abbrev Taken : WriteAnswer → Type 0
+  Taken x = x .number ≡ 0 → Accepted a numbers room
 
   pub accepted : writingBy a numbers room .number ≡ 0 → Accepted a numbers room
-  accepted h = go (known a numbers) (counted a numbers) (timed a numbers) (short a numbers) (whole a numbers) placed rated roomy refl refl refl refl refl refl refl refl _ _ h
-    where
-      go : (q r s t u v w x : Bool) → known a numbers ≡ q → counted a numbers ≡ r → timed a numbers ≡ s → short a numbers ≡ t → whole a numbers ≡ u
-          → placed ≡ v → rated ≡ w → roomy ≡ x
-          → (place step : ℕ) → answerBy q r s t u v w x place step (recordSize a) .number ≡ 0 → Accepted a numbers room
-      go true true true true true true true true eq er es et eu ev ew ex place step k = record {
-        version = eq;
-        counts = counts-facts (a .road .n) (a .steps) er;
-        seconds = es;
-        size = leb-true (recordSize a) mostBytes et;
-        all = eqb-true numbers (numberCount a) eu;
-        places = all-at (placeOk (a .road) (a .start)) (a .road .n + 1) ev;
-        rows = all-at (givenOk a) (a .steps) ew;
-        enough = leb-true (recordSize a) room ex;
-        answer = rw (eq, er, es, et, eu, ev, ew, ex);
-      }
-      go true true true true true true true false eq er es et eu ev ew ex place step k = absurd (omega arith)
-      go true true true true true true false x eq er es et eu ev ew ex place step k = absurd (omega arith)
-      go true true true true true false w x eq er es et eu ev ew ex place step k = absurd (omega arith)
-      go true true true true false v w x eq er es et eu ev ew ex place step k = absurd (omega arith)
-      go true true true false u v w x eq er es et eu ev ew ex place step k = absurd (omega arith)
-      go true true false t u v w x eq er es et eu ev ew ex place step k = absurd (omega arith)
-      go true false s t u v w x eq er es et eu ev ew ex place step k = absurd (omega arith)
-      go false r s t u v w x eq er es et eu ev ew ex place step k = absurd (omega arith)
+  accepted =
+      unless-elim Taken framedOk (λ e z. absurd (eqb-false (frameOf a numbers) 0 e z)) (λ frame.
+      unless-elim Taken placesOk (λ _ z. absurd (omega arith)) (λ places.
+      unless-elim Taken allRowsOk (λ _ z. absurd (omega arith)) (λ rows.
+      unless-elim Taken roomOk (λ _ z. absurd (omega arith)) (λ enough _.
+      record {
+        frame = framed a numbers (eqb-true (frameOf a numbers) 0 frame);
+        places = all-at (placeOk (a .road) (a .start)) (a .road .n + 1) places;
+        rows = all-at (givenOk a) (a .steps) rows;
+        enough = leb-true (recordSize a) room enough;
+        answer = rw (frame, places, rows, enough);
+      }))))
 
   -- a refusal counts no bytes
+  abbrev Uncounted : WriteAnswer → Type 0
+  Uncounted x = (x .number ≡ 0 → ⊥) → x .count ≡ 0
+
   pub refused-count : (writingBy a numbers room .number ≡ 0 → ⊥) → writingBy a numbers room .count ≡ 0
-  refused-count h = go (known a numbers) (counted a numbers) (timed a numbers) (short a numbers) (whole a numbers) placed rated roomy _ _ h
-    where
-      go : (q r s t u v w x : Bool) (place step : ℕ) → (answerBy q r s t u v w x place step (recordSize a) .number ≡ 0 → ⊥)
-          → answerBy q r s t u v w x place step (recordSize a) .count ≡ 0
-      go true true true true true true true true place step k = absurd (k refl)
-      go true true true true true true true false place step k = refl
-      go true true true true true true false x place step k = refl
-      go true true true true true false w x place step k = refl
-      go true true true true false v w x place step k = refl
-      go true true true false u v w x place step k = refl
-      go true true false t u v w x place step k = refl
-      go true false s t u v w x place step k = refl
-      go false r s t u v w x place step k = refl
+  refused-count =
+      unless-elim Uncounted framedOk (λ _ _. refl) (λ _.
+      unless-elim Uncounted placesOk (λ _ _. refl) (λ _.
+      unless-elim Uncounted allRowsOk (λ _ _. refl) (λ _.
+      unless-elim Uncounted roomOk (λ _ _. refl) (λ _ h.
+      absurd (h refl)))))
 
 module _ (road : Road) (T : ℕ) (start : Start) (rows target : List ℕ) where
   abbrev a : Study
@@ -121,7 +91,7 @@ module _ (road : Road) (T : ℕ) (start : Start) (rows target : List ℕ) where
 
   -- as the code finds it
   pub fits : writingOf road T start rows target .number ≡ 0 → Fits (given road T start rows) rows target
-  fits h = let k = given-accepted h in record { counts = k .counts; all = k .all; room = k .enough }
+  fits h = let k = given-accepted h in record { counts = k .frame .counts; all = k .frame .all; room = k .enough }
 
   pub target-put : writingOf road T start rows target .number ≡ 0 → (after : List ℕ) (end : ℕ) → Puts target 0 (recordOf (given road T start rows)) after end
       → after ≡ targetAfter road T start rows target

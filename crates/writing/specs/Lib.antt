@@ -4,6 +4,6 @@ pub mod Accepted
 pub mod Cut
 pub mod Stands
 pub mod ReadBack
-pub mod Kept
-pub mod Again
+pub mod ReadStudy
+pub mod WrittenAgain
 pub mod Saved

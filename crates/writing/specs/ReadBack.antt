@@ -7,28 +7,27 @@ use native.Mathlib.Omega.{arith}
 use lib.Dec.{leb, eqb}
 use lib.ListN.{length}
 use lib.Seq.{ext-getD}
-use borrow.Author.Tests.{leb-true, le-leb, eqb-true, eqb-false, eq-eqb}
+use borrow.Author.Tests.{leb-true, eqb-true, eqb-false, eq-eqb}
 use Rattle.numbers.specs.Lists.{at}
-use Rattle.numbers.specs.First.{oneOf, allOf}
-use Rattle.numbers.specs.FirstLaws.{all-true}
+use Rattle.numbers.specs.First.{oneOf}
 use Rattle.numbers.specs.Tests.{le-head, le-then}
 use Rattle.rows.specs.RowsLaws.{fill-same, fill-own}
 use Rattle.road.specs.declared.Road.{Road}
 use Rattle.road.specs.declared.State.{State}
-use Rattle.road.specs.Road.{mostCells, mostSteps, mostBytes, mostRate, mostSeconds, zeros, startState, startIn}
-use Rattle.road.specs.Study.{Study}
+use Rattle.road.specs.Road.{mostBytes, mostRate, mostSeconds, zeros, startState, startIn}
+use Rattle.studies.specs.Study.{Study}
 use Rattle.fields.specs.Fields.{secondVersion, countSize, secondsSize, headerSize, gateCapacityOffset, gateQueueOffset, cellSize, shortSize, numberSize, rowSize}
 use Rattle.fields.specs.Fields.{rowNumbers, rowStart, numberOf, versionOf, secondsOf, fieldOf, columnOf, entryOf, recordRow}
 use Rattle.fields.specs.FieldsLaws.{seconds-second, seconds-none, length-row, row-at}
 use Rattle.fields.specs.BytesLaws.{Field, field-number}
-use Rattle.limits.specs.Limits.{placeOk, rowOk}
 use Rattle.limits.specs.LimitsLaws.{RoadOk, StateOk, RowOk, place-ok, row-ok}
-use Rattle.header.specs.Header.{cellsOf, stepsOf, sizeOf, bothVersions, leastSize, lengthOk, cellsAndStepsOk, secondsOk}
-use Rattle.reading.specs.Reading.{roadOf, startOf, stepOk}
-use Rattle.reading.specs.Reading.{acceptedOf, readingBy, readingOf}
-use Rattle.header.specs.HeaderLaws.{Counts, known-most, least-both, caller-full}
-use Rattle.putting.specs.Record.{recordSize, headerBytes, cellBytes, recordOf}
-use Rattle.putting.specs.Putting.{length-record}
+use Rattle.header.specs.Header.{cellsOf, stepsOf, sizeOf, bothVersions, leastSize, secondsOk}
+use Rattle.header.specs.HeaderLaws.{Counts, facts-counts, known-most, least-both}
+use Rattle.reading.specs.Headers.{Header}
+use Rattle.reading.specs.Reading.{roadOf, startOf, stepOk, acceptedOf, readingOf}
+use Rattle.reading.specs.Found.{reads}
+use Rattle.encoding.specs.Record.{recordSize, headerBytes, cellBytes, recordOf}
+use Rattle.encoding.specs.Encoding.{length-record}
 use Rattle.writing.specs.Cut.{cutOf, keptSeconds, cutRoad, cutState, kept-ok, cut-road, cut-state, cut-row}
 use Rattle.writing.specs.Stands.{HeaderFields, header-fields, CellFields, cell-fields, in-header, in-cell, in-row}
 
@@ -183,46 +182,32 @@ module _ (a : Study) (ok : Recordable a) where
       row-at s n t k h ∙ entry-read t l k h)
 
   -- no refusal of reading applies
-  long-enough : lengthOk bothVersions s ≡ true
-  long-enough =
+  header-read : Header (recordOf a) (a .road .n) (a .steps)
+  header-read =
       let e = length-record a in
-      le-then (leastSize bothVersions (versionOf s)) (length s) _ (omega (arith, e, least-both (versionOf s), layout))
-      (le-then (length s) mostBytes _ (omega (arith, e, ok .size))
-      (eq-eqb (numberOf s 0 countSize) (length s - countSize) (count-read ∙ omega (arith, e))))
-
-  known-read : oneOf bothVersions (versionOf s) ≡ true
-  known-read = ap (oneOf bothVersions) version-read ∙ ok .version
-
-  seconds-fit : secondsOk (versionOf s) (secondsOf s) ≡ true
-  seconds-fit =
-      ap (λ (v : ℕ). secondsOk v (secondsOf s)) version-read
-      ∙ ap (λ (q : ℕ). secondsOk (road .version) q) seconds-read
-      ∙ kept-ok (road .version) (road .seconds)
-      ∙ ok .seconds
-
-  counts-read : cellsAndStepsOk (cellsOf s) (stepsOf s) ≡ true
-  counts-read =
-      let c = ok .counts in
-      rw (cells-read, steps-read)
-      (le-then 1 n _ (c .someCells) (le-then n mostCells _ (c .cells) (le-then 1 T _ (c .someSteps) (le-leb T mostSteps (c .steps)))))
-
-  size-read : eqb (length s) (sizeOf (versionOf s) (cellsOf s) (stepsOf s)) ≡ true
-  size-read = rw (cells-read, steps-read) (eq-eqb (length s) (sizeOf (versionOf s) n T) (omega (arith, length-record a, layout)))
-
-  places-read : allOf (placeOk (roadOf s) (startOf s)) (cellsOf s + 1) ≡ true
-  places-read =
-      rw (road-read, start-read, cells-read)
-      (all-true (placeOk (cutRoad road) (cutState n start)) (n + 1)
-      (place-ok (cutRoad road) (cutState n start) (cut-road road (ok .road)) (cut-state road start (ok .road) (ok .start))))
-
-  steps-fit : allOf (stepOk s (roadOf s)) (stepsOf s) ≡ true
-  steps-fit =
-      rw (road-read, steps-read)
-      (all-true (stepOk s (cutRoad road)) T (λ t l.
-      rw (rows-read t l) (row-ok (cutRoad road) (a .rows t) (cut-road road (ok .road)) (cut-row road (a .rows t) (ok .road) (ok .row t l)))))
+      record {
+        lengths =
+            le-then (leastSize bothVersions (versionOf s)) (length s) _ (omega (arith, e, least-both (versionOf s), layout))
+            (le-then (length s) mostBytes _ (omega (arith, e, ok .size))
+            (eq-eqb (numberOf s 0 countSize) (length s - countSize) (count-read ∙ omega (arith, e))));
+        version = ap (oneOf bothVersions) version-read ∙ ok .version;
+        cells = sym cells-read;
+        steps = sym steps-read;
+        counts = facts-counts (ok .counts);
+        seconds =
+            ap (λ (v : ℕ). secondsOk v (secondsOf s)) version-read
+            ∙ ap (λ (q : ℕ). secondsOk (road .version) q) seconds-read
+            ∙ kept-ok (road .version) (road .seconds)
+            ∙ ok .seconds;
+        size = omega (arith, e, layout);
+      }
 
   pub reads-back : readingOf (recordOf a) ≡ acceptedOf (a .steps) (cutRoad (a .road)) (cutState (a .road .n) (startState (startIn (a .start))))
-  unfolding readingBy
   reads-back =
-      rw (long-enough, known-read, counts-read, seconds-fit, size-read, caller-full bothVersions s long-enough counts-read, places-read, steps-fit)
-      (rw (road-read, start-read, steps-read))
+      let within = cut-road road (ok .road) in
+      reads header-read
+      (λ p l. rw (road-read, start-read) (place-ok (cutRoad road) (cutState n start) within (cut-state road start (ok .road) (ok .start)) p l))
+      (λ t l.
+      ap (λ (r : Road). stepOk s r t) road-read
+      ∙ rw (rows-read t l) (row-ok (cutRoad road) (a .rows t) within (cut-row road (a .rows t) (ok .road) (ok .row t l))))
+      ∙ rw (road-read, start-read)

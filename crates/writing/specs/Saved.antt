@@ -14,21 +14,20 @@ use Rattle.rows.specs.TablesLaws.{row-length}
 use Rattle.road.specs.declared.Road.{Road}
 use Rattle.road.specs.declared.Start.{Start}
 use Rattle.road.specs.Road.{startState, startIn}
-use Rattle.road.specs.Study.{Study}
 use Rattle.fields.specs.Fields.{secondVersion, rowNumbers, recordRow}
-use Rattle.limits.specs.Limits.{placeOk, rowOk}
+use Rattle.limits.specs.Limits.{placeOk}
 use Rattle.limits.specs.LimitsLaws.{places-road, places-state, place-ok, row-facts, row-ok}
 use Rattle.header.specs.Header.{sizeOf}
 use Rattle.reading.specs.Reading.{acceptedOf, readingOf, studyOf}
-use Rattle.putting.specs.Record.{recordOf, given}
-use Rattle.putting.specs.Putting.{length-record}
+use Rattle.encoding.specs.Record.{recordOf, given}
+use Rattle.encoding.specs.Encoding.{length-record}
 use Rattle.writing.specs.Writing.{WriteAnswer, written, givenOk, writingOf, targetAfter}
 use Rattle.writing.specs.Checks.{answer-written, by-given}
 use Rattle.writing.specs.Accepted.{Accepted, given-accepted, refused-count, target-refused, target-written}
 use Rattle.writing.specs.Cut.{cutRoad, cutState, kept-second, kept-none}
 use Rattle.writing.specs.ReadBack.{Recordable, reads-back, rows-read}
-use Rattle.writing.specs.Kept.{read-size, read-recordable}
-use Rattle.writing.specs.Again.{same-bytes}
+use Rattle.writing.specs.ReadStudy.{read-size, read-recordable}
+use Rattle.writing.specs.WrittenAgain.{same-bytes}
 
 -- the record's bytes in the target
 abbrev pub savedOf : Road → ℕ → Start → List ℕ → List ℕ → List ℕ
@@ -44,16 +43,17 @@ pub record ReadsBack (road : Road) (T : ℕ) (start : Start) (rows : List ℕ) (
 recordable : (road : Road) (T : ℕ) (start : Start) (rows : List ℕ) (room : ℕ)
     → Accepted (given road T start rows) (length rows) room → Recordable (given road T start rows)
 recordable road T start rows room ok =
-    let r = places-road road (startState start) (ok .places) (ok .counts .someCells) (ok .counts .cells) in
+    let f = ok .frame in
+    let r = places-road road (startState start) (ok .places) (f .counts .someCells) (f .counts .cells) in
     record {
-      version = ok .version;
-      counts = ok .counts;
-      seconds = ok .seconds;
-      size = ok .size;
+      version = f .version;
+      counts = f .counts;
+      seconds = f .seconds;
+      size = f .size;
       road = r;
       start = places-state road (startState start) (ok .places) (omega arith) (omega arith);
       row = λ t l.
-          row-facts road (rowAt rows (rowNumbers (road .n)) t) (row-length rows (rowNumbers (road .n)) t T l (ok .all)) (r .ramp) (ok .rows t l);
+          row-facts road (rowAt rows (rowNumbers (road .n)) t) (row-length rows (rowNumbers (road .n)) t T l (f .all)) (r .ramp) (ok .rows t l);
     }
 
 module _ (road : Road) (T : ℕ) (start : Start) (rows target : List ℕ) where

@@ -8,12 +8,12 @@ use Rattle.numbers.specs.Lists.{at}
 use Rattle.rows.specs.Rows.{concatOf}
 use Rattle.rows.specs.Concat.{length-concat}
 use Rattle.rows.specs.TablesLaws.{row-ends}
-use Rattle.road.specs.Study.{Study}
+use Rattle.studies.specs.Study.{Study}
 use Rattle.fields.specs.Fields.{countSize, headerSize, secondsSize, gateCapacityOffset, gateQueueOffset, cellSize, shortSize, numberSize, rowNumbers, rowSize, bytesOf}
 use Rattle.fields.specs.BytesLaws.{Field, length-bytes, field-first, field-only, field-after, field-before, field-in, field-there}
 use Rattle.header.specs.Header.{sizeOf}
-use Rattle.putting.specs.Record.{headerOf, cellOf, headerBytes, cellBytes, rowBytes, recordOf}
-use Rattle.putting.specs.Putting.{header-length, length-cell, length-row}
+use Rattle.encoding.specs.Record.{headerOf, cellOf, headerBytes, cellBytes, rowBytes, recordOf}
+use Rattle.encoding.specs.Encoding.{header-length, length-cell, length-row}
 
 -- the fields of a header
 pub record HeaderFields (s : List ℕ) (version n T seconds capacity queue : ℕ) : Type 0 where

@@ -10,11 +10,11 @@ use Rattle.road.specs.declared.Start.{Start}
 use Rattle.road.specs.declared.Written.{Written}
 use Rattle.road.specs.Road.{mostBytes}
 use Rattle.road.specs.Refusals.{refusalNumber}
-use Rattle.road.specs.Study.{Study}
+use Rattle.studies.specs.Study.{Study}
 use Rattle.fields.specs.Fields.{rowNumbers}
 use Rattle.limits.specs.Limits.{placeOk, rowOk}
 use Rattle.header.specs.Header.{sizeOf, bothVersions, cellsAndStepsOk, secondsOk}
-use Rattle.putting.specs.Record.{recordSize, recordOf, given}
+use Rattle.encoding.specs.Record.{recordSize, recordOf, given}
 
 -- what writing answers: the refusal's number, its place or step, and the count of bytes written
 pub record WriteAnswer : Type 0 where
@@ -40,23 +40,27 @@ rowsOk ramp n rows t = rowOk ramp n (rows t)
 abbrev pub givenOk : Study → ℕ → Bool
 givenOk a t = rowsOk (a .road .ramp) (a .road .n) (a .rows) t
 
--- the numbers of all rows
-abbrev pub numberCount : Study → ℕ
-numberCount a = a .steps * rowNumbers (a .road .n)
+-- the frame's faults, of numbers that belong to no place: 2, a version that no record has; 3; 19; 1, more than 65,536 bytes;
+-- 4, row numbers not T × (1 + 2n)
+unfoldable pub frameFault : ℕ → ℕ → ℕ → ℕ → ℕ → ℕ
+frameFault version seconds n T numbers =
+    unless (oneOf bothVersions version) 2
+    (unless (cellsAndStepsOk n T) 3
+    (unless (secondsOk version seconds) 19
+    (unless (leb (sizeOf version n T) mostBytes) 1
+    (unless (eqb numbers (T * rowNumbers n)) 4 0))))
 
--- 2, a version that no record has; 3; 19; 1, more than 65,536 bytes; 4, row numbers not T × (1 + 2n); 5 with its place and 6 with its step, as in reading;
--- 15, target too short
+abbrev pub frameOf : Study → ℕ → ℕ
+frameOf a numbers = frameFault (a .road .version) (a .road .seconds) (a .road .n) (a .steps) numbers
+
+-- the frame's; 5 with its place and 6 with its step, as in reading; 15, target too short
 abbrev pub writingBy : Study → ℕ → ℕ → WriteAnswer
 writingBy a numbers room =
-    unless (oneOf bothVersions (a .road .version)) (unwritten 2 0)
-    (unless (cellsAndStepsOk (a .road .n) (a .steps)) (unwritten 3 0)
-    (unless (secondsOk (a .road .version) (a .road .seconds)) (unwritten 19 0)
-    (unless (leb (recordSize a) mostBytes) (unwritten 1 0)
-    (unless (eqb numbers (numberCount a)) (unwritten 4 0)
+    unless (eqb (frameOf a numbers) 0) (unwritten (frameOf a numbers) 0)
     (unlessFirst (placeOk (a .road) (a .start)) (a .road .n + 1) (unwritten 5)
     (unlessFirst (givenOk a) (a .steps) (unwritten 6)
     (unless (leb (recordSize a) room) (unwritten 15 0)
-    (written (recordSize a)))))))))
+    (written (recordSize a)))))
 
 unfoldable pub writingOf : Road → ℕ → Start → List ℕ → List ℕ → WriteAnswer
 writingOf road T start rows target = writingBy (given road T start rows) (length rows) (length target)

@@ -8,9 +8,8 @@ ghost use Rattle.numbers.specs.First.{firstOf};
 ghost use Rattle.rows.specs.Tables.{rowAt};
 ghost use Rattle.road.specs.Refusals.{refusalNumber};
 ghost use Rattle.fields.specs.Fields.{rowNumbers};
-ghost use Rattle.putting.specs.Putting.{Rows};
-ghost use Rattle.writing.specs.Writing.{unwritten, rowsOk, writeAnswer, writingOf, targetAfter};
-ghost use Rattle.writing.specs.Checks.{frameFault};
+ghost use Rattle.encoding.specs.Encoding.{Rows};
+ghost use Rattle.writing.specs.Writing.{unwritten, rowsOk, writeAnswer, frameFault, writingOf, targetAfter};
 ghost use Rattle.writing.specs.Saved.{ReadsBack};
 
 // 2, 3, 19, 1 and 4: the version, n and T, the seconds, the record's size, and the count of the rows' numbers.
@@ -106,6 +105,6 @@ pub fn write(road: Road, steps: usize, start: Start, rows: &[u32], target: &mut 
     if refusal.number() != 0 {
         return a;
     }
-    putting::put_record(road, steps, start, rows, target);
+    encoding::put_record(road, steps, start, rows, target);
     a
 }

@@ -2,14 +2,13 @@
 use mathlib.Core.Path.{_≡_, refl, sym, ap, _∙_}
 use Prim.Native.Nat.{_≤_}
 use Rattle.road.specs.Road.{mostCells, mostSteps}
-use Rattle.road.specs.Refusals.{refusalNumber}
-use Rattle.releases.specs.Faults.{faultOf}
+use Rattle.road.specs.Refusals.{refusalNumber, faultAnswer}
 use Rattle.reading.specs.Reading.{studyBy, readAnswer}
 use Rattle.reading.specs.Within.{read-within}
 use Rattle.schedules.specs.Schedules.{endAnswer}
 use Rattle.model.specs.StepLaws.{number-of}
 use Rattle.schedules.specs.Readable.{Readable, readable}
-use Rattle.filling.specs.Promise.{promise-refused, promise-law, promise-closed, promise-short, promise-all}
+use Rattle.filling.specs.FilledPromise.{promise-refused, promise-law, promise-closed, promise-short, promise-all}
 use borrow.Author.Needs.{needs}
 use native.Mathlib.Omega.{arith}
 use Rattle.filling.proofs.fill.Statement.{statement}
@@ -51,7 +50,7 @@ cells c =
 finite : (c : tie.After-refused) → to-laws c .law-fault .result ≡ 0
 finite c = c .before .before .if2 .left
 
-opens : (c : tie.Else3) → faultOf (to-table c .refused .result) .number ≡ 0
+opens : (c : tie.Else3) → faultAnswer (to-table c .refused .result) .number ≡ 0
 opens c = sym (c .before .number2 .ensures) ∙ c .if3 .left
 
 held : (c : tie.Else3) →

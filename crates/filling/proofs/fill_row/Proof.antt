@@ -6,8 +6,8 @@ use lib.ListN.{length, take, length-take}
 use Rattle.road.specs.declared.Road.{Road}
 use Rattle.fields.specs.FieldsLaws.{length-row}
 use Rattle.columns.specs.Columns.{roadOf, stateOf}
-use Rattle.metering.specs.Metering.{Metered, metered}
-use Rattle.metering.specs.Lent.{ramped}
+use Rattle.ramps.specs.Ramps.{Metered, metered}
+use Rattle.ramps.specs.LentRamps.{ramped}
 use Rattle.filling.specs.Turn.{Given, given-held, given-steps, given-filled}
 use borrow.Author.Needs.{needs}
 use native.Mathlib.Omega.{arith}

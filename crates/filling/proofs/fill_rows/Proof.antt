@@ -5,13 +5,13 @@ use mathlib.Core.Logic.{inl, inr}
 use Prim.Native.Nat.{ℕ, _+_, _-_, _≤_}
 use lib.ListN.{length, length-replicate}
 use Rattle.rows.specs.TablesLaws.{part-length}
-use Rattle.road.specs.Study.{Study, places, withCapacity}
+use Rattle.studies.specs.Study.{Study, places, withCapacity}
 use Rattle.lanes.specs.LanesLaws.{rows-within}
 use Rattle.model.specs.Opened.{OnRoad, Turned, on-road, turned-road, turned-on}
 use Rattle.columns.specs.Columns.{stateOf}
 use Rattle.reading.specs.Reading.{studyBy}
 use Rattle.reading.specs.Table.{mostOutflows}
-use Rattle.metering.specs.Metering.{metered}
+use Rattle.ramps.specs.Ramps.{metered}
 use Rattle.filling.specs.Filled.{Filled, filled-none, same-bytes, same-list, row-ends-by, row-fits, fills, filled-more, filled-bytes, filled-list, filled-state}
 use borrow.Author.Needs.{needs}
 use native.Mathlib.Omega.{arith}

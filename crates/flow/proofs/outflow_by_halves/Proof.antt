@@ -1,12 +1,14 @@
 -- `flow::outflow_by_halves` meets its contract. The invariant: the outflow lies between low and high. Assumes nothing.
 use Prim.Native.Nat.{_-_}
-use Rattle.flow.specs.FlowLaws.{Between, between-none, between-fits, between-above, between-end}
+use Rattle.numbers.specs.Halves.{Between, between-none, between-fits, between-above, between-end}
+use Rattle.flow.specs.Flow.{outflowOf}
+use Rattle.flow.specs.FlowLaws.{outflow-le, outflow-greatest, outflow-under}
 use native.Mathlib.Omega.{arith}
 use Rattle.flow.proofs.outflow_by_halves.Statement.{statement}
 use Rattle.flow.proofs.outflow_by_halves.Tie as tie
 
 abbrev Inv-loop : tie.InvT-loop
-Inv-loop share cumulative room demand low₀ high₀ low high = Between share cumulative room demand low high
+Inv-loop share cumulative room demand low₀ high₀ low high = Between (outflowOf share cumulative room demand) demand low high
 
 abbrev μ-loop : tie.MeasureT-loop
 μ-loop share cumulative room demand low₀ high₀ low high = high - low
@@ -19,7 +21,7 @@ abbrev Above : tie.Else1 Inv-loop μ-loop → tie.At-loop Inv-loop μ-loop
 Above c = c .before .before .before .before
 
 loop-holds : tie.Need-loop-holds Inv-loop μ-loop
-loop-holds c = between-none
+loop-holds c = between-none (outflow-le _ _ _ _)
 
 sub-middle : tie.Need-sub-middle Inv-loop μ-loop
 sub-middle c = omega arith
@@ -37,7 +39,7 @@ loop-less : tie.Need-loop-less Inv-loop μ-loop
 loop-less c = omega arith
 
 loop-again : tie.Need-loop-again Inv-loop μ-loop
-loop-again c = between-fits (Fits c .loop .inv) (omega arith) (omega arith)
+loop-again c = let l = Fits c in between-fits (l .loop .inv) (outflow-greatest _ _ _ _ _ (omega (arith, l .loop .inv .within)) (omega arith))
 
 sub-high : tie.Need-sub-high Inv-loop μ-loop
 sub-high c = omega arith
@@ -46,7 +48,7 @@ loop-less-2 : tie.Need-loop-less-2 Inv-loop μ-loop
 loop-less-2 c = omega arith
 
 loop-again-2 : tie.Need-loop-again-2 Inv-loop μ-loop
-loop-again-2 c = between-above (Above c .loop .inv) (omega arith) (omega arith) (omega arith)
+loop-again-2 c = between-above (Above c .loop .inv) (omega arith) (outflow-under _ _ _ _ _ (omega arith))
 
 returns : tie.Need-returns Inv-loop μ-loop
 returns c = between-end (c .before .loop .inv) (c .loop-test .left)

@@ -7,7 +7,7 @@ use native.Mathlib.Omega.{arith}
 use borrow.Author.Tests.{not-true, not-false}
 use Rattle.road.specs.declared.State.{State}
 use Rattle.road.specs.Road.{mostBytes}
-use Rattle.road.specs.Study.{Study, study}
+use Rattle.studies.specs.Study.{Study, study}
 use Rattle.header.specs.Header.{sizeOf}
 use Rattle.reading.specs.Reading.{studyBy}
 use Rattle.writing.specs.Writing.{written}

@@ -4,9 +4,9 @@ use mathlib.Core.List.{[]}
 use native.Mathlib.Omega.{arith}
 use lib.ListN.{length}
 use Rattle.road.specs.Road.{mostCells, startState}
-use Rattle.road.specs.Study.{Study}
+use Rattle.studies.specs.Study.{Study}
 use Rattle.reading.specs.Reading.{studyBy}
-use Rattle.joining.specs.BytesLaws.{room-first, room-second, room-rows, joined-puts}
+use Rattle.joining.specs.JoinedBytes.{room-first, room-second, room-rows, joined-puts}
 use borrow.Author.Needs.{needs}
 use Rattle.joining.proofs.put_joined.Statement.{statement}
 use Rattle.joining.proofs.put_joined.Tie as tie

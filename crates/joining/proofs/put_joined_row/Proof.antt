@@ -1,6 +1,6 @@
 -- `joining::put_joined_row` meets its contract: one row after the other. Assumes nothing.
 use native.Mathlib.Omega.{arith}
-use Rattle.joining.specs.BytesLaws.{room-row, room-rest, row-puts}
+use Rattle.joining.specs.JoinedBytes.{room-row, room-rest, row-puts}
 use borrow.Author.Needs.{needs}
 use Rattle.joining.proofs.put_joined_row.Statement.{statement}
 use Rattle.joining.proofs.put_joined_row.Tie as tie

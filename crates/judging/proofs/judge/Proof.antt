@@ -5,7 +5,7 @@ use Rattle.reading.specs.Reading.{studyBy, readAnswer}
 use Rattle.schedules.specs.Schedules.{endAnswer}
 use Rattle.schedules.specs.Opening.{opened-readable}
 use Rattle.schedules.specs.Readable.{Readable}
-use Rattle.judging.specs.Passed.{answer-unopened, answer-length, answer-rows}
+use Rattle.judging.specs.Obeyed.{answer-unopened, answer-length, answer-rows}
 use borrow.Author.Needs.{needs}
 use native.Mathlib.Omega.{arith}
 use Rattle.judging.proofs.judge.Statement.{statement}

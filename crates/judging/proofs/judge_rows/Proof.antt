@@ -7,18 +7,17 @@ use Prim.Native.Nat.{ℕ, _+_, _-_, _≤_}
 use lib.ListN.{length, take, drop, length-take, length-replicate}
 use Rattle.rows.specs.TablesLaws.{part-row, part-length}
 use Rattle.road.specs.declared.State.{State}
-use Rattle.road.specs.Refusals.{refusalNumber}
-use Rattle.road.specs.Study.{Study, places, withCapacity}
+use Rattle.road.specs.Refusals.{refusalNumber, faultAnswer}
+use Rattle.studies.specs.Study.{Study, places, withCapacity}
 use Rattle.fields.specs.Fields.{rowNumbers}
 use Rattle.fields.specs.FieldsLaws.{length-row}
 use Rattle.lanes.specs.LanesLaws.{rows-within}
 use Rattle.model.specs.Opened.{OnRoad, Turned, on-road, turned-road, turned-on}
 use Rattle.model.specs.Verdict.{verdictOf}
-use Rattle.releases.specs.Faults.{faultOf}
 use Rattle.columns.specs.Columns.{stateOf}
 use Rattle.reading.specs.Reading.{studyBy}
 use Rattle.schedules.specs.Schedules.{ended, endAnswer}
-use Rattle.judging.specs.Passed.{Passed, JudgeTurn, passed-none, passed-more, passed-end, row-ends-by, ends-fault, proposed, steps-left, movable}
+use Rattle.judging.specs.Obeyed.{Obeyed, JudgeTurn, obeyed-none, obeyed-more, obeyed-end, row-ends-by, ends-fault, proposed, steps-left, movable}
 use borrow.Author.Needs.{needs}
 use native.Mathlib.Omega.{arith}
 use Rattle.judging.proofs.judge_rows.Statement.{statement}
@@ -27,7 +26,7 @@ use Rattle.judging.proofs.judge_rows.Tie as tie
 abbrev Inv-loop : tie.InvT-loop
 Inv-loop bytes table r steps schedule _ _ _ _ _ held₀ queue₀ cumulative₀ l₀ _ _ _ _ road held queue cumulative l row room k from =
     let a = studyBy bytes table r (stateOf l₀ held₀ queue₀ cumulative₀) steps in
-    Passed a schedule (stateOf l held queue cumulative) k from × (OnRoad a road × ((rowNumbers (r .n) ≤ length row) × (length room ≡ 64)))
+    Obeyed a schedule (stateOf l held queue cumulative) k from × (OnRoad a road × ((rowNumbers (r .n) ≤ length row) × (length room ≡ 64)))
 
 abbrev μ-loop : tie.MeasureT-loop
 μ-loop bytes table r steps schedule _ _ _ _ _ held₀ queue₀ cumulative₀ l₀ _ _ _ _ road held queue cumulative l row room k from =
@@ -110,7 +109,7 @@ turn c =
     let zs = A l .args .schedule .now in
     record {
       ok = A l .pre .readable .ok;
-      passed = l .loop .inv .0;
+      obeyed = l .loop .inv .0;
       left = In c .loop-test .taken;
       road = turned-road (turned (Joined c));
       numbers = c .read-row .ensures;
@@ -121,7 +120,7 @@ turn c =
 -- what the code finds of the row, and of which number
 found : (c : tie.After-number Inv-loop μ-loop) →
     let r = Read c in
-    faultOf (c .before .verdict .result) ≡ verdictOf (Joined r .if1 .road) (Now (In r .before)) (Row r) (Outflows (In r))
+    faultAnswer (c .before .verdict .result) ≡ verdictOf (Joined r .if1 .road) (Now (In r .before)) (Row r) (Outflows (In r))
 found c = let r = Read c in c .before .verdict .ensures .0 (Joined r .if1 .road) (In r .before .loop .l)
 
 passes : (c : tie.Else2 Inv-loop μ-loop) → refusalNumber (c .before .before .verdict .result .refusal) ≡ 0
@@ -139,7 +138,7 @@ add-places c = search needs
 loop-holds : tie.Need-loop-holds Inv-loop μ-loop
 loop-holds c =
     let cells = Begun c .pre .readable .ok .road .cells in
-    (passed-none, (on-road, (omega (arith, length-replicate {A = ℕ} 129 0, cells), length-replicate {A = ℕ} 64 0)))
+    (obeyed-none, (on-road, (omega (arith, length-replicate {A = ℕ} 129 0, cells), length-replicate {A = ℕ} 64 0)))
 
 step-capacities-requires : tie.Need-step-capacities-requires Inv-loop μ-loop
 step-capacities-requires c κs =
@@ -226,7 +225,7 @@ loop-again c =
     let p = Passes c in
     let f = p .before in
     let r = Read f in (
-      passed-more (turn r) (found f) (passes p) (c .advance .ensures (Joined r .if1 .road)),
+      obeyed-more (turn r) (found f) (passes p) (c .advance .ensures (Joined r .if1 .road)),
       (turned-on (turned (Joined r)), (omega (arith, holds r), f .before .verdict .ensures .1)),
     )
 
@@ -240,7 +239,7 @@ returns-2 : tie.Need-returns-2 Inv-loop μ-loop
 returns-2 c =
     let l = c .before .before .before in
     let e = ap endAnswer (c .complete .ensures) ∙ ap (λ (u : State). ended 0 0 0 (A l .args .r) u) (c .before .state2 .ensures) in
-    passed-end (l .loop .inv .0) (search needs) e
+    obeyed-end (l .loop .inv .0) (search needs) e
 
 pub judge-rows-spec : {M : Type 1} → statement M
 judge-rows-spec =

@@ -4,9 +4,10 @@ use Prim.Native.Nat.{_+_, _*_, _-_, _<_}
 use lib.ListN.{length}
 use native.Mathlib.Omega.{arith}
 use borrow.Author.Tests.{not-true, not-false}
+use Rattle.numbers.specs.FirstLaws.{Passed, passed-none, passed-more, passed-fails, passed-all}
 use Rattle.rows.specs.TablesLaws.{mul-more}
 use Rattle.lanes.specs.Lanes.{lanesAt, builtIn, openIn}
-use Rattle.lanes.specs.LanesLaws.{Passed, passed-none, passed-more, passed-fails, passed-all, cell-found, byte-within}
+use Rattle.lanes.specs.LanesLaws.{cell-found, byte-within}
 use borrow.Author.Needs.{needs}
 use Rattle.lanes.proofs.cell_in_table.Statement.{statement}
 use Rattle.lanes.proofs.cell_in_table.Tie as tie

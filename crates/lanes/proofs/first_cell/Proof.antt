@@ -1,8 +1,8 @@
 -- `lanes::first_cell` meets its contract. The invariant: the lanes of the i cells passed are as they should be. Assumes nothing.
 use Prim.Native.Nat.{_-_}
 use borrow.Author.Tests.{not-true, not-false}
+use Rattle.numbers.specs.FirstLaws.{Passed, passed-none, passed-more, passed-stop, passed-end}
 use Rattle.lanes.specs.Lanes.{lanesAt}
-use Rattle.lanes.specs.LanesLaws.{Passed, passed-none, passed-more, passed-stop, passed-end}
 use borrow.Author.Needs.{needs}
 use Rattle.lanes.proofs.first_cell.Statement.{statement}
 use Rattle.lanes.proofs.first_cell.Tie as tie

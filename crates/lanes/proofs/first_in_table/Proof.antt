@@ -1,8 +1,8 @@
 -- `lanes::first_in_table` meets its contract. The invariant: the i cells passed pass in all rows. Assumes nothing.
 use Prim.Native.Nat.{_-_}
 use borrow.Author.Tests.{not-true, not-false}
+use Rattle.numbers.specs.FirstLaws.{Passed, passed-none, passed-more, passed-stop, passed-end}
 use Rattle.lanes.specs.Lanes.{tableAt}
-use Rattle.lanes.specs.LanesLaws.{Passed, passed-none, passed-more, passed-stop, passed-end}
 use borrow.Author.Needs.{needs}
 use Rattle.lanes.proofs.first_in_table.Statement.{statement}
 use Rattle.lanes.proofs.first_in_table.Tie as tie

@@ -1,13 +1,13 @@
 -- `lanes::open_capacities` meets its contract. The invariant: the capacities of the i cells passed are those of their open lanes. Assumes nothing.
 use Prim.Native.Nat.{_-_, _≤_}
 use native.Mathlib.Omega.{arith}
-use Rattle.lanes.specs.LanesLaws.{Opened, opened-none, opened-more, opened-end}
+use Rattle.lanes.specs.LanesLaws.{OpenedCells, opened-none, opened-more, opened-end}
 use borrow.Author.Needs.{needs}
 use Rattle.lanes.proofs.open_capacities.Statement.{statement}
 use Rattle.lanes.proofs.open_capacities.Tie as tie
 
 abbrev Inv-loop : tie.InvT-loop
-Inv-loop built usable n capacity left₀ i₀ left i = (i ≤ n) × Opened capacity built usable left i
+Inv-loop built usable n capacity left₀ i₀ left i = (i ≤ n) × OpenedCells capacity built usable left i
 
 abbrev μ-loop : tie.MeasureT-loop
 μ-loop built usable n capacity left₀ i₀ left i = n - i

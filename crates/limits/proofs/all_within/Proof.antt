@@ -3,7 +3,7 @@ use Prim.Native.Nat.{ℕ, _-_, _≤_, _<_}
 use lib.ListN.{length}
 use borrow.Author.Count.{below-more, below-none}
 use Rattle.numbers.specs.Lists.{at}
-use Rattle.limits.specs.Within.{within-true, within-fails}
+use Rattle.limits.specs.AllWithin.{within-true, within-fails}
 use borrow.Author.Needs.{needs}
 use native.Mathlib.Omega.{arith}
 use Rattle.limits.proofs.all_within.Statement.{statement}

@@ -2,7 +2,7 @@
 use mathlib.Core.Path.{_≡_, sym, _∙_}
 use Rattle.road.specs.Refusals.{refusalNumber}
 use Rattle.reading.specs.Within.{read-within}
-use Rattle.opening.specs.Opened.{opened-refused, opened-closed, opened-whole}
+use Rattle.opening.specs.OpeningEnds.{opened-refused, opened-closed, opened-whole}
 use borrow.Author.Needs.{needs}
 use Rattle.opening.proofs.opened.Statement.{statement}
 use Rattle.opening.proofs.opened.Tie as tie

@@ -7,13 +7,12 @@ use lib.ListN.{length, take, length-take, length-replicate}
 use lib.Seq.{length-take-le}
 use Rattle.road.specs.declared.Road.{Road}
 use Rattle.road.specs.declared.State.{State}
-use Rattle.road.specs.Refusals.{refusalNumber}
-use Rattle.road.specs.Study.{Study}
+use Rattle.road.specs.Refusals.{refusalNumber, faultAnswer}
+use Rattle.studies.specs.Study.{Study}
 use Rattle.fields.specs.Fields.{rowNumbers}
 use Rattle.fields.specs.FieldsLaws.{length-row}
 use Rattle.model.specs.Opened.{same-road}
 use Rattle.model.specs.Step.{releasesOf}
-use Rattle.releases.specs.Faults.{faultOf}
 use Rattle.columns.specs.Columns.{stateOf}
 use Rattle.reading.specs.Reading.{studyBy}
 use Rattle.running.specs.Ran.{RanTurn, releasable, ends-fault, steps-on}
@@ -105,7 +104,7 @@ holds c =
 -- what the code finds of the releases, and that it finds no fault
 found : (c : tie.After-number Inv-loop μ-loop) →
     let r = Read c in
-    faultOf (c .before .releases .result) ≡ releasesOf (On (A (In r .before))) (Now (In r .before)) (Row r)
+    faultAnswer (c .before .releases .result) ≡ releasesOf (On (A (In r .before))) (Now (In r .before)) (Row r)
 found c =
     let l = In (Read c) .before in
     c .before .releases .ensures .0 (On (A l)) (l .loop .l) (l .loop .cumulative)

@@ -4,9 +4,11 @@ use mathlib.Core.Path.{_≡_, ap, _∙_}
 use Prim.Native.Nat.{ℕ, _-_, _+_, _*_, _≤_}
 use lib.ListN.{length}
 use Rattle.numbers.specs.Lists.{at}
+use Rattle.numbers.specs.FirstLaws.{Passed, passed-none, passed-more, passed-fails, passed-all}
+use Rattle.road.specs.Road.{mostRate}
 use Rattle.fields.specs.Fields.{versionOf, rowStart, recordRow, rowSize}
 use Rattle.limits.specs.Limits.{ratesAt}
-use Rattle.limits.specs.LimitsLaws.{Rated, rates-stop, rated-none, rated-more, rated-stop, rated-end}
+use Rattle.limits.specs.LimitsLaws.{gate-above, gate-within}
 use Rattle.reading.specs.ReadingLaws.{entry-read, rates-read}
 use borrow.Author.Needs.{needs}
 use native.Mathlib.Omega.{arith}
@@ -14,7 +16,7 @@ use Rattle.reading.proofs.row_within.Statement.{statement}
 use Rattle.reading.proofs.row_within.Tie as tie
 
 abbrev Inv-loop : tie.InvT-loop
-Inv-loop bytes ramp n t start i₀ i = Rated ramp n (recordRow bytes n t) i
+Inv-loop bytes ramp n t start i₀ i = let row = recordRow bytes n t in (at row 0 ≤ mostRate) × Passed (ratesAt ramp row) n i
 
 abbrev μ-loop : tie.MeasureT-loop
 μ-loop bytes ramp n t start i₀ i = n - i
@@ -58,7 +60,7 @@ gate c =
 found : (c : tie.After-rates-within Inv-loop μ-loop) →
     let l = In (Read c) .before in
     let a = Args (At l) .args in
-    ratesAt (a .ramp .now) (recordRow (a .bytes .now) (a .n) (a .t)) (l .loop .i) ≡ c .rates-within .result
+    c .rates-within .result ≡ ratesAt (a .ramp .now) (recordRow (a .bytes .now) (a .n) (a .t)) (l .loop .i)
 found c =
     let r = Read c in
     let t = In r in
@@ -80,12 +82,10 @@ number-requires : tie.Need-number-requires Inv-loop μ-loop
 number-requires c κs = (omega arith, omega (arith, held c))
 
 returns : tie.Need-returns Inv-loop μ-loop
-returns c =
-    let a = Args (c .before .before) .args in
-    rates-stop (a .ramp .now) (a .n) (recordRow (a .bytes .now) (a .n) (a .t)) (omega (arith, gate (c .before), c .if1 .taken))
+returns c = gate-above _ _ _ (omega (arith, gate (c .before), c .if1 .taken))
 
 loop-holds : tie.Need-loop-holds Inv-loop μ-loop
-loop-holds c = rated-none (omega (arith, gate (c .before), c .if1 .left))
+loop-holds c = (omega (arith, gate (c .before), c .if1 .left), passed-none)
 
 add-place-2 : tie.Need-add-place-2 Inv-loop μ-loop
 add-place-2 c = omega (arith, held (At (c .before)))
@@ -102,15 +102,17 @@ number-requires-3 c κs = (omega arith, omega (arith, held (At (c .before .befor
 returns-2 : tie.Need-returns-2 Inv-loop μ-loop
 returns-2 c =
     let t = In (Read (c .before)) in
-    rated-stop (t .before .loop .inv) (t .loop-test .taken) (found (c .before) ∙ not-true _ (c .if2 .taken))
+    let h = t .before .loop .inv in
+    gate-within _ _ _ (h .0) (passed-fails (h .1) (t .loop-test .taken) (found (c .before)) (not-true _ (c .if2 .taken)))
 
 loop-again : tie.Need-loop-again Inv-loop μ-loop
 loop-again c =
     let t = In (Read (c .before)) in
-    rated-more (t .before .loop .inv) (t .loop-test .taken) (found (c .before) ∙ not-false _ (c .if2 .left))
+    let h = t .before .loop .inv in
+    (h .0, passed-more (h .1) (t .loop-test .taken) (found (c .before)) (not-false _ (c .if2 .left)))
 
 returns-3 : tie.Need-returns-3 Inv-loop μ-loop
-returns-3 c = rated-end (c .before .loop .inv) (c .loop-test .left)
+returns-3 c = let h = c .before .loop .inv in gate-within _ _ _ (h .0) (passed-all (h .1) (c .loop-test .left))
 
 pub row-within-spec : {M : Type 1} → statement M
 row-within-spec =

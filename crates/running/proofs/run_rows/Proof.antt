@@ -8,14 +8,13 @@ use Prim.Native.Nat.{ℕ, _+_, _-_, _≤_}
 use lib.ListN.{length, take, length-take, length-replicate}
 use Rattle.rows.specs.TablesLaws.{part-length}
 use Rattle.road.specs.declared.State.{State}
-use Rattle.road.specs.Refusals.{refusalNumber}
-use Rattle.road.specs.Study.{Study, places, withCapacity}
+use Rattle.road.specs.Refusals.{refusalNumber, faultAnswer}
+use Rattle.studies.specs.Study.{Study, places, withCapacity}
 use Rattle.fields.specs.Fields.{rowNumbers}
 use Rattle.fields.specs.FieldsLaws.{length-row}
 use Rattle.lanes.specs.LanesLaws.{rows-within}
 use Rattle.model.specs.Opened.{OnRoad, Turned, on-road, turned-road, turned-on}
 use Rattle.model.specs.Step.{releasesOf}
-use Rattle.releases.specs.Faults.{faultOf}
 use Rattle.columns.specs.Columns.{stateOf}
 use Rattle.reading.specs.Reading.{studyBy}
 use Rattle.reading.specs.Table.{mostOutflows}
@@ -124,7 +123,7 @@ holds c =
 -- what the code finds of the releases, and of which number
 found : (c : tie.After-number Inv-loop μ-loop) →
     let r = Read c in
-    faultOf (c .before .releases .result) ≡ releasesOf (Joined r .if1 .road) (Now (In r .before)) (Row r)
+    faultAnswer (c .before .releases .result) ≡ releasesOf (Joined r .if1 .road) (Now (In r .before)) (Row r)
 found c =
     let r = Read c in
     let p = In r .before .loop in

@@ -1,6 +1,6 @@
 -- `stepping::fill_outflows` meets its contract: the releases fit, so their look leaves the rooms. Assumes nothing.
 use mathlib.Core.Path.{ap, _∙_}
-use Rattle.model.specs.Step as model
+use Rattle.road.specs.Refusals.{FaultAnswer}
 use Rattle.model.specs.StepLaws.{fit-releases}
 use Rattle.columns.specs.Columns.{ledgerOf}
 use borrow.Author.Needs.{needs}
@@ -28,7 +28,7 @@ returns c =
     let r = a .args .t1 in
     let s = a .args .t2 in
     let row = a .args .row .now in
-    let none = ap (λ (q : model.Fault). q .number) (l .releases .ensures .0 r (ledgerOf s) (s .cumulative) ∙ fit-releases r s row (a .pre .0 .released)) in
+    let none = ap (λ (q : FaultAnswer). q .number) (l .releases .ensures .0 r (ledgerOf s) (s .cumulative) ∙ fit-releases r s row (a .pre .0 .released)) in
     o .outflows .ensures r (ledgerOf s) (s .queue) row (l .releases .ensures .1 .0 r (ledgerOf s) (s .cumulative) none)
 
 pub fill-outflows-spec : {M : Type 1} → statement M

@@ -8,7 +8,7 @@ use Rattle.road.specs.Road.{mostCells}
 use Rattle.limits.specs.Limits.{inputOk}
 use Rattle.limits.specs.LimitsLaws.{input-facts}
 use Rattle.model.specs.Rules.{Sized}
-use Rattle.stepping.specs.Answers.{stepAnswer}
+use Rattle.stepping.specs.StepAnswers.{stepAnswer}
 use Rattle.stepping.specs.Looked.{answer-input, cell-within, answer-lanes, answer-on, steps-on, sized}
 use native.Mathlib.Omega.{arith}
 use borrow.Author.Needs.{needs}

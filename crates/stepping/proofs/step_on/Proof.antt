@@ -3,7 +3,7 @@ use mathlib.Core.Path.{ap, sym, _∙_}
 use Prim.Native.Nat.{_≤_}
 use lib.Seq.{length-take-le}
 use Rattle.road.specs.Road.{mostCells}
-use Rattle.stepping.specs.Answers.{stepAnswer}
+use Rattle.stepping.specs.StepAnswers.{stepAnswer}
 use Rattle.stepping.specs.Looked.{Looked, answer-done, answer-fault, answer-next, steppable}
 use native.Mathlib.Omega.{arith}
 use borrow.Author.Needs.{needs}

@@ -5,7 +5,7 @@ use native.Mathlib.Omega.{arith}
 use lib.ListN.{length}
 use borrow.Author.Tests.{not-true, not-false}
 use Rattle.road.specs.Road.{mostRate}
-use Rattle.limits.specs.Within.{allWithin}
+use Rattle.limits.specs.AllWithin.{allWithin}
 use Rattle.street.specs.Street.{frameOk}
 use Rattle.street.specs.StreetLaws.{asked-frame, frame-ramps, asked-guarantees, asked-wishes, asked-sum}
 use borrow.Author.Needs.{needs}

@@ -4,12 +4,12 @@ use Prim.Native.Nat.{_-_}
 use lib.ListN.{length}
 use borrow.Author.Needs.{needs}
 use native.Mathlib.Omega.{arith}
-use Rattle.taking.specs.TakingLaws.{Copied, copied-none, copied-length, copied-more, copied-end}
+use Rattle.taking.specs.TakingLaws.{CopiedRow, copied-none, copied-length, copied-more, copied-end}
 use Rattle.taking.proofs.put_numbers.Statement.{statement}
 use Rattle.taking.proofs.put_numbers.Tie as tie
 
 abbrev Inv-loop : tie.InvT-loop
-Inv-loop part₀ row k₀ part k = Copied row part₀ part k
+Inv-loop part₀ row k₀ part k = CopiedRow row part₀ part k
 
 abbrev μ-loop : tie.MeasureT-loop
 μ-loop part₀ row k₀ part k = length part₀ - k

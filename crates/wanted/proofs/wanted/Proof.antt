@@ -5,7 +5,7 @@ use lib.ListN.{length}
 use borrow.Author.Tests.{not-true, not-false}
 use Rattle.road.specs.Road.{mostRate}
 use Rattle.numbers.specs.Tests.{both-true}
-use Rattle.limits.specs.Within.{allWithin}
+use Rattle.limits.specs.AllWithin.{allWithin}
 use Rattle.wanted.specs.Wanted.{Asked, frameOk}
 use Rattle.wanted.specs.WantedLaws.{asked-limits}
 use Rattle.wanted.specs.Loops.{ends-frame, ends-arrivals, ends-none, ends-found}

@@ -2,13 +2,13 @@
 use Prim.Native.Nat.{ℕ, _+_, _-_, _*_}
 use native.Mathlib.Omega.{arith}
 use Rattle.numbers.specs.Lists.{at}
-use Rattle.weighing.specs.Summed.{Summed, summed-none, summed-more, summed-end}
+use Rattle.weighing.specs.Summed.{SummedProducts, summed-none, summed-more, summed-end}
 use borrow.Author.Needs.{needs}
 use Rattle.weighing.proofs.weighed_cells.Statement.{statement}
 use Rattle.weighing.proofs.weighed_cells.Tie as tie
 
 abbrev Inv-loop : tie.InvT-loop
-Inv-loop weights from counts n sum₀ i₀ sum i = Summed (λ k. at weights (from + k) * at counts k) n sum i
+Inv-loop weights from counts n sum₀ i₀ sum i = SummedProducts (λ k. at weights (from + k) * at counts k) n sum i
 
 abbrev μ-loop : tie.MeasureT-loop
 μ-loop weights from counts n sum₀ i₀ sum i = n - i

@@ -4,7 +4,7 @@ use Prim.Native.Nat.{_^_, _<_}
 use lib.ListN.{take}
 use native.Mathlib.Omega.{arith}
 use Rattle.rows.specs.Placed.{Text, text-room}
-use Rattle.words.specs.WordsLaws.{Made, decimal-most, word-put}
+use Rattle.words.specs.WordsLaws.{DigitsMade, decimal-most, word-put}
 use borrow.Author.Needs.{needs}
 use Rattle.words.proofs.word.Statement.{statement}
 use Rattle.words.proofs.word.Tie as tie
@@ -23,7 +23,7 @@ abbrev A : tie.After-decimal → tie.Start
 A c = c .before .before .before
 
 -- the digits that are put
-made : (c : tie.After-decimal) → Made (A c .args .n) (c .decimal .result) (take (c .decimal .result) (c .decimal .last .1 .0))
+made : (c : tie.After-decimal) → DigitsMade (A c .args .n) (c .decimal .result) (take (c .decimal .result) (c .decimal .last .1 .0))
 made c =
     let h : A c .args .n < 2 ^ 64 = search needs in
     let e = c .decimal .ensures in

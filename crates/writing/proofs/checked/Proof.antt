@@ -4,14 +4,13 @@ use Prim.Native.Nat.{ℕ, _+_}
 use lib.ListN.{length}
 use Rattle.numbers.specs.First.{firstOf}
 use Rattle.road.specs.declared.State.{State}
-use Rattle.road.specs.Road.{startState}
 use Rattle.road.specs.Refusals.{refusalNumber}
-use Rattle.road.specs.Study.{Study}
+use Rattle.studies.specs.Study.{Study}
 use Rattle.limits.specs.Limits.{placeOk}
 use Rattle.header.specs.HeaderLaws.{size-small}
-use Rattle.writing.specs.Writing.{unwritten, written, writingBy, writingOf}
-use Rattle.putting.specs.Record.{given}
-use Rattle.writing.specs.Checks.{frameOf, Framed, framed, answer-frame, answer-place, answer-step, answer-short, answer-written, by-given}
+use Rattle.writing.specs.Writing.{unwritten, written, frameOf, writingBy, writingOf}
+use Rattle.encoding.specs.Record.{given}
+use Rattle.writing.specs.Checks.{Framed, framed, answer-frame, answer-place, answer-step, answer-short, answer-written, by-given}
 use native.Mathlib.Omega.{arith}
 use borrow.Author.Needs.{needs}
 use Rattle.writing.proofs.checked.Statement.{statement}

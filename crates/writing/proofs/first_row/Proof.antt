@@ -1,18 +1,24 @@
 -- `writing::first_row` meets its contract. The invariant: the rows of the t steps passed are within their limits. Assumes nothing.
+use mathlib.Core.Path.{_≡_, ap, _∙_}
 use mathlib.Core.List.{List}
 use Prim.Native.Nat.{ℕ, _+_, _-_, _*_, _≤_}
 use lib.ListN.{length, take, drop}
 use borrow.Author.Tests.{not-true, not-false}
-use Rattle.rows.specs.TablesLaws.{part-row, part-length}
+use Rattle.numbers.specs.FirstLaws.{Passed, passed-none, passed-more, passed-stop, passed-end}
+use Rattle.rows.specs.Tables.{rowAt}
+use Rattle.rows.specs.TablesLaws.{part-row, part-length, mul-more}
 use Rattle.fields.specs.Fields.{rowNumbers}
-use Rattle.writing.specs.Checks.{Passed, Turn, passed-none, passed-more, passed-stop, passed-end, passed-fits}
+use Rattle.limits.specs.Limits.{rowOk}
+use Rattle.writing.specs.Writing.{rowsOk}
+use Rattle.writing.specs.Checks.{row-fits}
 use borrow.Author.Needs.{needs}
 use native.Mathlib.Omega.{arith}
 use Rattle.writing.proofs.first_row.Statement.{statement}
 use Rattle.writing.proofs.first_row.Tie as tie
 
 abbrev Inv-loop : tie.InvT-loop
-Inv-loop ramp n rows steps numbers from₀ t₀ from t = Passed ramp rows n steps from t
+Inv-loop ramp n rows steps numbers from₀ t₀ from t =
+    (from ≡ t * rowNumbers n) × Passed (rowsOk ramp n (rowAt rows (rowNumbers n))) steps t
 
 abbrev μ-loop : tie.MeasureT-loop
 μ-loop ramp n rows steps numbers from₀ t₀ from t = steps - t
@@ -31,24 +37,20 @@ Row c =
     take (l .loop .from + rowNumbers (A l .args .n) - l .loop .from) (drop (l .loop .from) (A l .args .rows .now))
 
 fits : (c : tie.In-loop Inv-loop μ-loop) → c .before .loop .from + rowNumbers (A (c .before) .args .n) ≤ length (A (c .before) .args .rows .now)
-fits c = passed-fits (c .before .loop .inv) (A (c .before) .pre) (c .loop-test .taken)
+fits c = row-fits (A (c .before) .pre) (c .before .loop .inv .0) (c .loop-test .taken)
 
-turn : (c : tie.After-row-within Inv-loop μ-loop) →
+-- what the code finds of it
+found : (c : tie.After-row-within Inv-loop μ-loop) →
     let l = In c .before in
     let a = A l .args in
-    Turn (a .ramp) (a .rows .now) (a .n) (a .steps) (l .loop .from) (l .loop .t) (Row (In c)) (c .row-within .result)
-turn c =
+    c .row-within .result ≡ rowsOk (a .ramp) (a .n) (rowAt (a .rows .now) (rowNumbers (a .n))) (l .loop .t)
+found c =
     let l = In c .before in
     let a = A l .args in
-    record {
-      passed = l .loop .inv;
-      left = In c .loop-test .taken;
-      numbers = part-row (a .rows .now) (rowNumbers (a .n)) (l .loop .t) (l .loop .from) (l .loop .inv .place);
-      test = c .row-within .ensures;
-    }
+    c .row-within .ensures ∙ ap (rowOk (a .ramp) (a .n)) (part-row (a .rows .now) (rowNumbers (a .n)) (l .loop .t) (l .loop .from) (l .loop .inv .0))
 
 loop-holds : tie.Need-loop-holds Inv-loop μ-loop
-loop-holds c = passed-none
+loop-holds c = (omega arith, passed-none)
 
 add-end : tie.Need-add-end Inv-loop μ-loop
 add-end c = omega (arith, fits c)
@@ -66,13 +68,18 @@ row-within-requires c κs =
     (A l .pre .cells, part-length (a .rows .now) (l .loop .from) (rowNumbers (a .n)) (fits (c .before)))
 
 returns : tie.Need-returns Inv-loop μ-loop
-returns c = passed-stop (turn (c .before)) (not-true _ (c .if1 .taken))
+returns c = let t = In (c .before) in passed-stop (t .before .loop .inv .1) (t .loop-test .taken) (found (c .before)) (not-true _ (c .if1 .taken))
 
 loop-again : tie.Need-loop-again Inv-loop μ-loop
-loop-again c = passed-more (turn (c .before)) (not-false _ (c .if1 .left))
+loop-again c =
+    let t = In (c .before) in
+    let l = t .before in (
+      omega (arith, l .loop .inv .0, mul-more (l .loop .t) (rowNumbers (A l .args .n))),
+      passed-more (l .loop .inv .1) (t .loop-test .taken) (found (c .before)) (not-false _ (c .if1 .left)),
+    )
 
 returns-2 : tie.Need-returns-2 Inv-loop μ-loop
-returns-2 c = passed-end (c .before .loop .inv) (search needs)
+returns-2 c = passed-end (c .before .loop .inv .1) (search needs)
 
 pub first-row-spec : {M : Type 1} → statement M
 first-row-spec =

@@ -6,7 +6,7 @@ use lib.ListN.{length, length-set}
 use Rattle.road.specs.declared.Road.{Road}
 use Rattle.columns.specs.declared.Ledger.{Ledger}
 use Rattle.columns.specs.Columns.{sending, gated, stateOf}
-use Rattle.outflows.specs.Outflows.{Filled, filled-none, filled-more, filled-end}
+use Rattle.outflows.specs.Outflows.{FilledOutflows, filled-none, filled-more, filled-end}
 use Rattle.outflows.specs.Rooms.{Rooms}
 use borrow.Author.Needs.{needs}
 use Rattle.outflows.proofs.lent.outflows.Statement.{statement}
@@ -17,7 +17,7 @@ Inv-loop n gate-capacity speed share capacity gate-queue gate-cumulative held cu
     (length y ≡ n + 1) × ((r : Road) (l : Ledger) (queue row : List ℕ) →
     let q = sending r n gate-capacity speed share capacity in
     let s = stateOf (gated l gate-queue gate-cumulative) held queue cumulative in
-    Rooms q s row room → Filled q s row y₀ y part before demand i)
+    Rooms q s row room → FilledOutflows q s row y₀ y part before demand i)
 
 abbrev μ-loop : tie.MeasureT-loop
 μ-loop n gate-capacity speed share capacity gate-queue gate-cumulative held cumulative room y₀ part₀ before₀ demand₀ i₀ y part before demand i = n - i

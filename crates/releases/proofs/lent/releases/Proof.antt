@@ -4,12 +4,16 @@ use mathlib.Core.List.{List}
 use Prim.Native.Nat.{ℕ, _-_}
 use native.Mathlib.Omega.{arith}
 use lib.ListN.{length, length-set}
+use Rattle.numbers.specs.FirstLaws.{Faultless, faultless-none, faultless-more}
 use Rattle.road.specs.declared.Road.{Road}
+use Rattle.road.specs.declared.State.{State}
 use Rattle.road.specs.Refusals.{refusalNumber}
+use Rattle.model.specs.Step.{releaseFaultAt}
+use Rattle.model.specs.StepLaws.{lowest-stop, lowest-end}
 use Rattle.columns.specs.declared.Ledger.{Ledger}
 use Rattle.columns.specs.Columns.{supplying, stateOf}
 use Rattle.outflows.specs.Rooms.{Roomed, roomed-none, roomed-more, roomed-end}
-use Rattle.releases.specs.Fitted.{Fitted, Turn, fitted-none, fitted-more, fitted-fault, fitted-end}
+use Rattle.releases.specs.Faults.{release-found}
 use borrow.Author.Needs.{needs}
 use Rattle.releases.proofs.lent.releases.Statement.{statement}
 use Rattle.releases.proofs.lent.releases.Tie as tie
@@ -19,7 +23,7 @@ Inv-loop n wave jam capacity held queue row room₀ i₀ room i =
     (length room ≡ 64) × ((r : Road) (l : Ledger) (cumulative : List ℕ) →
     let q = supplying r n wave jam capacity in
     let s = stateOf l held queue cumulative in
-    Fitted q s row i × Roomed q s row room₀ room i)
+    Faultless (releaseFaultAt q s row) n i × Roomed q s row room₀ room i)
 
 abbrev μ-loop : tie.MeasureT-loop
 μ-loop n wave jam capacity held queue row room₀ i₀ room i = n - i
@@ -37,39 +41,43 @@ Supply c = c .before .before .before
 abbrev Most : tie.After-release-refusal Inv-loop μ-loop → tie.After-most-release Inv-loop μ-loop
 Most c = c .before
 
--- what a turn finds, on any road and in any state of these columns
-turn : (c : tie.After-release-refusal Inv-loop μ-loop) (r : Road) (l : Ledger) (cumulative : List ℕ) →
+-- any road and any state with the columns that were lent, and what a turn finds on it
+abbrev On : tie.Start Inv-loop μ-loop → Road → Road
+On c r = let a = c .args in supplying r (a .n) (a .wave .now) (a .jam .now) (a .capacity .now)
+
+abbrev From : tie.Start Inv-loop μ-loop → Ledger → List ℕ → State
+From c l cumulative = stateOf l (c .args .held .now) (c .args .queue .now) cumulative
+
+found : (c : tie.After-release-refusal Inv-loop μ-loop) (r : Road) (l : Ledger) (cumulative : List ℕ) →
+    let p = In (Supply (Most c)) .before in
+    refusalNumber (c .release-refusal .result) ≡ releaseFaultAt (On (A p) r) (From (A p) l cumulative) (A p .args .row .now) (p .loop .i)
+found c r l cumulative =
     let m = Most c in
     let p = In (Supply m) .before in
-    let a = A p .args in
-    Turn (supplying r (a .n) (a .wave .now) (a .jam .now) (a .capacity .now)) (stateOf l (a .held .now) (a .queue .now) cumulative) (a .row .now)
-    (p .loop .i) (Supply m .supply .result) (m .most-release .result) (refusalNumber (c .release-refusal .result))
-turn c r l cumulative = record {
-  fitted = In (Supply (Most c)) .before .loop .inv .1 r l cumulative .0;
-  left = In (Supply (Most c)) .loop-test .taken;
-  supplied = Supply (Most c) .supply .ensures;
-  there = Most c .most-release .ensures;
-  number = c .release-refusal .ensures;
-}
+    release-found (On (A p) r) (From (A p) l cumulative) (A p .args .row .now) (p .loop .i)
+    (Supply m .supply .ensures) (m .most-release .ensures) (c .release-refusal .ensures)
 
 loop-holds : tie.Need-loop-holds Inv-loop μ-loop
-loop-holds c = (c .before .pre .1 .1, λ r l cumulative. (fitted-none, roomed-none))
+loop-holds c = (c .before .pre .1 .1, λ r l cumulative. (faultless-none, roomed-none))
 
 returns : tie.Need-returns Inv-loop μ-loop
 returns c =
-    let m = c .before in (
-      λ r l cumulative. fitted-fault (turn (m .before) r l cumulative) (λ z. c .if1 .taken (m .number .ensures ∙ z)),
-      (λ r l cumulative z. absurd (c .if1 .taken (m .number .ensures ∙ z)), In (Supply (Most (m .before))) .before .loop .inv .0),
+    let m = c .before in
+    let t = In (Supply (Most (m .before))) in
+    let some : refusalNumber (m .before .release-refusal .result) ≡ 0 → ⊥ = λ z. c .if1 .taken (m .number .ensures ∙ z) in (
+      λ r l cumulative. lowest-stop _ _ 1 (t .before .loop .inv .1 r l cumulative .0) (t .loop-test .taken) (found (m .before) r l cumulative) some,
+      (λ r l cumulative z. absurd (some z), t .before .loop .inv .0),
     )
 
 loop-again : tie.Need-loop-again Inv-loop μ-loop
 loop-again c =
     let m = c .before .before in
     let passed = sym (m .number .ensures) ∙ c .before .if1 .left in
-    let p = In (Supply (Most (m .before))) .before in (
+    let t = In (Supply (Most (m .before))) in
+    let p = t .before in (
       simp length-set (p .loop .inv .0),
       λ r l cumulative. (
-        fitted-more (turn (m .before) r l cumulative) passed,
+        faultless-more (p .loop .inv .1 r l cumulative .0) (t .loop-test .taken) (found (m .before) r l cumulative) passed,
         roomed-more (p .loop .inv .1 r l cumulative .1) (Supply (Most (m .before)) .supply .ensures) (c .room .ensures),
       ),
     )
@@ -78,7 +86,7 @@ returns-2 : tie.Need-returns-2 Inv-loop μ-loop
 returns-2 c =
     let p = c .before in
     let long = A p .pre .1 .1 in (
-      λ r l cumulative. fitted-end (p .loop .inv .1 r l cumulative .0) (c .loop-test .left),
+      λ r l cumulative. lowest-end _ _ 1 (p .loop .inv .1 r l cumulative .0) (c .loop-test .left),
       (
         λ r l cumulative z. roomed-end (p .loop .inv .1 r l cumulative .1) (c .loop-test .left)
             (omega (arith, long, p .loop .inv .1 r l cumulative .0 .within, A p .pre .0)),

@@ -1,15 +1,18 @@
 -- `verdict::lent::outflows_fault` meets its contract. The invariant: the outflows of the i places passed obey. Assumes nothing.
-use mathlib.Core.Path.{sym, _∙_}
+use mathlib.Core.Path.{_≡_, sym, ap, _∙_}
 use mathlib.Core.List.{List}
-use Prim.Native.Nat.{ℕ, _-_}
+use Prim.Native.Nat.{ℕ, _+_, _-_}
 use Rattle.road.specs.declared.Road.{Road}
 use Rattle.road.specs.declared.State.{State}
-use Rattle.road.specs.Refusals.{refusalNumber}
-use Rattle.numbers.specs.Lists.{at}
+use Rattle.road.specs.Refusals.{refusalNumber, fault}
+use Rattle.numbers.specs.FirstLaws.{Faultless, faultless-none, faultless-more}
+use Rattle.model.specs.StepLaws.{lowest-stop}
+use Rattle.model.specs.Verdict.{outflowFaultAt}
 use Rattle.columns.specs.declared.Ledger.{Ledger}
 use Rattle.columns.specs.Columns.{sending, gated, stateOf}
 use Rattle.outflows.specs.Rooms.{Rooms}
-use Rattle.verdict.specs.Proposed.{Passed, Turn, passed-none, passed-more, passed-fault, passed-last, passed-end}
+use Rattle.outflows.specs.Carried.{Carried, carried-gate, carried-cell}
+use Rattle.verdict.specs.Proposed.{outflow-found, last-fault, last-end}
 use borrow.Author.Needs.{needs}
 use native.Mathlib.Omega.{arith}
 use Rattle.verdict.proofs.lent.outflows_fault.Statement.{statement}
@@ -20,7 +23,7 @@ Inv-loop n gate-capacity speed share capacity gate-queue gate-cumulative held cu
     (r : Road) (l : Ledger) (queue row : List ℕ) →
     let q = sending r n gate-capacity speed share capacity in
     let s = stateOf (gated l gate-queue gate-cumulative) held queue cumulative in
-    Rooms q s row room → Passed q s row y part before demand i
+    Rooms q s row room → Carried q s part before demand i × Faultless (outflowFaultAt q s row y) (n + 1) i
 
 abbrev μ-loop : tie.MeasureT-loop
 μ-loop n gate-capacity speed share capacity gate-queue gate-cumulative held cumulative room y part₀ before₀ demand₀ i₀ part before demand i = n - i
@@ -52,29 +55,22 @@ abbrev From : tie.Start Inv-loop μ-loop → Ledger → List ℕ → State
 From c l queue = let a = c .args in stateOf (gated l (a .gate-queue) (a .gate-cumulative)) (a .held .now) queue (a .cumulative .now)
 
 -- what a turn finds on it, by its rooms
-turn : (c : tie.After-outflow-refusal Inv-loop μ-loop) (r : Road) (l : Ledger) (queue row : List ℕ) →
+found : (c : tie.After-outflow-refusal Inv-loop μ-loop) (r : Road) (l : Ledger) (queue row : List ℕ) →
     let p = In c .before in
     let a = A p .args in
-    let x = p .loop in
     Rooms (On (A p) r) (From (A p) l queue) row (a .room .now)
-    → Turn (On (A p) r) (From (A p) l queue) row (a .y .now) (x .part) (x .before) (x .demand) (x .i) (refusalNumber (c .outflow-refusal .result))
-turn c r l queue row rooms =
+    → refusalNumber (c .outflow-refusal .result) ≡ outflowFaultAt (On (A p) r) (From (A p) l queue) row (a .y .now) (p .loop .i)
+found c r l queue row rooms =
     let p = In c .before in
-    record {
-      passed = p .loop .inv r l queue row rooms;
-      left = In c .loop-test .taken;
-      room = at (A p .args .room .now) (p .loop .i);
-      entering = Entering c .entering .result;
-      leaves = rooms (p .loop .i) (In c .loop-test .taken);
-      enters = Entering c .entering .ensures;
-      number = c .outflow-refusal .ensures;
-    }
+    let left = In c .loop-test .taken in
+    outflow-found row (A p .args .y .now) (p .loop .inv r l queue row rooms .0) left (rooms (p .loop .i) left) (Entering c .entering .ensures)
+    (c .outflow-refusal .ensures)
 
 gate-demand-requires : tie.Need-gate-demand-requires Inv-loop μ-loop
 gate-demand-requires c κs = search needs
 
 loop-holds : tie.Need-loop-holds Inv-loop μ-loop
-loop-holds c r l queue row rooms = passed-none (c .gate-demand .ensures)
+loop-holds c r l queue row rooms = let a = c .before .before in (carried-gate (On a r) (From a l queue) _ (c .gate-demand .ensures), faultless-none)
 
 mul-outflow : tie.Need-mul-outflow Inv-loop μ-loop
 mul-outflow c = search needs
@@ -98,7 +94,13 @@ number-requires : tie.Need-number-requires Inv-loop μ-loop
 number-requires c κs = search needs
 
 returns : tie.Need-returns Inv-loop μ-loop
-returns c r l queue row rooms = let m = c .before in passed-fault (turn (m .before) r l queue row rooms) (λ z. c .if1 .taken (m .number .ensures ∙ z))
+returns c r l queue row rooms =
+    let m = c .before in
+    let t = In (m .before) in
+    let e : t .before .loop .i ≡ t .before .loop .i + 0 = omega arith in
+    ap (fault (refusalNumber (m .before .outflow-refusal .result))) e
+    ∙ lowest-stop _ _ 0 (t .before .loop .inv r l queue row rooms .1) (omega (arith, t .loop-test .taken)) (found (m .before) r l queue row rooms)
+    (λ z. c .if1 .taken (m .number .ensures ∙ z))
 
 mul-part : tie.Need-mul-part Inv-loop μ-loop
 mul-part c = search needs
@@ -142,7 +144,12 @@ loop-less c = search needs
 loop-again : tie.Need-loop-again Inv-loop μ-loop
 loop-again c r l queue row rooms =
     let i = Else c in
-    passed-more (turn (Refusal c) r l queue row rooms) (sym (i .before .number .ensures) ∙ i .if1 .left) (c .demand .ensures)
+    let t = In (Refusal c) in
+    let p = t .before in (
+      carried-cell (On (A p) r) (From (A p) l queue) (p .loop .i) _ (t .loop-test .taken) (c .demand .ensures),
+      faultless-more (p .loop .inv r l queue row rooms .1) (omega (arith, t .loop-test .taken)) (found (Refusal c) r l queue row rooms)
+          (sym (i .before .number .ensures) ∙ i .if1 .left),
+    )
 
 mul-if2 : tie.Need-mul-if2 Inv-loop μ-loop
 mul-if2 c = search needs
@@ -151,10 +158,16 @@ shared-slice-read-if2 : tie.Need-shared-slice-read-if2 Inv-loop μ-loop
 shared-slice-read-if2 c = search needs
 
 returns-2 : tie.Need-returns-2 Inv-loop μ-loop
-returns-2 c r l queue row rooms = let o = c .before .before in passed-last (o .before .loop .inv r l queue row rooms) (o .loop-test .left) (omega arith)
+returns-2 c r l queue row rooms =
+    let o = c .before .before in
+    let h = o .before .loop .inv r l queue row rooms in
+    last-fault row (A (o .before) .args .y .now) (h .0) (h .1) (o .loop-test .left) (omega arith)
 
 returns-3 : tie.Need-returns-3 Inv-loop μ-loop
-returns-3 c r l queue row rooms = let o = c .before .before in passed-end (o .before .loop .inv r l queue row rooms) (o .loop-test .left) (omega arith)
+returns-3 c r l queue row rooms =
+    let o = c .before .before in
+    let h = o .before .loop .inv r l queue row rooms in
+    last-end row (A (o .before) .args .y .now) (h .0) (h .1) (o .loop-test .left) (omega arith)
 
 pub outflows-fault-spec : {M : Type 1} → statement M
 outflows-fault-spec =

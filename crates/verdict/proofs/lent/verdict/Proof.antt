@@ -4,7 +4,7 @@ use Rattle.road.specs.declared.Road.{Road}
 use Rattle.road.specs.declared.State.{State}
 use Rattle.columns.specs.declared.Ledger.{Ledger}
 use Rattle.columns.specs.Columns.{roadOf, gated, stateOf}
-use Rattle.releases.specs.Faults.{faultOf}
+use Rattle.road.specs.Refusals.{faultAnswer}
 use Rattle.verdict.specs.Proposed.{Looked, verdict-fault, verdict-end}
 use borrow.Author.Needs.{needs}
 use Rattle.verdict.proofs.lent.verdict.Statement.{statement}
@@ -25,7 +25,7 @@ From c l = let a = c .args in stateOf (gated l (a .gate-queue) (a .gate-cumulati
 
 looked : (c : tie.After-number) (r : Road) (l : Ledger) →
     let s = A c in
-    Looked (On s r) (From s l) (s .args .row .now) (faultOf (c .before .releases .result)) (c .number .result)
+    Looked (On s r) (From s l) (s .args .row .now) (faultAnswer (c .before .releases .result)) (c .number .result)
 looked c r l =
     let a = A c .args in
     record { found = c .before .releases .ensures .0 (On (A c) r) (gated l (a .gate-queue) (a .gate-cumulative)) (a .cumulative .now); number = c .number .ensures }

@@ -1,0 +1,62 @@
+-- Theorem across writing and running: a road, T, a start and rows that are written in either version are run and judged alike. Assumes nothing.
+use mathlib.Core.Path.{_≡_, refl, sym, ap, _∙_}
+use mathlib.Core.List.{List}
+use Prim.Native.Nat.{ℕ, _<_}
+use Rattle.road.specs.declared.Road.{Road}
+use Rattle.road.specs.declared.Start.{Start}
+use Rattle.studies.specs.Study.{Study}
+use Rattle.reading.specs.Reading.{ReadAnswer, readingOf, studyOf}
+use Rattle.model.specs.Stamped.{stamped, Restamped}
+use Rattle.writing.specs.Writing.{writingOf}
+use Rattle.writing.specs.Saved.{Saved, savedOf, saved, saved-road, saved-start, saved-steps, saved-rows}
+use Rattle.schedules.specs.Schedules.{lanesFault, runningOf, judgingOf, listAfter}
+use Rattle.schedules.specs.Demand.{Taken}
+use Rattle.schedules.specs.Restamped.{EndsAlike, runs-alike, judges-alike, same-list}
+
+-- the same road in another version and with other seconds; both are written without a refusal, whatever the targets
+module _ (road : Road) (version seconds T : ℕ) (start : Start) (rows target other lanes : List ℕ)
+    (first : writingOf road T start rows target .number ≡ 0) (second : writingOf (stamped version seconds road) T start rows other .number ≡ 0) where
+  abbrev s : List ℕ
+  s = savedOf road T start rows target
+
+  abbrev t : List ℕ
+  t = savedOf (stamped version seconds road) T start rows other
+
+  keptS : Saved road T start rows target
+  keptS = saved road T start rows target first
+
+  keptT : Saved (stamped version seconds road) T start rows other
+  keptT = saved (stamped version seconds road) T start rows other second
+
+  -- what is read back differs in version and seconds alone
+  pub written-restamped : Restamped (studyOf (savedOf road T start rows target) lanes) (studyOf (savedOf (stamped version seconds road) T start rows other) lanes)
+  written-restamped = record {
+    road = rw (keptS .back .reads, keptT .back .reads) refl;
+    start = rw (keptS .back .reads, keptT .back .reads) refl;
+    steps = rw (keptS .back .reads, keptT .back .reads) refl;
+    rows = λ k l.
+        let m : k < T = rw (keptS .back .reads) at l in
+        saved-rows (stamped version seconds road) T start rows other keptT lanes k m ∙ sym (saved-rows road T start rows target keptS lanes k m);
+    lanes = refl;
+  }
+
+  -- so a table of lanes that one is taken with suits the other
+  takenT : Taken (savedOf road T start rows target) lanes → Taken (savedOf (stamped version seconds road) T start rows other) lanes
+  takenT h = record {
+    reads = ap (λ (a : ReadAnswer). a .number) (keptT .back .reads);
+    opens = rw (keptT .back .reads) (rw (keptS .back .reads) at (h .opens));
+  }
+
+  -- and they are run and judged alike
+  module _ (h : Taken (savedOf road T start rows target) lanes) where
+    pub versions-run : (list : List ℕ)
+        → EndsAlike (runningOf (savedOf road T start rows target) lanes list) (runningOf (savedOf (stamped version seconds road) T start rows other) lanes list)
+    versions-run list = runs-alike s t lanes h (takenT h) written-restamped list
+
+    pub versions-write : (list : List ℕ)
+        → listAfter (savedOf (stamped version seconds road) T start rows other) lanes list ≡ listAfter (savedOf road T start rows target) lanes list
+    versions-write list = same-list s t lanes h (takenT h) written-restamped list
+
+    pub versions-judged : (list zs : List ℕ)
+        → EndsAlike (judgingOf (savedOf road T start rows target) lanes zs) (judgingOf (savedOf (stamped version seconds road) T start rows other) lanes zs)
+    versions-judged list zs = judges-alike s t lanes h (takenT h) written-restamped list zs

@@ -1,5 +1,0 @@
-pub mod Metering
-pub mod MeteringLaws
-pub mod Granting
-pub mod Lent
-pub mod Entries

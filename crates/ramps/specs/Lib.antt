@@ -1,0 +1,5 @@
+pub mod Ramps
+pub mod RampsLaws
+pub mod Granting
+pub mod LentRamps
+pub mod Entries

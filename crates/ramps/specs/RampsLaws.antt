@@ -1,0 +1,108 @@
+-- Laws of a step's releases: what is granted fits, and a row that is filled stays within the limits. Assumes nothing.
+use mathlib.Core.Path.{_≡_, refl, _∙_}
+use mathlib.Core.Bool.{Bool, true, false, cond}
+use mathlib.Core.List.{List}
+use Prim.Native.Nat.{ℕ, _+_, _*_, _^_, min, _≤_, _<_}
+use native.Mathlib.Omega.{arith}
+use lib.Dec.{eqb}
+use lib.Ieee.{Float}
+use borrow.Author.Tests.{eqb-true, eqb-false}
+use lib.ListN.{length}
+use Rattle.numbers.specs.Lists.{at}
+use Rattle.rows.specs.RowsLaws.{fill-at}
+use Rattle.road.specs.declared.Road.{Road}
+use Rattle.road.specs.declared.State.{State}
+use Rattle.road.specs.Road.{mostRate}
+use Rattle.limits.specs.Limits.{rowOk}
+use Rattle.limits.specs.LimitsLaws.{RoadOk, RowOk, row-ok}
+use Rattle.meter.specs.declared.Law.{Law}
+use Rattle.meter.specs.Meter.{wholeBelow}
+use Rattle.meter.specs.MeterLaws.{whole-most}
+use Rattle.model.specs.Places.{gateArrivals, arrivalsAt, releaseAt, mostReleaseAt, supplyAt, enteringAt}
+use Rattle.model.specs.Rules.{Released, outflowsOf}
+use Rattle.releasing.specs.ReleasesLaws.{length-released, released-at, released-gate, released-arrivals}
+use Rattle.ramps.specs.Ramps.{Metered, wishAt, capAt, releaseOf, grantedAt, filledRow, meteredOf}
+
+-- a release is at most its cap, and 0 without a ramp
+pub record Capped (ramp : ℕ) (wish : Float) (cap x : ℕ) : Type 0 where
+  pub most : x ≤ cap
+  pub noRamp : ramp ≡ 0 → x ≡ 0
+  pub ramped : (ramp ≡ 0 → ⊥) → x ≡ wholeBelow wish cap
+
+pub capped : (ramp : ℕ) (wish : Float) (cap : ℕ) → Capped ramp wish cap (releaseOf ramp wish cap)
+unfolding releaseOf
+capped ramp wish cap = go (eqb ramp 0) refl
+  where
+    go : (b : Bool) → eqb ramp 0 ≡ b → Capped ramp wish cap (cond b 0 (wholeBelow wish cap))
+    go true e = record { most = omega arith; noRamp = λ _. refl; ramped = λ d. absurd (d (eqb-true ramp 0 e)) }
+    go false e = record { most = whole-most wish cap; noRamp = λ z. absurd (eqb-false ramp 0 e z); ramped = λ _. refl }
+
+-- what the cap is at most
+pub record Caps (most supply cap : ℕ) : Type 0 where
+  pub there : cap ≤ most
+  pub taken : cap ≤ supply
+  pub rate : cap ≤ mostRate
+
+module _ (laws : List Law) (r : Road) (m : Metered) (row : List ℕ) where
+  pub granted : (i : ℕ) → Capped (at (r .ramp) i) (wishAt laws m i) (capAt r (m .state) row i) (grantedAt laws r m row i)
+  unfolding grantedAt
+  granted i = capped (at (r .ramp) i) (wishAt laws m i) (capAt r (m .state) row i)
+
+  pub granted-caps : (i : ℕ) → Caps (mostReleaseAt (m .state) row i) (supplyAt r (m .state) i) (grantedAt laws r m row i)
+  granted-caps i = let g = granted i .most in record { there = omega arith; taken = omega arith; rate = omega arith }
+
+  pub granted-small : (i : ℕ) → grantedAt laws r m row i < 2 ^ 32
+  granted-small i = omega (arith, granted-caps i .rate)
+
+  -- the filled row: as long, with the same arrivals, and the releases granted
+  pub length-filled : length (filledRow laws r m row) ≡ length row
+  unfolding filledRow
+  length-filled = length-released (grantedAt laws r m row) (r .n) row
+
+  pub filled-gate : gateArrivals (filledRow laws r m row) ≡ gateArrivals row
+  unfolding filledRow
+  filled-gate = released-gate (grantedAt laws r m row) (r .n) row
+
+  pub filled-arrivals : (i : ℕ) → arrivalsAt (filledRow laws r m row) i ≡ arrivalsAt row i
+  unfolding filledRow
+  filled-arrivals i = released-arrivals (grantedAt laws r m row) (r .n) row i
+
+  pub filled-release : length row ≡ 1 + 2 * r .n → (i : ℕ) → i < r .n → releaseAt (filledRow laws r m row) i ≡ grantedAt laws r m row i
+  unfolding filledRow
+  filled-release e i l = released-at (grantedAt laws r m row) (r .n) row i l (omega arith)
+
+  -- what a release may be at most does not depend on the row's releases
+  pub filled-most : (i : ℕ) → mostReleaseAt (m .state) (filledRow laws r m row) i ≡ mostReleaseAt (m .state) row i
+  unfolding mostReleaseAt
+  filled-most i = rw (filled-arrivals i)
+
+  -- each filled release fits
+  pub filled-fits : length row ≡ 1 + 2 * r .n → Released r (m .state) (filledRow laws r m row)
+  filled-fits e = record {
+    queue = λ i l. omega (arith, filled-release e i l, granted-caps i .there, filled-most i);
+    supply = λ i l. omega (arith, filled-release e i l, granted-caps i .taken);
+  }
+
+  -- a row within the limits stays so
+  pub filled-row : RowOk r row → RowOk r (filledRow laws r m row)
+  filled-row ok = record {
+    numbers = length-filled ∙ ok .numbers;
+    gate = omega (arith, filled-gate, ok .gate);
+    arrivals = λ i l. omega (arith, filled-arrivals i, ok .arrivals i l);
+    release = λ i l. omega (arith, filled-release (ok .numbers) i l, granted-caps i .rate);
+    noArrivals = λ i l z. filled-arrivals i ∙ ok .noArrivals i l z;
+    noRelease = λ i l z. filled-release (ok .numbers) i l ∙ granted i .noRamp z;
+  }
+
+  pub filled-row-ok : RoadOk r → RowOk r row → rowOk (r .ramp) (r .n) (filledRow laws r m row) ≡ true
+  filled-row-ok road ok = row-ok r (filledRow laws r m row) road (filled-row ok)
+
+  -- what the next step's wishes go by: the release granted in this one, and what entered from upstream in it
+  pub last-release : r .n ≤ length (m .releases) → (i : ℕ) → i < r .n → at (meteredOf laws r m row .releases) i ≡ grantedAt laws r m row i
+  unfolding meteredOf
+  last-release h i l = fill-at (grantedAt laws r m row) (r .n) (m .releases) i l h
+
+  pub last-entry : r .n ≤ length (m .entries) → (i : ℕ) → i < r .n
+      → at (meteredOf laws r m row .entries) i ≡ enteringAt r (m .state) (outflowsOf r (m .state) (filledRow laws r m row)) i
+  unfolding meteredOf
+  last-entry h i l = fill-at (enteringAt r (m .state) (outflowsOf r (m .state) (filledRow laws r m row))) (r .n) (m .entries) i l h

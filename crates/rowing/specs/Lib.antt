@@ -1,2 +1,0 @@
-pub mod Rowing
-pub mod RowingLaws

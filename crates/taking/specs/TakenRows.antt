@@ -1,0 +1,69 @@
+-- docs/MODEL.md, 'The numbers of a row': what taking the rows of a record that reads promises. They are the record's rows, what stands beyond
+-- them in the list is kept, and writing them with what was read gives the record's bytes again. Assumes nothing.
+use mathlib.Core.Path.{_≡_, refl, ap, _∙_}
+use mathlib.Core.List.{List}
+use Prim.Native.Nat.{ℕ, _*_, _≤_, _<_}
+use lib.ListN.{length, take, drop}
+use Rattle.numbers.specs.Lists.{at}
+use Rattle.rows.specs.Concat.{length-concat}
+use Rattle.rows.specs.Tables.{rowAt}
+use Rattle.rows.specs.TablesLaws.{concat-row}
+use Rattle.road.specs.Road.{startIn}
+use Rattle.fields.specs.Fields.{rowNumbers, recordRow}
+use Rattle.reading.specs.Reading.{readingOf}
+use Rattle.reading.specs.Within.{read-within}
+use Rattle.picking.specs.PickingLaws.{row-read}
+use Rattle.writing.specs.Writing.{written, writingOf, targetAfter}
+use Rattle.writing.specs.Saved.{again-answer, again-bytes}
+use Rattle.taking.specs.Taking.{takenRow, takenCount, takenList}
+use Rattle.taking.specs.TakingLaws.{Roomy, length-taken-row, count-all, taken-row, taken-past, taken-rows}
+
+-- the rows as writing takes them: the front of the list, as long as the count says
+abbrev pub rowsTaken : List ℕ → ℕ → ℕ → List ℕ → List ℕ
+rowsTaken bytes n T list = take (takenCount n T (length list)) (takenList bytes n T list)
+
+module _ (s : List ℕ) (reads : readingOf s .number ≡ 0) (list : List ℕ)
+    (room : readingOf s .steps * rowNumbers (readingOf s .road .n) ≤ length list) where
+  abbrev n : ℕ
+  n = readingOf s .road .n
+
+  abbrev T : ℕ
+  T = readingOf s .steps
+
+  within : Roomy n T (length list)
+  within = let w = read-within s (readingOf s) refl reads in record { cells = w .road .cells; steps = w .steps; long = room }
+
+  record-row : (t : ℕ) → t < T → takenRow s n t ≡ recordRow s n t
+  record-row = row-read s (readingOf s) refl reads
+
+  pub count-numbers : takenCount n T (length list) ≡ T * rowNumbers n
+  count-numbers = count-all n T (length list) within
+
+  -- row t in the list is the record's
+  pub list-row : (t : ℕ) → t < T → rowAt (takenList s n T list) (rowNumbers n) t ≡ recordRow s n t
+  list-row t l = taken-row s n T list within t l ∙ record-row t l
+
+  -- what stands beyond the rows is kept
+  pub list-beyond : drop (T * rowNumbers n) (takenList s n T list) ≡ drop (T * rowNumbers n) list
+  list-beyond = taken-past s n T list within
+
+  size : (t : ℕ) → length (takenRow s n t) ≡ rowNumbers n
+  size t = length-taken-row s n t (within .cells)
+
+  -- and so for the rows alone
+  pub length-rows : length (rowsTaken s n T list) ≡ T * rowNumbers n
+  length-rows = ap length (taken-rows s n T list within) ∙ length-concat (takenRow s n) (rowNumbers n) size T
+
+  pub rows-row : (t : ℕ) → t < T → rowAt (rowsTaken s n T list) (rowNumbers n) t ≡ recordRow s n t
+  rows-row t l =
+      ap (λ (x : List ℕ). rowAt x (rowNumbers n) t) (taken-rows s n T list within)
+      ∙ concat-row (takenRow s n) (rowNumbers n) size T t l
+      ∙ record-row t l
+
+  -- writing what was read with these rows isn't refused and gives these bytes
+  module _ (small : (i : ℕ) → at s i < 256) (target : List ℕ) (long : length s ≤ length target) where
+    pub same-answer : writingOf (readingOf s .road) T (startIn (readingOf s .state)) (rowsTaken s n T list) target ≡ written (length s)
+    same-answer = again-answer s small reads (rowsTaken s n T list) target length-rows rows-row long
+
+    pub same-bytes : take (length s) (targetAfter (readingOf s .road) T (startIn (readingOf s .state)) (rowsTaken s n T list) target) ≡ s
+    same-bytes = again-bytes s small reads (rowsTaken s n T list) target length-rows rows-row long
