@@ -1,4 +1,5 @@
-/* Calls the operations on lent lists, reading for a caller with limits of its own, and the leaves, by numbers worked out on paper: cc lists.c libexports.a && ./a.out */
+/* Calls the operations on lent lists, reading for a caller with limits of its own, the rules of one place and the counts of a state, by numbers
+ * worked out on paper: cc lists.c libexports.a && ./a.out */
 #include "nobyaluk.h"
 #include <stdio.h>
 #include <string.h>
@@ -81,6 +82,12 @@ static void counts(const uint8_t *record, size_t bytes) {
     hold("present", nobyaluk_present(r.road, r.state) == 10500 && nobyaluk_on_road(r.road, r.state) == 6000 && nobyaluk_at_ramps(r.road, r.state) == 1500);
     nobyaluk_ended e = nobyaluk_run(record, bytes, NULL, 0, out, 9);
     hold("at the end", nobyaluk_present(e.road, e.state) == e.present && nobyaluk_exits(e.road, e.state) == 3701 && e.exits == 3701);
+    hold("total", nobyaluk_total(r.state) == 0 && nobyaluk_total(e.state) == 33098 && e.total == 33098);
+    r.state.gate_time = UINT64_MAX - 1;
+    r.state.road_time = 1;
+    hold("the greatest total", nobyaluk_total(r.state) == UINT64_MAX);
+    r.state.ramp_time = 1;
+    hold("never above it", nobyaluk_total(r.state) == UINT64_MAX);
     hold("vehicle-seconds", nobyaluk_vehicle_seconds(20, e.state) == 661 && nobyaluk_vehicle_seconds(0, e.state) == 0);
     nobyaluk_row_answer row = nobyaluk_row(record, bytes, 2, 2);
     hold("a row", row.numbers[0] == 1000 && row.numbers[3] == 500 && row.numbers[4] == 300 && row.numbers[5] == 0);

@@ -244,6 +244,10 @@ impl Freeway for Engine {
         nobyaluk::exits(road_for(road), state_for(*state))
     }
 
+    fn total(&self, state: &State) -> u64 {
+        nobyaluk::total(state_for(*state))
+    }
+
     fn vehicle_seconds(&self, seconds: u16, state: &State) -> u64 {
         nobyaluk::vehicle_seconds(seconds, state_for(*state))
     }

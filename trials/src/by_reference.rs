@@ -143,9 +143,13 @@ impl Freeway for Reference {
         model::exits(road, state)
     }
 
+    fn total(&self, state: &State) -> u64 {
+        within_64_bits(state.total())
+    }
+
     fn vehicle_seconds(&self, seconds: u16, state: &State) -> u64 {
-        let total = within_64_bits(state.total());
-        within_64_bits(print::vehicle_seconds(u128::from(total), seconds))
+        let total = u128::from(self.total(state));
+        within_64_bits(print::vehicle_seconds(total, seconds))
     }
 
     fn demand(&self, speed: u16, capacity: u32, held: u32) -> u32 {

@@ -72,6 +72,7 @@ pub trait Freeway {
     fn weighted(&self, road: &Road, state: &State, weights: &Weights) -> u64;
     /// What has left, of a road within its limits.
     fn exits(&self, road: &Road, state: &State) -> u64;
+    fn total(&self, state: &State) -> u64;
     fn vehicle_seconds(&self, seconds: u16, state: &State) -> u64;
     /// The flow rules of a place within its limits.
     fn demand(&self, speed: u16, capacity: u32, held: u32) -> u32;

@@ -238,10 +238,7 @@ pub fn answer(freeway: &impl Freeway, case: &Case) -> Whole {
                 weights,
             } = &**input;
             whole.put("weighted", [freeway.weighted(road, state, weights)]);
-            whole.put(
-                "vehicle-seconds",
-                [freeway.vehicle_seconds(road.seconds, state)],
-            );
+            times(freeway, road, state, &mut whole);
             if road.n <= Road::MAX_CELLS {
                 present(freeway, road, state, &mut whole);
             }
@@ -309,6 +306,13 @@ fn present(freeway: &impl Freeway, road: &Road, state: &State, whole: &mut Whole
     whole.put("at the ramps", [freeway.at_ramps(road, state)]);
 }
 
+/// A state's total, and the same in vehicle-seconds.
+fn times(freeway: &impl Freeway, road: &Road, state: &State, whole: &mut Whole) {
+    whole.put("total", [freeway.total(state)]);
+    let time = freeway.vehicle_seconds(road.seconds, state);
+    whole.put("vehicle-seconds", [time]);
+}
+
 /// A step, and unless its road or state is out of its limits the rules of each place and
 /// what the state holds.
 fn step(freeway: &impl Freeway, input: &StepInput, whole: &mut Whole) {
@@ -350,8 +354,7 @@ fn step(freeway: &impl Freeway, input: &StepInput, whole: &mut Whole) {
     whole.put("gate demand", [gate_demand]);
     present(freeway, road, state, whole);
     whole.put("exits", [freeway.exits(road, state)]);
-    let time = freeway.vehicle_seconds(road.seconds, state);
-    whole.put("vehicle-seconds", [time]);
+    times(freeway, road, state, whole);
 }
 
 fn write(freeway: &impl Freeway, input: &WriteInput, whole: &mut Whole) {

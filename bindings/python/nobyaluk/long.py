@@ -2,7 +2,9 @@
 
 A `LongRecord` stands where a `Record` would. Its road, start and rows are looked at by the proved `write`, in as many records as
 they need. Releases of meter laws and plans are the engine's too: what a ramp can take at most in a step is what filling gives it in
-a record of that step alone, and a law's release is `release(wish(..), cap)`. Judging has no step of its own: it takes a record.
+a record of that step alone, and a law's release is `release(wish(..), cap)`. Total, present and exits are the engine's of the last
+state, and what entered a cell is `entering` of the place above it. Python's own are an outflow, as the growth of the cumulative one,
+and the weighted total, as the sum of `weighted` after each step. Judging has no step of its own: it takes a record.
 """
 from collections.abc import Mapping
 from dataclasses import dataclass, field
@@ -100,10 +102,9 @@ class Walk:
         held = np.column_stack([s["gate_queue"], s["held"][:, :n]])
         queue = np.column_stack([np.zeros(len(s), np.uint32), s["queue"][:, :n]])
         end = self.state
-        present, exits = engine.present(record.road, end), engine.exits(record.road, end)
+        total, present, exits = engine.total(end), engine.present(record.road, end), engine.exits(record.road, end)
         weighted = sum(engine.weighted(record.road, State.from_buffer_copy(x), *weights) for x in self.states) if weights else None
         filled = LongRecord(record.road, record.start, self.rows)
-        total = end.gate_time + end.road_time + end.ramp_time
         return Run(filled, self.lanes, outflow, end, total, present, exits, weighted, (held, queue))
 
 
@@ -145,8 +146,13 @@ class Metered:
         walk.step()
         after = walk.state
         for i in self.ramps:
-            sent = after.cumulative[i] - before.cumulative[i]
-            self.last[i], self.entered[i] = releases[i], after.held[i] - before.held[i] + sent - releases[i]
+            self.last[i], self.entered[i] = releases[i], engine.entering(*self.sent(i, before, after))
+
+    def sent(self, i: int, before: State, after: State) -> tuple[int, int, int]:
+        """Of the place above the cell at i: its onward share, its cumulative outflow before the step, and its outflow in the step."""
+        if i == 0:
+            return engine.WHOLE, before.gate_cumulative, after.gate_cumulative - before.gate_cumulative
+        return self.walk.record.road.share[i - 1], before.cumulative[i - 1], after.cumulative[i - 1] - before.cumulative[i - 1]
 
 
 def fill(record: Held, laws: Mapping[int, Law], lanes: bytes = b"", weights: tuple[Any, Any] | None = None) -> Run:

@@ -2,6 +2,7 @@
 import math
 import pickle
 import re
+import sys
 import threading
 import time
 
@@ -66,7 +67,9 @@ def test_what_a_state_holds(printed):
     came = int(printed.rows[:, 0].sum() + printed.rows[:, 1::2].sum())
     assert engine.present(road, start) + came == run.present + run.exits
     assert [engine.vehicle_seconds(seconds, end) for seconds in (0, 1, 20, 900)] == [0, 33, 661, 29788]
+    assert engine.total(start) == 0 and engine.total(end) == run.total == end.gate_time + end.road_time + end.ramp_time == 33098
     full = engine.State(gate_time=2**64 - 1, road_time=1)
+    assert engine.total(full) == engine.total(engine.State(gate_time=2**64 - 3, road_time=1, ramp_time=1)) == 2**64 - 1
     assert [engine.vehicle_seconds(seconds, full) for seconds in (1, 1000, 65535)] == [(2**64 - 1) // 1000, 2**64 - 1, 2**64 - 1]
 
 
@@ -219,9 +222,10 @@ def test_a_record_travels(printed):
 
 
 def test_the_lock_is_given_up(examples):
-    """While calls of the engine last, another thread of Python goes on."""
+    """While calls of the engine last, another thread of Python goes on: nothing else gives it the lock within the interval set here."""
     record = engine.read((examples / "rocade-sud.rec").read_bytes())
-    ticks, stop = 0, threading.Event()
+    data, out = record.data, np.empty(engine.MOST_OUTFLOWS, np.uint32)
+    ticks, calls, stop, interval = 0, 0, threading.Event(), sys.getswitchinterval()
 
     def tick():
         nonlocal ticks
@@ -230,16 +234,19 @@ def test_the_lock_is_given_up(examples):
             time.sleep(0)
 
     other = threading.Thread(target=tick)
-    other.start()
-    data, out = record.data, np.empty(engine.MOST_OUTFLOWS, np.uint32)
-    before, calls = ticks, 0
-    while calls < 300:
-        engine._run(data, len(data), b"", 0, *engine._lent(out))
-        calls += 1
-    during = ticks - before
-    stop.set()
-    other.join()
-    assert during >= 100  # with the lock held it would go on once in 5 ms, some 5 times
+    sys.setswitchinterval(60)
+    try:
+        other.start()
+        before = ticks
+        while ticks < before + 20 and calls < 50_000:
+            engine._run(data, len(data), b"", 0, *engine._lent(out))
+            calls += 1
+        during = ticks - before
+    finally:
+        sys.setswitchinterval(interval)
+        stop.set()
+        other.join()
+    assert during >= 20
 
 
 def test_everything_is_told(root):

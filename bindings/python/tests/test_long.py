@@ -33,6 +33,24 @@ def test_laws_are_fillings(examples, rocade, works, law):
         same(engine.fill(rocade, laws, lanes), long.fill(rocade, laws, lanes))
 
 
+def test_what_enters_is_fillings():
+    """Demand-capacity goes by what entered from upstream: from the gate, and from places that let 750 and 900 thousandths on."""
+    n, steps = 6, 60
+    road = engine.Road(n=n, version=1, gate_capacity=20_000)
+    for i, share in enumerate((750, 1000, 900, 333, 1000, 0)):
+        road.speed[i], road.wave[i], road.share[i], road.ramp[i] = 800, 300, share, int(i in (0, 1, 3, 4))
+        road.jam[i], road.capacity[i] = 90_000, 17_000 - 1_000 * i
+    rows = np.zeros((steps, 1 + 2 * n), np.uint32)
+    rows[:, 0], last = engine.load(7, 30_000, steps)
+    for i in (0, 1, 3, 4):
+        rows[:, 2 * i + 1], last = engine.load(last, 6_000, steps)
+    record = engine.write(road, engine.Start(), rows)
+    laws = {i + 1: ("demand-capacity", 15_000.0, 40_000.0, 500.0) for i in (0, 1, 3, 4)}
+    filled = engine.fill(record, laws)
+    assert len(np.unique(filled.record.rows[:, 2])) > 5  # the ramp at cell 1 goes by what the gate sends
+    same(filled, long.fill(record, laws))
+
+
 def test_weighted(rocade):
     weights = [3] + [1] * 21, [2] * 21
     assert long.run(rocade, weights=weights).weighted == engine.run_weighted(rocade, *weights).weighted

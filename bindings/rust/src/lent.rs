@@ -289,7 +289,7 @@ pub fn step(road: Road, state: State, row: &[u32], lanes: Lanes) -> Stepped {
 /// What is present in any road and state: the gate's queue, all held counts and all ramp queues together.
 ///
 /// ```
-/// use nobyaluk::{at_ramps, exits, on_road, present, read, run, vehicle_seconds};
+/// use nobyaluk::{at_ramps, exits, on_road, present, read, run, total, vehicle_seconds};
 /// let record = std::fs::read("../../examples/printed-run.rec")?;
 /// let start = read(&record).ok()?;
 /// let (road, state) = (start.road, start.state);
@@ -297,6 +297,7 @@ pub fn step(road: Road, state: State, row: &[u32], lanes: Lanes) -> Stepped {
 /// assert_eq!(present(road, state), u64::from(state.gate_queue) + 6_000 + 1_500);
 /// let end = run(&record, &[])?.ended;
 /// assert_eq!(exits(road, end.state), 3_701);
+/// assert_eq!(total(end.state), 33_098);
 /// assert_eq!(vehicle_seconds(20, end.state), 661); // 33,098 part-steps of 20 seconds
 /// # Ok::<(), Box<dyn std::error::Error>>(())
 /// ```
@@ -322,6 +323,11 @@ pub fn weighted(road: Road, state: State, weights: Weights) -> u64 {
 /// What has left by off-ramps and the road's end.
 pub fn exits(road: Road, state: State) -> u64 {
     unsafe { raw::nobyaluk_exits(road, state) }
+}
+
+/// A state's total time spent: gate, road and ramp time together; the greatest number of 64 bits where they pass it.
+pub fn total(state: State) -> u64 {
+    unsafe { raw::nobyaluk_total(state) }
 }
 
 /// A state's total in vehicle-seconds, with so many seconds a step, rounded down; the greatest number of 64 bits where that

@@ -1,8 +1,9 @@
 //! Safe calls of the proved freeway engine. Counts are in parts, thousandths of a vehicle; times in part-steps.
 //!
 //! Each call passes slices whole, so pointer, count, alignment and the borrows are Rust's own; the engine asks nothing more.
-//! No call panics, whatever it is given, as long as there is memory for the list that [`load`] is asked for. What can be refused answers a [`Result`] with a [`Refused`], which says its words,
-//! or an answer of the engine with `ok()`, which makes that result of it:
+//! No call panics, whatever it is given, as long as there is memory for the list that [`load`] is asked for. What can be
+//! refused answers a [`Result`] with a [`Refused`], which says its words, or an answer of the engine with `ok()`, which makes that
+//! result of it:
 //!
 //! | operation | with lists of its own | on lent lists, the engine's own answer |
 //! |---|---|---|
@@ -19,7 +20,7 @@
 //!
 //! Refused by nothing are the rules of one place, [`demand`], [`gate_demand`], [`supply`], [`room`], [`onward`], [`entering`],
 //! [`outflow`], [`outflow_by_halves`], [`open_capacity`], [`wish`], [`wish_of_kind`] and [`release`], and what a state holds:
-//! [`present`], [`on_road`], [`at_ramps`], [`weighted`], [`exits`], [`vehicle_seconds`].
+//! [`present`], [`on_road`], [`at_ramps`], [`weighted`], [`exits`], [`total`], [`vehicle_seconds`].
 //!
 //! ```
 //! let record = std::fs::read("../../examples/printed-run.rec")?;

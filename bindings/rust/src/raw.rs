@@ -127,6 +127,7 @@ extern "C" {
     pub fn nobyaluk_at_ramps(road: Road, state: State) -> u64;
     pub fn nobyaluk_weighted(road: Road, state: State, weights: Weights) -> u64;
     pub fn nobyaluk_exits(road: Road, state: State) -> u64;
+    pub fn nobyaluk_total(state: State) -> u64;
     pub fn nobyaluk_vehicle_seconds(seconds: u16, state: State) -> u64;
     pub fn nobyaluk_demand(speed: u16, capacity: u32, held: u32) -> u32;
     pub fn nobyaluk_gate_demand(capacity: u32, queue: u32) -> u32;

@@ -2,8 +2,8 @@
 use nobyaluk::{
     at_ramps, entering, exits, fill, gate_demand, grant, join, judge, load, on_road, onward,
     outflow, outflow_by_halves, present, put, put_wanted, read, room, row, row_numbers, rows, run,
-    run_weighted, step, vehicle_seconds, wanted, write, Lanes, Law, Road, Start, State, Weights,
-    CELLS,
+    run_weighted, step, total, vehicle_seconds, wanted, write, Lanes, Law, Road, Start, State,
+    Weights, CELLS,
 };
 use std::path::PathBuf;
 
@@ -180,6 +180,19 @@ fn every_state_is_answered() {
         assert_eq!(exits(road, full), count * cells);
         let share = [1_001; CELLS];
         assert_eq!(exits(Road { share, ..road }, full), 0);
+    }
+    let ends = [0, 1, time, u64::MAX - 1, u64::MAX];
+    for (gate_time, road_time) in ends.iter().flat_map(|&a| ends.map(|b| (a, b))) {
+        for ramp_time in ends {
+            let state = State {
+                gate_time,
+                road_time,
+                ramp_time,
+                ..full
+            };
+            let sum = gate_time.saturating_add(road_time);
+            assert_eq!(total(state), sum.saturating_add(ramp_time));
+        }
     }
     let part = |seconds: u16| u128::from(u64::MAX) * u128::from(seconds) / 1_000;
     for seconds in [0, 1, 999, 1_000] {

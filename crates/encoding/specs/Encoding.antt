@@ -2,7 +2,6 @@
 use mathlib.Core.Path.{_≡_, refl, sym, ap, _∙_}
 use mathlib.Core.List.{List, _++_}
 use Prim.Native.Nat.{ℕ, _+_, _-_, _*_, _≤_, _<_}
-use native.Mathlib.Nat.{suc-mul, mul-le-mul-right}
 use native.Mathlib.Omega.{arith}
 use lib.ListN.{length, length-append, drop}
 use Rattle.numbers.specs.Lists.{at}
@@ -11,8 +10,6 @@ use Rattle.rows.specs.Concat.{length-concat, concat-none, concat-more}
 use Rattle.rows.specs.Tables.{rowAt}
 use Rattle.rows.specs.TablesLaws.{mul-more, row-ends}
 use Rattle.rows.specs.Placed.{Puts, placed-none, placed-there, puts-more, length-placed}
-use Rattle.road.specs.declared.Road.{Road}
-use Rattle.road.specs.declared.State.{State}
 use Rattle.road.specs.Road.{mostCells}
 use Rattle.studies.specs.Study.{Study}
 use Rattle.fields.specs.Fields.{countSize, secondsSize, headerSize, cellSize, shortSize, numberSize, rowNumbers, rowSize, bytesOf}

@@ -3,7 +3,9 @@ use freeway::Road;
 use freeway::State;
 use freeway::Weights;
 ghost use mathlib.Core.Path.{_≡_};
+ghost use Prim.Native.Nat.{min};
 ghost use Rattle.numbers.specs.Lists.{at};
+ghost use Rattle.road.specs.Road.{mostLong, totalOf};
 ghost use Rattle.timing.specs.Seconds.{vehicleSecondsOf};
 ghost use Rattle.model.specs.Move.{heldSum, queueSum, presentOf, exitsOf};
 ghost use Rattle.model.specs.Weights.{weightedOf};
@@ -46,6 +48,14 @@ pub extern "C" fn nobyaluk_exits(road: Road, state: State) -> u64
     ensures { λ r. ⌜ r ≡ exitsOf road state ⌝ }
 {
     freeway::exits(road, state)
+}
+
+// Total time spent: gate, road and ramp time together, at most the greatest number of 64 bits.
+#[no_mangle]
+pub extern "C" fn nobyaluk_total(state: State) -> u64
+    ensures { λ r. ⌜ r ≡ min (totalOf state) mostLong ⌝ }
+{
+    state.total()
 }
 
 // Total time spent in vehicle-seconds, at so many seconds a step.

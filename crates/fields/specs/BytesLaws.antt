@@ -3,13 +3,13 @@ use mathlib.Core.Path.{_≡_, refl, sym, ap, _∙_}
 use mathlib.Core.Logic.{⊎-elim}
 use mathlib.Core.List.{List, [], _∷_, _++_}
 use Prim.Native.Nat.{ℕ, zero, suc, _+_, _*_, _/_, _%_, _^_, _≤_, _<_}
-use native.Mathlib.Nat.{suc-mul, pow-suc, div-add-mod', div-lt-iff-lt-mul, eq-or-lt-of-le, le-of-suc-le-suc, le-refl, add-zero}
+use native.Mathlib.Nat.{suc-mul, pow-suc, div-add-mod', div-lt-iff-lt-mul, eq-or-lt-of-le, le-of-suc-le-suc, le-refl}
 use native.Mathlib.Omega.{arith}
 use lib.ListN.{length, take, drop, length-append, length-drop}
 use lib.Seq.{getD-at, getD-take, getD-drop, take-add, drop-drop, length-take-le, ext-getD}
 use Rattle.numbers.specs.Lists.{at}
 use Rattle.rows.specs.Rows.{concatOf}
-use Rattle.rows.specs.Concat.{at-first, at-second, length-concat, concat-at}
+use Rattle.rows.specs.Concat.{at-first, at-second, concat-at}
 use Rattle.fields.specs.Fields.{numberOf, bytesOf}
 
 -- the bytes 1, 2, 3, 4 are 16,909,060

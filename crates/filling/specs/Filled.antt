@@ -1,7 +1,7 @@
 -- What the loop over the steps carries, and how it ends. Assumes nothing.
 use mathlib.Core.Path.{_≡_, refl, sym, ap, _∙_}
 use mathlib.Core.List.{List, _++_}
-use Prim.Native.Nat.{ℕ, zero, suc, _+_, _-_, _*_, _≤_, _<_}
+use Prim.Native.Nat.{ℕ, _+_, _-_, _*_, _≤_, _<_}
 use native.Mathlib.Numerals.{add-one}
 use native.Mathlib.Omega.{arith}
 use lib.ListN.{length, take, drop}
@@ -9,20 +9,17 @@ use Rattle.rows.specs.TablesLaws.{row-ends, mul-more}
 use Rattle.road.specs.declared.Road.{Road}
 use Rattle.road.specs.declared.State.{State}
 use Rattle.studies.specs.Study.{Study, roadAt, places, tableSize}
-use Rattle.limits.specs.LimitsLaws.{RowOk, StateOk}
-use Rattle.fields.specs.Fields.{recordRow, HoldsRow}
+use Rattle.fields.specs.Fields.{recordRow}
 use Rattle.meter.specs.declared.Law.{Law}
 use Rattle.model.specs.Rules.{outflowsOf}
-use Rattle.model.specs.Runs.{engineAfter, outflowsAt}
-use Rattle.model.specs.Roads.{step-row}
+use Rattle.model.specs.Runs.{outflowsAt}
 use Rattle.model.specs.RunsLaws.{Reached, StepOf, step-input, step-sized, step-left}
-use Rattle.moves.specs.Asked.{Steppable}
-use Rattle.releasing.specs.Releases.{putReleases, putTable}
-use Rattle.releasing.specs.ReleasesLaws.{PutTable, put-table}
+use Rattle.patching.specs.Releases.{putReleases, putTable}
+use Rattle.patching.specs.ReleasesLaws.{PutTable, put-table}
 use Rattle.schedules.specs.Schedules.{tableOf}
 use Rattle.schedules.specs.TableLaws.{length-table, table-none, table-more}
 use Rattle.schedules.specs.Readable.{Readable}
-use Rattle.ramps.specs.Ramps.{Metered, unmetered, grantedAt, filledRow, meteredOf}
+use Rattle.ramps.specs.Ramps.{Metered, unmetered, grantedAt, filledRow}
 use Rattle.filling.specs.Filling.{meteredAfter, grantedIn, filledRows, filledStudy}
 use Rattle.filling.specs.FillingLaws.{filled-road, filled-run, releases-small, filled-ok, filled-released, filled-reached}
 use Rattle.filling.specs.Turn.{FillsRow, FilledRow}

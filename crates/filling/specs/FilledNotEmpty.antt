@@ -24,7 +24,7 @@ use Rattle.model.specs.Verdict.{outflowFaultAt, verdictOf}
 use Rattle.model.specs.Runs.{scheduleAfter, engineAfter}
 use Rattle.reading.specs.Reading.{readingBy}
 use Rattle.reading.specs.Sample.{sample, header, upstream, downstream, row}
-use Rattle.releasing.specs.Releases.{putReleases, putTable, releasedRow}
+use Rattle.patching.specs.Releases.{putReleases, putTable, releasedRow}
 use Rattle.ramps.specs.Ramps.{releaseOf, grantedAt, filledRow, meteredOf}
 use Rattle.schedules.specs.Schedules.{endOf, openingOf, judgingOf}
 use Rattle.schedules.specs.NotEmpty.{still}

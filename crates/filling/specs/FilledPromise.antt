@@ -10,7 +10,7 @@ use Rattle.meter.specs.declared.Law.{Law}
 use Rattle.meter.specs.Meter.{lawFaultOf}
 use Rattle.model.specs.Step.{tableFault}
 use Rattle.reading.specs.Reading.{ReadAnswer, readingOf, studyBy, studyOf}
-use Rattle.releasing.specs.Releases.{putTable}
+use Rattle.patching.specs.Releases.{putTable}
 use Rattle.schedules.specs.Schedules.{EndAnswer, ended, noState, lanesFault, tableOf}
 use Rattle.schedules.specs.Demand.{Taken, Promised}
 use Rattle.filling.specs.Filling.{meteredAfter, grantedIn, filledStudy, filledBytes, lawPlace, fillingOf, recordAfter, filledList}

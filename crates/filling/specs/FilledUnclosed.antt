@@ -14,8 +14,8 @@ use Rattle.model.specs.Step.{tableFault}
 use Rattle.model.specs.StepLaws.{number-of}
 use Rattle.model.specs.RunsLaws.{Shared}
 use Rattle.reading.specs.Reading.{readingOf, studyOf}
-use Rattle.releasing.specs.Releases.{putTable}
-use Rattle.releasing.specs.ReleasesLaws.{put-same}
+use Rattle.patching.specs.Releases.{putTable}
+use Rattle.patching.specs.ReleasesLaws.{put-same}
 use Rattle.schedules.specs.Schedules.{EndAnswer, ended, noState}
 use Rattle.schedules.specs.TableLaws.{table-shared}
 use Rattle.schedules.specs.Unclosed.{AllOpen, empty-one, open-passes, open-one}

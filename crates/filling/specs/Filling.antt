@@ -8,7 +8,7 @@ use Rattle.studies.specs.Study.{Study, study, roadAt, tableSize}
 use Rattle.meter.specs.declared.Law.{Law}
 use Rattle.meter.specs.Meter.{lawFaultOf}
 use Rattle.reading.specs.Reading.{readingOf, studyOf}
-use Rattle.releasing.specs.Releases.{putTable}
+use Rattle.patching.specs.Releases.{putTable}
 use Rattle.ramps.specs.Ramps.{Metered, unmetered, grantedAt, filledRow, meteredOf}
 use Rattle.schedules.specs.Schedules.{EndAnswer, ended, noState, lanesFault, tableOf}
 

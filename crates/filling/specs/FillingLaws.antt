@@ -1,11 +1,9 @@
 -- Laws of filling: the engine's run over the filled rows goes through the same states without a fault. Assumes nothing.
-use mathlib.Core.Path.{_≡_, refl, sym, ap, _∙_}
+use mathlib.Core.Path.{_≡_, refl}
 use mathlib.Core.List.{List}
-use Prim.Native.Nat.{ℕ, zero, suc, _+_, _*_, _^_, _≤_, _<_}
+use Prim.Native.Nat.{ℕ, zero, suc, _^_, _≤_, _<_}
 use native.Mathlib.Omega.{arith}
-use lib.ListN.{length}
-use Rattle.road.specs.Refusals.{fault, FaultAnswer}
-use Rattle.road.specs.declared.State.{State}
+use Rattle.road.specs.Refusals.{fault}
 use Rattle.studies.specs.Study.{Study, roadAt}
 use Rattle.limits.specs.LimitsLaws.{RowOk}
 use Rattle.meter.specs.declared.Law.{Law}
@@ -16,7 +14,7 @@ use Rattle.model.specs.Roads.{step-row, row-back}
 use Rattle.model.specs.RunsLaws.{StudyOk, Reached}
 use Rattle.schedules.specs.Schedules.{runSays}
 use Rattle.schedules.specs.SchedulesLaws.{run-reached}
-use Rattle.ramps.specs.Ramps.{Metered, filledRow, meteredOf}
+use Rattle.ramps.specs.Ramps.{meteredOf}
 use Rattle.ramps.specs.RampsLaws.{granted-small, filled-fits, filled-row}
 use Rattle.filling.specs.Filling.{meteredAfter, grantedIn, filledRows, filledStudy}
 

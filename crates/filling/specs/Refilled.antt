@@ -29,8 +29,8 @@ use Rattle.model.specs.Runs.{outflowsAt}
 use Rattle.model.specs.RunsLaws.{StudyOk}
 use Rattle.model.specs.Stamped.{stamped, Restamped, share-stamped, outflows-stamped, next-stamped, road-at, same-outflows}
 use Rattle.reading.specs.Reading.{ReadAnswer, readingOf, studyBy, studyOf}
-use Rattle.releasing.specs.Releases.{releaseNumber, releasedRow}
-use Rattle.releasing.specs.ReleasesLaws.{length-released, released-at, released-gate, released-arrivals}
+use Rattle.patching.specs.Releases.{releaseNumber, releasedRow}
+use Rattle.patching.specs.ReleasesLaws.{length-released, released-at, released-gate, released-arrivals}
 use Rattle.schedules.specs.Schedules.{EndAnswer, lanesFault, tableOf}
 use Rattle.schedules.specs.Demand.{Taken}
 use Rattle.schedules.specs.Readable.{readable}

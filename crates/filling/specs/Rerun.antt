@@ -1,21 +1,17 @@
 -- Theorems: the filled record reads as the record did, running it is refused nothing, and it gives filling's list, road and state. Assumes nothing.
 use mathlib.Core.Path.{_≡_, refl, sym, ap, _∙_, subst⁻¹}
-use mathlib.Core.Bool.{true}
 use mathlib.Core.List.{List}
-use Prim.Native.Nat.{ℕ, _+_, _*_, _≤_, _<_}
+use Prim.Native.Nat.{ℕ, _≤_, _<_}
 use native.Mathlib.Omega.{arith}
 use lib.ListN.{length}
-use Rattle.road.specs.Refusals.{FaultAnswer}
-use Rattle.numbers.specs.Lists.{at}
 use Rattle.studies.specs.Study.{Study, roadAt, tableSize}
-use Rattle.limits.specs.Limits.{rowOk}
 use Rattle.limits.specs.LimitsLaws.{row-ok}
-use Rattle.fields.specs.Fields.{rowStart, recordRow}
+use Rattle.fields.specs.Fields.{recordRow}
 use Rattle.meter.specs.declared.Law.{Law}
 use Rattle.reading.specs.Reading.{ReadAnswer, readingOf, studyBy, studyOf}
-use Rattle.releasing.specs.Releases.{releasedRow}
-use Rattle.releasing.specs.ReleasesLaws.{PutTable, put-table, table-head}
-use Rattle.releasing.specs.Same.{rows-replaced}
+use Rattle.patching.specs.Releases.{releasedRow}
+use Rattle.patching.specs.ReleasesLaws.{PutTable, put-table, table-head}
+use Rattle.patching.specs.Same.{rows-replaced}
 use Rattle.model.specs.StepLaws.{number-of}
 use Rattle.model.specs.Runs.{engineAfter}
 use Rattle.model.specs.RunsLaws.{StudyOk, Shared, shared-less, engine-shared}
@@ -27,7 +23,7 @@ use Rattle.schedules.specs.Demand.{Taken}
 use Rattle.schedules.specs.Readable.{readable}
 use Rattle.ramps.specs.Ramps.{filledRow}
 use Rattle.filling.specs.Filling.{meteredAfter, grantedIn, filledRows, filledStudy, filledBytes}
-use Rattle.filling.specs.FillingLaws.{filled-road, filled-run, releases-small, filled-ok, filled-passes}
+use Rattle.filling.specs.FillingLaws.{filled-run, releases-small, filled-ok, filled-passes}
 
 module _ (laws : List Law) (bytes lanes : List ℕ) (taken : Taken bytes lanes) where
   abbrev a : Study

@@ -1,7 +1,6 @@
 -- The theorems of filling: it changes only the record's releases; rerunning that record gives its list, road and state; each release is the law's;
 -- and demand 3 holds of the filled record. Assumes nothing.
-use mathlib.Core.Path.{_≡_, refl, sym, ap, _∙_, subst⁻¹}
-use mathlib.Core.Bool.{true, false}
+use mathlib.Core.Path.{_≡_, refl, sym, ap, _∙_}
 use mathlib.Core.List.{List}
 use Prim.Native.Nat.{ℕ, _≤_, _<_}
 use native.Mathlib.Omega.{arith}
@@ -14,16 +13,16 @@ use Rattle.fields.specs.Fields.{numberSize, versionOf, entryStart, recordRow}
 use Rattle.meter.specs.declared.Law.{Law}
 use Rattle.reading.specs.Reading.{readingOf, studyOf}
 use Rattle.model.specs.Places.{gateArrivals, arrivalsAt}
-use Rattle.releasing.specs.Bytes.{Outside}
-use Rattle.releasing.specs.Releases.{releaseNumber}
+use Rattle.patching.specs.Bytes.{Outside}
+use Rattle.patching.specs.Releases.{releaseNumber}
 use Rattle.model.specs.RunsLaws.{StudyOk, shared-less}
-use Rattle.schedules.specs.Schedules.{EndAnswer, noState, runningOf, listAfter}
+use Rattle.schedules.specs.Schedules.{EndAnswer, runningOf, listAfter}
 use Rattle.schedules.specs.Ends.{runs-refused, writes-refused, runs-closed, writes-closed, runs-short, writes-short}
 use Rattle.schedules.specs.Readable.{readable}
 use Rattle.schedules.specs.Demand.{Taken, Promised}
 use Rattle.schedules.specs.Whole.{unbegun, promised}
 use Rattle.ramps.specs.RampsLaws.{filled-gate, filled-arrivals}
-use Rattle.filling.specs.Filling.{meteredAfter, filledRows, filledStudy, filledBytes, lawPlace, fillingOf, recordAfter, filledList}
+use Rattle.filling.specs.Filling.{meteredAfter, filledBytes, lawPlace, fillingOf, recordAfter, filledList}
 use Rattle.filling.specs.Rerun.{filled-table, filled-rows, filled-reads, same-study, filled-shared, filled-taken, filled-runs, filled-writes}
 use Rattle.filling.specs.Cases.{Leaves, fills-refused, fills-law, fills-closed, fills-short, fills-all, Case, case-of}
 use Rattle.filling.specs.ByLaw.{ByLaw, filled-by-law, shared-by-law}

@@ -15,8 +15,8 @@ use Rattle.meter.specs.declared.Law.{Law}
 use Rattle.model.specs.Rules.{outflowsOf}
 use Rattle.columns.specs.Columns.{roadOf}
 use Rattle.moves.specs.Asked.{Steppable}
-use Rattle.releasing.specs.Releases.{putReleases}
-use Rattle.releasing.specs.ReleasesLaws.{PutRow, put-releases, put-same}
+use Rattle.patching.specs.Releases.{putReleases}
+use Rattle.patching.specs.ReleasesLaws.{PutRow, put-releases, put-same}
 use Rattle.ramps.specs.Ramps.{Metered, grantedAt, filledRow, nextMetered, meteredOf}
 use Rattle.ramps.specs.LentRamps.{ramped}
 use Rattle.ramps.specs.RampsLaws.{granted-small}

@@ -11,7 +11,7 @@ ghost use Rattle.road.specs.declared.Road.{Road};
 ghost use Rattle.road.specs.Road.{mostCells};
 ghost use Rattle.columns.specs.Columns.{roadOf, stateOf};
 ghost use Rattle.reading.specs.Reading.{studyBy};
-ghost use Rattle.releasing.specs.Releases.{putTable};
+ghost use Rattle.patching.specs.Releases.{putTable};
 ghost use Rattle.schedules.specs.Schedules.{endAnswer, tableOf};
 ghost use Rattle.schedules.specs.Demand.{Taken, Promised};
 ghost use Rattle.ramps.specs.Ramps.{metered};
@@ -66,7 +66,7 @@ fn fill_row<'a>(
         entered,
         released,
     );
-    releasing::put_releases(bytes, n, k, released);
+    patching::put_releases(bytes, n, k, released);
     let filled = fields::row(bytes, n, k);
     ramps::next(
         n,

@@ -1,19 +1,17 @@
 -- Theorem across putting a release and running: the record that putting leaves is run under every table of lanes that the old one was, its run checks
 -- the release against queue and supply, and it carries demand 3 against its own rivals. Assumes nothing.
-use mathlib.Core.Path.{_≡_, refl, sym, ap, _∙_}
+use mathlib.Core.Path.{_≡_, refl, ap, _∙_}
 use mathlib.Core.List.{List}
 use Prim.Native.Nat.{ℕ, _+_, _*_, _≤_, _<_}
 use native.Mathlib.Nat.{le-refl}
 use native.Mathlib.Omega.{arith}
 use lib.ListN.{set}
-use Rattle.numbers.specs.Lists.{at}
 use Rattle.road.specs.declared.State.{State}
 use Rattle.studies.specs.Study.{Study, roadAt}
-use Rattle.fields.specs.Fields.{recordRow}
 use Rattle.fields.specs.FieldsLaws.{row-at}
 use Rattle.reading.specs.Reading.{ReadAnswer, readingOf, studyOf}
 use Rattle.model.specs.Places.{releaseAt, mostReleaseAt, supplyAt}
-use Rattle.schedules.specs.Schedules.{scheduledAt, EndAnswer, stepsMade, runningOf, listAfter}
+use Rattle.schedules.specs.Schedules.{scheduledAt, stepsMade, runningOf, listAfter}
 use Rattle.schedules.specs.Readable.{readable}
 use Rattle.schedules.specs.Demand.{Taken, Promised}
 use Rattle.schedules.specs.Whole.{promised}

@@ -9,7 +9,7 @@ use Rattle.numbers.specs.Lists.{at}
 use Rattle.road.specs.Road.{startState, startIn}
 use Rattle.studies.specs.Study.{study}
 use Rattle.fields.specs.Fields.{recordRow}
-use Rattle.reading.specs.Reading.{ReadAnswer, readingOf, studyOf}
+use Rattle.reading.specs.Reading.{ReadAnswer, readingOf}
 use Rattle.encoding.specs.Record.{recordOf}
 use Rattle.writing.specs.WrittenAgain.{same-bytes}
 use Rattle.meter.specs.declared.Law.{Law}

@@ -11,10 +11,8 @@ use borrow.Author.Tests.{le-leb, eqb-true, eqb-false}
 use Rattle.road.specs.Refusals.{fault, FaultAnswer}
 use Rattle.numbers.specs.Lists.{at}
 use Rattle.numbers.specs.First.{unless, firstFault}
-use Rattle.road.specs.declared.State.{State}
 use Rattle.studies.specs.Study.{Study, roadAt}
 use Rattle.model.specs.Places.{arrivalsAt, releaseAt, mostReleaseAt, supplyAt}
-use Rattle.model.specs.Move.{nextOf}
 use Rattle.model.specs.MoveLaws.{next-queue}
 use Rattle.model.specs.Rules.{Sized}
 use Rattle.model.specs.Runs.{scheduleAfter, engineAfter, outflowsAt}

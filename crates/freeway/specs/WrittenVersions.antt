@@ -4,12 +4,11 @@ use mathlib.Core.List.{List}
 use Prim.Native.Nat.{ℕ, _<_}
 use Rattle.road.specs.declared.Road.{Road}
 use Rattle.road.specs.declared.Start.{Start}
-use Rattle.studies.specs.Study.{Study}
-use Rattle.reading.specs.Reading.{ReadAnswer, readingOf, studyOf}
+use Rattle.reading.specs.Reading.{ReadAnswer, studyOf}
 use Rattle.model.specs.Stamped.{stamped, Restamped}
 use Rattle.writing.specs.Writing.{writingOf}
-use Rattle.writing.specs.Saved.{Saved, savedOf, saved, saved-road, saved-start, saved-steps, saved-rows}
-use Rattle.schedules.specs.Schedules.{lanesFault, runningOf, judgingOf, listAfter}
+use Rattle.writing.specs.Saved.{Saved, savedOf, saved, saved-rows}
+use Rattle.schedules.specs.Schedules.{runningOf, judgingOf, listAfter}
 use Rattle.schedules.specs.Demand.{Taken}
 use Rattle.schedules.specs.Restamped.{EndsAlike, runs-alike, judges-alike, same-list}
 

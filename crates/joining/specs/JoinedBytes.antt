@@ -1,7 +1,7 @@
 -- Laws of the joined record's bytes: the cells and the rows of both roads, as the code puts them. Assumes nothing.
 use mathlib.Core.Path.{_≡_, refl, sym, ap, subst, _∙_}
 use mathlib.Core.Logic.{⊎-elim}
-use mathlib.Core.List.{List, [], _++_, append-assoc, append-nil}
+use mathlib.Core.List.{List, _++_, append-assoc, append-nil}
 use Prim.Native.Nat.{ℕ, zero, suc, _+_, _-_, _*_, _≤_, _<_}
 use native.Mathlib.Nat.{eq-or-lt-of-le}
 use native.Mathlib.Omega.{arith}
@@ -21,7 +21,7 @@ use Rattle.header.specs.Header.{sizeOf}
 use Rattle.header.specs.HeaderLaws.{Counts}
 use Rattle.reading.specs.Headers.{Steps}
 use Rattle.encoding.specs.Record.{numbersOf, headerBytes, cellBytes, rowBytes, recordOf}
-use Rattle.encoding.specs.Encoding as putting
+use Rattle.encoding.specs.Encoding as encoding
 use Rattle.encoding.specs.Encoding.{Putting, putting-none, putting-more, putting-end, putting-fits}
 use Rattle.encoding.specs.Encoding.{length-cell, header-ends, cells-end, record-puts}
 use Rattle.joining.specs.Joining.{joinedShare, joinedRoad, joinedStart, joinedRow, joinedStudy}
@@ -135,7 +135,7 @@ module _ (row next a : List ℕ) (start : ℕ) (b : List ℕ) (p : ℕ) (first :
   pub room-rest : start + length (joinedRow row next) * numberSize ≤ length a → p + length rest * numberSize ≤ length b
   room-rest h =
       let same : length b ≡ length a = ap length (first .1) ∙ length-placed a start (numbersOf row (length row)) in
-      omega (arith, same, first .0, putting.length-numbers row (length row), length-append row (drop 1 next), ap length rest-is)
+      omega (arith, same, first .0, encoding.length-numbers row (length row), length-append row (drop 1 next), ap length rest-is)
 
   pub row-puts : (c : List ℕ) (e : ℕ) → Puts b p (numbersOf rest (length rest)) c e
       → Puts a start (numbersOf (joinedRow row next) (length (joinedRow row next))) c e
@@ -170,7 +170,7 @@ module _ {before : List ℕ} {start : ℕ} {up : List ℕ} {n : ℕ} {down : Lis
         let q : Puts after end (rowBytes (n + m) (joinedRows up n down m) t) more to = rw (e, k, size) at p in
         record {
           within = omega arith;
-          put = putting-more before start _ (rowSize (n + m)) t (putting.length-row (n + m) (joinedRows up n down m) t) (h .put) q;
+          put = putting-more before start _ (rowSize (n + m)) t (encoding.length-row (n + m) (joinedRows up n down m) t) (h .put) q;
         }
 
     pub rowing-end : T ≤ t → Puts before start (concatOf (rowBytes (n + m) (joinedRows up n down m)) T) after end

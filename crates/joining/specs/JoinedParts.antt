@@ -9,7 +9,6 @@ use lib.Seq.{ext-getD}
 use Rattle.numbers.specs.Lists.{at}
 use Rattle.numbers.specs.Tests.{order}
 use Rattle.rows.specs.RowsLaws.{length-fill}
-use Rattle.flow.specs.Flow.{whole}
 use Rattle.road.specs.declared.Road.{Road}
 use Rattle.road.specs.declared.State.{State}
 use Rattle.road.specs.declared.Start.{Start}

@@ -1,16 +1,54 @@
--- What the tests of 20, 21 and 22 say, as facts. Assumes nothing.
-use mathlib.Core.Path.{_≡_}
+-- Which refusal of joining comes first, on paper, and what the tests of 20, 21 and 22 say, as facts. Assumes nothing.
+use mathlib.Core.Path.{_≡_, refl}
 use mathlib.Core.Bool.{true}
+use mathlib.Core.List.{List, [], _∷_}
 use Prim.Native.Nat.{ℕ, _≤_, _<_}
 use lib.Dec.{eqb}
+use lib.ListN.{replicate}
 use borrow.Author.Tests.{leb-true, le-leb, eqb-true, eq-eqb}
 use Rattle.numbers.specs.Lists.{at}
+use Rattle.numbers.specs.First.{oneOf, firstFrom, firstOf}
 use Rattle.numbers.specs.Tests.{le-head, eq-head, le-then, eq-then}
 use Rattle.numbers.specs.FirstLaws.{all-at, all-true}
-use Rattle.road.specs.Road.{mostCells, mostBytes}
-use Rattle.studies.specs.Study.{Study}
+use Rattle.road.specs.Road.{mostCells, mostBytes, zeros, startState}
+use Rattle.studies.specs.Study.{Study, study}
+use Rattle.fields.specs.Fields.{secondsSize, numberOf}
+use Rattle.reading.specs.Reading.{readingBy}
 use Rattle.encoding.specs.Record.{recordSize}
-use Rattle.joining.specs.Joining.{alike, gateIdle, joinedFits}
+use Rattle.writing.specs.Writing.{unwritten}
+use Rattle.joining.specs.Joining.{alike, gateIdle, joinedFits, joiningBy, joiningOf}
+
+-- a road of n cells and T steps without rows, whose numbers are 0 but for the gate's queue
+abbrev blank : ℕ → ℕ → ℕ → Study
+blank n T queue = study (record {
+  n = n;
+  version = 1;
+  seconds = 0;
+  «gate_capacity» = 0;
+  speed = zeros;
+  wave = zeros;
+  share = zeros;
+  ramp = zeros;
+  jam = zeros;
+  capacity = zeros;
+}) (startState (record { «gate_queue» = queue; held = zeros; queue = zeros })) T (λ _. []) []
+
+-- two roads of 40 cells, without room, meet what comes first of 5 at cell 40, 20, 21 and 22; two of 32 cells meet 15
+on-paper : (joiningBy (blank 40 1 0) (blank 40 2 1) 1001 0 ≡ unwritten 5 40)
+    × ((joiningBy (blank 40 1 0) (blank 40 2 1) 1000 0 ≡ unwritten 20 0)
+    × ((joiningBy (blank 40 1 0) (blank 40 1 1) 1000 0 ≡ unwritten 21 0)
+    × ((joiningBy (blank 40 1 0) (blank 40 1 0) 1000 0 ≡ unwritten 22 0) × (joiningBy (blank 32 1 0) (blank 32 1 0) 1000 0 ≡ unwritten 15 0))))
+unfolding firstOf firstFrom secondsSize
+on-paper = (refl, (refl, (refl, (refl, refl))))
+
+-- a record of version 3, which meets 2; no bytes meet 1
+abbrev unknown : List ℕ
+unknown = 0 ∷ 0 ∷ 0 ∷ 12 ∷ 3 ∷ replicate 11 0
+
+-- upstream's refusal comes first
+upstream-first : (joiningOf unknown [] 0 [] ≡ unwritten 2 0) × (joiningOf [] unknown 0 [] ≡ unwritten 1 0)
+unfolding joiningOf readingBy oneOf numberOf secondsSize
+upstream-first = (refl, refl)
 
 -- 20 doesn't apply: T, version and seconds are the same
 pub record Alike (a b : Study) : Type 0 where

@@ -1,5 +1,5 @@
 -- Laws of joining's tests and answers, in the code's order. Assumes nothing.
-use mathlib.Core.Path.{_≡_, refl, sym, ap, _∙_}
+use mathlib.Core.Path.{_≡_, sym, ap, _∙_}
 use mathlib.Core.Bool.{Bool, true, false, _&&_}
 use mathlib.Core.List.{List, [], _++_}
 use Prim.Native.Nat.{ℕ, _+_, _≤_, _<_}
@@ -8,15 +8,15 @@ use lib.Dec.{leb, eqb}
 use lib.ListN.{length, drop}
 use borrow.Author.Tests.{leb-true, le-leb, lt-leb, eq-eqb, ne-eqb}
 use Rattle.numbers.specs.Lists.{at}
-use Rattle.numbers.specs.First.{firstFrom, firstOf, allOf}
+use Rattle.numbers.specs.First.{allOf}
 use Rattle.numbers.specs.Tests.{le-head}
 use Rattle.rows.specs.Placed.{Puts}
 use Rattle.flow.specs.Flow.{whole}
 use Rattle.road.specs.declared.Road.{Road}
 use Rattle.road.specs.declared.Start.{Start}
-use Rattle.road.specs.Road.{mostCells, mostSteps, mostBytes, zeros, startState, startIn}
-use Rattle.studies.specs.Study.{Study, study}
-use Rattle.fields.specs.Fields.{numberSize, numberOf, versionOf, secondsSize, rowStart, entryStart, recordRow}
+use Rattle.road.specs.Road.{mostCells, mostSteps, mostBytes, startState, startIn}
+use Rattle.studies.specs.Study.{Study}
+use Rattle.fields.specs.Fields.{numberSize, numberOf, versionOf, rowStart, entryStart, recordRow}
 use Rattle.fields.specs.FieldsLaws.{row-at}
 use Rattle.header.specs.Header.{sizeOf}
 use Rattle.reading.specs.Reading.{ReadAnswer, readingOf, studyBy}
@@ -28,39 +28,6 @@ use Rattle.writing.specs.Writing.{WriteAnswer, unwritten, written}
 use Rattle.joining.specs.Joining.{joinedStudy, alike, gateIdle, joinedFits, joiningBy, joiningOf, joinedTarget}
 use Rattle.joining.specs.Theorems.{ReadsJoined, joins-only, reads-as-joined}
 use Rattle.joining.specs.JoinedBytes.{Joins}
-
--- a road of n cells and T steps without rows, whose numbers are 0 but for the gate's queue
-abbrev blank : ℕ → ℕ → ℕ → Study
-blank n T queue = study (record {
-  n = n;
-  version = 1;
-  seconds = 0;
-  «gate_capacity» = 0;
-  speed = zeros;
-  wave = zeros;
-  share = zeros;
-  ramp = zeros;
-  jam = zeros;
-  capacity = zeros;
-}) (record {
-  done = 0;
-  «gate_time» = 0;
-  «road_time» = 0;
-  «ramp_time» = 0;
-  «gate_queue» = queue;
-  «gate_cumulative» = 0;
-  held = zeros;
-  queue = zeros;
-  cumulative = zeros;
-}) T (λ _. []) []
-
--- two roads of 40 cells, without room, meet what comes first of 5 at cell 40, 20, 21 and 22; two of 32 cells meet 15
-on-paper : (joiningBy (blank 40 1 0) (blank 40 2 1) 1001 0 ≡ unwritten 5 40)
-    × ((joiningBy (blank 40 1 0) (blank 40 2 1) 1000 0 ≡ unwritten 20 0)
-    × ((joiningBy (blank 40 1 0) (blank 40 1 1) 1000 0 ≡ unwritten 21 0)
-    × ((joiningBy (blank 40 1 0) (blank 40 1 0) 1000 0 ≡ unwritten 22 0) × (joiningBy (blank 32 1 0) (blank 32 1 0) 1000 0 ≡ unwritten 15 0))))
-unfolding firstOf firstFrom secondsSize
-on-paper = (refl, (refl, (refl, (refl, refl))))
 
 -- 21 in the bytes: the gate has no arrival in step t; no queue and, in no step, an arrival
 abbrev pub noArrival : List ℕ → ℕ → ℕ → Bool

@@ -1,6 +1,6 @@
 -- The load that is stated in numbers: seed 0 with peak 1,000. Assumes nothing.
 use mathlib.Core.Path.{_≡_, refl}
-use mathlib.Core.List.{List, [], _∷_}
+use mathlib.Core.List.{[], _∷_}
 use Prim.Native.Nat.{ℕ}
 use lib.ListN.{replicate}
 use Rattle.rows.specs.Rows.{listOf}

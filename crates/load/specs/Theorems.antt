@@ -10,7 +10,7 @@ use Rattle.numbers.specs.Lists.{at}
 use Rattle.numbers.specs.Tests.{order}
 use Rattle.rows.specs.Rows.{listOf}
 use Rattle.road.specs.Road.{mostRate}
-use Rattle.load.specs.Load.{nextOf, arrivalOf, numberAfter, arrivalAt, arrivalsOf, LoadAnswer, loaded, loadingOf, loadedList}
+use Rattle.load.specs.Load.{nextOf, numberAfter, arrivalAt, arrivalsOf, LoadAnswer, loadingOf, loadedList}
 use Rattle.load.specs.LoadLaws.{arrival-most, number-none, number-below, arrivals-at, refused-answer, refused-list, loaded-answer, loaded-list}
 
 -- 1: every arrival is at most the peak

@@ -1,6 +1,6 @@
 -- Two states after the same arrivals and releases, one ahead of the other at every place: what is ahead has no more present.
 -- Of the road only its cells and shares matter. Assumes nothing.
-use mathlib.Core.Path.{_≡_, refl, sym, ap, subst}
+use mathlib.Core.Path.{_≡_, refl, ap, subst}
 use Prim.Native.Nat.{ℕ, zero, suc, _+_, _-_, _*_, _≤_, _<_}
 use native.Mathlib.Nat.{le-refl, mul-le-mul-left}
 use native.Mathlib.Omega.{arith}
@@ -8,7 +8,6 @@ use lib.ListN.{take}
 use Rattle.flow.specs.FlowLaws.{onward-mono, onward-step, onward-whole}
 use Rattle.rows.specs.Sum.{sumOf}
 use Rattle.rows.specs.SumLaws.{sum-start, sum-more}
-use Rattle.rows.specs.Rows.{listOf}
 use Rattle.rows.specs.RowsLaws.{sum-list-none, sum-list-more, sum-list-le, sum-list-same}
 use Rattle.road.specs.declared.Road.{Road}
 use Rattle.road.specs.declared.State.{State}

@@ -3,10 +3,9 @@ use mathlib.Core.Path.{_≡_, ap, _∙_}
 use mathlib.Core.List.{List}
 use Prim.Native.Nat.{ℕ, _+_, _-_, _≤_, _<_}
 use native.Mathlib.Nat.{le-refl}
-use lib.ListN.{length, set, take}
+use lib.ListN.{set, take}
 use Rattle.flow.specs.Flow.{enteringOf}
 use Rattle.rows.specs.Sum.{sumOf}
-use Rattle.rows.specs.Rows.{fillOf}
 use Rattle.rows.specs.RowsLaws.{fill-past}
 use Rattle.road.specs.declared.Road.{Road}
 use Rattle.road.specs.declared.State.{State}
@@ -18,9 +17,9 @@ use Rattle.model.specs.MoveLaws.{counted-is, counted-present}
 use Rattle.model.specs.Kept.{present-bound}
 use native.Mathlib.Omega.{arith}
 use Rattle.model.specs.Rules.{outflowsOf}
-use Rattle.moves.specs.Asked.{Movable, Steppable, Countable, Moved, moved-cell, moved-end}
+use Rattle.moves.specs.Asked.{Movable, Countable, Moved, moved-cell, moved-end}
 use Rattle.columns.specs.declared.Ledger.{Ledger}
-use Rattle.columns.specs.Columns.{roadOf, sharing, stateOf}
+use Rattle.columns.specs.Columns.{sharing, stateOf}
 
 -- advancing asks that the row may be moved by on some road with these shares, and that steps are left
 pub record Advances (n : ℕ) (share : List ℕ) (l : Ledger) (held queue cumulative row y : List ℕ) : Type 0 where

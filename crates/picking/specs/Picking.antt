@@ -1,7 +1,7 @@
 -- docs/MODEL.md, 'The numbers of a row': those of a step, of any bytes. Assumes nothing.
 use mathlib.Core.Bool.{_&&_}
 use mathlib.Core.List.{List}
-use Prim.Native.Nat.{ℕ, _+_, _*_}
+use Prim.Native.Nat.{ℕ, _+_}
 use lib.Dec.{leb}
 use lib.ListN.{length, replicate}
 use Rattle.numbers.specs.First.{unless}

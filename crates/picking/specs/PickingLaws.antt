@@ -13,9 +13,8 @@ use Rattle.rows.specs.Rows.{fillOf}
 use Rattle.rows.specs.RowsLaws.{fill-more, fill-same, length-fill}
 use Rattle.fields.specs.Fields.{versionOffset, numberSize, numberOf, versionOf, rowStart, rowNumbers, entryOf, recordRow, HoldsRow}
 use Rattle.fields.specs.FieldsLaws.{row-taken, holds-row}
-use Rattle.header.specs.Header.{stepsOf}
 use Rattle.reading.specs.Reading.{ReadAnswer, readingOf}
-use Rattle.reading.specs.Found.{Found, Accepted, read-found, early-refused}
+use Rattle.reading.specs.Found.{Found, read-found, early-refused}
 use Rattle.picking.specs.Picking.{noNumbers, entryOr, numberAt, numbersAt, rowArray}
 
 -- one number: there, or not whole

@@ -9,7 +9,7 @@ use Rattle.road.specs.Road.{mostRate}
 use Rattle.road.specs.Refusals.{FaultAnswer, fault}
 use Rattle.fields.specs.Fields.{HoldsRow}
 use Rattle.reading.specs.Reading.{readingOf}
-use Rattle.releasing.specs.Releases.{putEntry}
+use Rattle.patching.specs.Releases.{putEntry}
 
 -- 5: a cell from 1 to n that has a ramp
 unfoldable pub rampOk : List ℕ → ℕ → ℕ → Bool

@@ -21,9 +21,9 @@ use Rattle.limits.specs.LimitsLaws.{RowOk, row-ok}
 use Rattle.reading.specs.Reading.{readingOf}
 use Rattle.reading.specs.Found.{Accepted}
 use Rattle.reading.specs.Within.{read-within, read-row}
-use Rattle.releasing.specs.Bytes.{compare}
-use Rattle.releasing.specs.ReleasesLaws.{Put, put-entry}
-use Rattle.releasing.specs.Same.{rows-replaced}
+use Rattle.patching.specs.Bytes.{compare}
+use Rattle.patching.specs.ReleasesLaws.{Put, put-entry}
+use Rattle.patching.specs.Same.{rows-replaced}
 use Rattle.put.specs.Put.{rampOk, ratesOk, releasedAt, puttingOf, releasedRecord}
 use Rattle.put.specs.PutLaws.{Ramp, ramp-facts, facts-ramp, rates-facts, facts-rates}
 

@@ -14,7 +14,7 @@ use Rattle.meter.specs.Meter.{wishOf, wholeBelow, lawAt}
 use Rattle.model.specs.Places.{mostReleaseAt, supplyAt, enteringAt}
 use Rattle.model.specs.Move.{nextOf}
 use Rattle.model.specs.Rules.{outflowsOf}
-use Rattle.releasing.specs.Releases.{releasedRow}
+use Rattle.patching.specs.Releases.{releasedRow}
 
 -- what the wishes of a step go by: the state before it, and of the last step each release granted and what entered each cell from upstream
 pub record Metered : Type 0 where

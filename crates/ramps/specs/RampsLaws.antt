@@ -2,7 +2,7 @@
 use mathlib.Core.Path.{_≡_, refl, _∙_}
 use mathlib.Core.Bool.{Bool, true, false, cond}
 use mathlib.Core.List.{List}
-use Prim.Native.Nat.{ℕ, _+_, _*_, _^_, min, _≤_, _<_}
+use Prim.Native.Nat.{ℕ, _+_, _*_, _^_, _≤_, _<_}
 use native.Mathlib.Omega.{arith}
 use lib.Dec.{eqb}
 use lib.Ieee.{Float}
@@ -11,7 +11,6 @@ use lib.ListN.{length}
 use Rattle.numbers.specs.Lists.{at}
 use Rattle.rows.specs.RowsLaws.{fill-at}
 use Rattle.road.specs.declared.Road.{Road}
-use Rattle.road.specs.declared.State.{State}
 use Rattle.road.specs.Road.{mostRate}
 use Rattle.limits.specs.Limits.{rowOk}
 use Rattle.limits.specs.LimitsLaws.{RoadOk, RowOk, row-ok}
@@ -20,7 +19,7 @@ use Rattle.meter.specs.Meter.{wholeBelow}
 use Rattle.meter.specs.MeterLaws.{whole-most}
 use Rattle.model.specs.Places.{gateArrivals, arrivalsAt, releaseAt, mostReleaseAt, supplyAt, enteringAt}
 use Rattle.model.specs.Rules.{Released, outflowsOf}
-use Rattle.releasing.specs.ReleasesLaws.{length-released, released-at, released-gate, released-arrivals}
+use Rattle.patching.specs.ReleasesLaws.{length-released, released-at, released-gate, released-arrivals}
 use Rattle.ramps.specs.Ramps.{Metered, wishAt, capAt, releaseOf, grantedAt, filledRow, meteredOf}
 
 -- a release is at most its cap, and 0 without a ramp

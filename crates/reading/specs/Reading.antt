@@ -6,7 +6,7 @@ use lib.Dec.{eqb}
 use lib.ListN.{length}
 use Rattle.road.specs.declared.Road.{Road}
 use Rattle.road.specs.declared.State.{State}
-use Rattle.road.specs.Road.{mostCells, mostBytes, zeros, emptyRoad, emptyState}
+use Rattle.road.specs.Road.{mostCells, mostBytes, emptyRoad, emptyState, startState}
 use Rattle.numbers.specs.First.{unless, oneOf, unlessFirst}
 use Rattle.road.specs.Refusals.{refusalNumber}
 use Rattle.studies.specs.Study.{Study, study}
@@ -49,19 +49,13 @@ roadOf s = record {
   capacity = columnOf s capacityOffset numberSize (cellsOf s);
 }
 
--- the state before step 0, with every F, every time and the steps done 0
+-- the state before step 0
 abbrev pub startOf : List ℕ → State
-startOf s = record {
-  done = 0;
-  «gate_time» = 0;
-  «road_time» = 0;
-  «ramp_time» = 0;
+startOf s = startState (record {
   «gate_queue» = numberOf s (gateQueueOffset (versionOf s)) numberSize;
-  «gate_cumulative» = 0;
   held = columnOf s heldOffset numberSize (cellsOf s);
   queue = columnOf s queueOffset numberSize (cellsOf s);
-  cumulative = zeros;
-}
+})
 
 -- 6: the row of step t is within the limits
 abbrev pub stepOk : List ℕ → Road → ℕ → Bool

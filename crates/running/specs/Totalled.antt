@@ -1,14 +1,13 @@
 -- What the loop of running knows of the weighted total. Assumes nothing.
 use mathlib.Core.Path.{_≡_, refl, sym, ap, _∙_}
 use mathlib.Core.Bool.{Bool, true, false, cond}
-use Prim.Native.Nat.{ℕ, suc, _+_, _*_, _≤_, _<_}
+use Prim.Native.Nat.{ℕ, suc, _+_, _*_, _≤_}
 use native.Mathlib.Numerals.{add-one}
 use native.Mathlib.Omega.{arith}
 use Rattle.road.specs.declared.State.{State}
 use Rattle.road.specs.Road.{mostSteps}
 use Rattle.studies.specs.Study.{Study}
 use Rattle.model.specs.Runs.{engineAfter}
-use Rattle.model.specs.RunsLaws.{StudyOk}
 use Rattle.model.specs.Weights.{weightedOf, weightedTotal}
 use Rattle.model.specs.WeightsLaws.{weighted-total-none, weighted-total-more}
 use Rattle.weighing.specs.Bounds.{mostWeighted, mostWeightedTotal}

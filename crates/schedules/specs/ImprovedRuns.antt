@@ -15,7 +15,7 @@ use Rattle.model.specs.RunsLaws.{StudyOk}
 use Rattle.model.specs.Improved.{Improved, improved-behind}
 use Rattle.reading.specs.Reading.{readingOf, studyOf}
 use Rattle.reading.specs.Numbers.{read-numbers}
-use Rattle.schedules.specs.Schedules.{runSays, firstStep, EndAnswer, stepsMade, runningOf}
+use Rattle.schedules.specs.Schedules.{runSays, firstStep, stepsMade, runningOf}
 use Rattle.schedules.specs.SchedulesLaws.{step-within, step-before, end-made, end-state, run-fits}
 use Rattle.schedules.specs.Ends.{runs-short, runs-long}
 use Rattle.schedules.specs.Readable.{readable}

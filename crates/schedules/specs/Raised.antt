@@ -17,7 +17,7 @@ use Rattle.model.specs.Rules.{outflowsOf}
 use Rattle.model.specs.Step.{lowestOf, tableFault}
 use Rattle.model.specs.Runs.{engineAfter}
 use Rattle.reading.specs.Reading.{readingBy}
-use Rattle.schedules.specs.Schedules.{EndAnswer, endOf, openingOf, runningOf}
+use Rattle.schedules.specs.Schedules.{endOf, openingOf, runningOf}
 
 -- numbers of a record, of two bytes and of four: both have this high and low byte
 unfoldable pub two : ℕ → ℕ → List ℕ

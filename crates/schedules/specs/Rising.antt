@@ -1,7 +1,7 @@
 -- That weights fall from the gate on is needed: with weights 0, 200 and 255 on the printed run the schedule that sends nothing has a smaller weighted
 -- total than the engine. Assumes nothing.
 use mathlib.Core.Path.{_≡_, refl}
-use mathlib.Core.List.{List, [], _∷_}
+use mathlib.Core.List.{[], _∷_}
 use Prim.Native.Nat.{ℕ}
 use Rattle.numbers.specs.Lists.{at}
 use Rattle.numbers.specs.First.{oneOf, firstFrom, firstOf, firstFault}

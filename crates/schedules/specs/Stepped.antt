@@ -20,7 +20,7 @@ use Rattle.road.specs.Road.{mostSteps}
 use Rattle.road.specs.Refusals.{FaultAnswer, fault}
 use Rattle.studies.specs.Study.{Study, openRoad, roadAt, tableSize}
 use Rattle.limits.specs.LimitsLaws.{input-ok}
-use Rattle.model.specs.Step.{Answer, answer, stepOn, steppingOf, releasesOf}
+use Rattle.model.specs.Step.{Answer, answer, stepOn, steppingOf}
 use Rattle.model.specs.StepLaws.{TableOk, releases-fit, on-next, stepping-on}
 use Rattle.model.specs.Opened.{opened-all, same-road, other-road}
 use Rattle.model.specs.Unread.{SameTo, fault-unread as unread, road-unread}
@@ -28,7 +28,7 @@ use Rattle.model.specs.Runs.{engineAfter, outflowsAt}
 use Rattle.model.specs.Move.{nextOf}
 use Rattle.model.specs.RunsLaws.{StudyOk, Reached}
 use Rattle.reading.specs.Reading.{readingOf, studyOf}
-use Rattle.schedules.specs.Schedules.{proposedAt, scheduledAt, runSays, firstStep, EndAnswer, endOf, runEnd, runningOf, stepsMade, tableOf, listAfter}
+use Rattle.schedules.specs.Schedules.{scheduledAt, runSays, firstStep, EndAnswer, endOf, runEnd, runningOf, stepsMade, tableOf, listAfter}
 use Rattle.schedules.specs.SchedulesLaws.{step-within, step-before, end-made, end-same, run-reached}
 use Rattle.schedules.specs.TableLaws.{table-row}
 use Rattle.schedules.specs.Ends.{runs-long, writes-long}

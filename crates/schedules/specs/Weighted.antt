@@ -1,5 +1,5 @@
 -- Theorem: the weighted total of a run is at most that of each schedule, for weights that fall from the gate on. Assumes nothing.
-use mathlib.Core.Path.{_≡_, refl, sym, ap, _∙_, subst⁻¹}
+use mathlib.Core.Path.{_≡_, refl, sym, ap, _∙_}
 use mathlib.Core.Logic.{⊎-elim}
 use mathlib.Core.List.{List}
 use Prim.Native.Nat.{ℕ, suc, _≤_, _<_}
@@ -16,9 +16,9 @@ use Rattle.model.specs.WeightsLaws.{weighted-total-same, weighted-total-none}
 use Rattle.reading.specs.Reading.{readingOf, studyOf}
 use Rattle.schedules.specs.Schedules.{proposedAt, scheduledAt, runSays, judgeSays, firstStep, stepsMade, openingOf, runningOf, judgingOf}
 use Rattle.schedules.specs.Schedules.{tableOf, listAfter}
-use Rattle.schedules.specs.SchedulesLaws.{step-within, step-before, end-made, run-fits}
+use Rattle.schedules.specs.SchedulesLaws.{step-before, end-made, run-fits}
 use Rattle.schedules.specs.TableLaws.{table-row}
-use Rattle.schedules.specs.Ends.{runs-unopened, runs-short, runs-long, writes-short, writes-long, judges-length, judges-ends}
+use Rattle.schedules.specs.Ends.{runs-unopened, runs-short, runs-long, writes-long, judges-length, judges-ends}
 use Rattle.schedules.specs.Readable.{readable}
 use Rattle.schedules.specs.Demand.{Reaches, Taken, WeightedDemand}
 use Rattle.schedules.specs.DemandLaws.{own-state, run-done, judge-done}

@@ -1,6 +1,6 @@
 -- Laws of vehicle-seconds: the quotient of a product by its whole vehicles and the rest. Assumes nothing.
 use mathlib.Core.Path.{_≡_, refl, ap, _∙_}
-use mathlib.Core.List.{List, [], _∷_}
+use mathlib.Core.List.{[], _∷_}
 use Prim.Native.Nat.{ℕ, _+_, _-_, _*_, _/_, _%_, _^_, min, _≤_, _<_}
 use native.Mathlib.Nat.{add-mul, mul-assoc, mul-le-mul, le-div-iff-mul-le}
 use native.Mathlib.Omega.{arith}

@@ -1,6 +1,6 @@
 -- Small cases, worked out on paper: a start queue of 4, a ceiling of 3, a rate of 2 and three steps. Assumes nothing.
 use mathlib.Core.Path.{_≡_, refl}
-use mathlib.Core.Bool.{true, false}
+use mathlib.Core.Bool.{false}
 use mathlib.Core.List.{[], _∷_}
 use Rattle.numbers.specs.First.{firstOf, firstFrom}
 use Rattle.rows.specs.Sum.{sumOf}

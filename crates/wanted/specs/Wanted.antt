@@ -12,7 +12,6 @@ use Rattle.road.specs.Road.{mostSteps, mostRate, mostStart}
 use Rattle.numbers.specs.First.{unless}
 use Rattle.numbers.specs.First.{allOf}
 use Rattle.limits.specs.AllWithin.{allWithin}
-use Rattle.road.specs.declared.Refusal.{Refusal}
 use Rattle.road.specs.declared.Wanted.{Wanted}
 use Rattle.road.specs.declared.Wanted.the-variants.{Refused, None, Found}
 use Rattle.road.specs.Refusals.{refusalNumber}

@@ -1,9 +1,9 @@
 -- Where each number of a study stands in its record's bytes. Assumes nothing.
-use mathlib.Core.Path.{_≡_, sym, _∙_}
+use mathlib.Core.Path.{_≡_}
 use mathlib.Core.List.{List, _++_}
 use Prim.Native.Nat.{ℕ, _+_, _-_, _*_, _≤_, _<_}
 use native.Mathlib.Omega.{arith}
-use lib.ListN.{length, length-append}
+use lib.ListN.{length}
 use Rattle.numbers.specs.Lists.{at}
 use Rattle.rows.specs.Rows.{concatOf}
 use Rattle.rows.specs.Concat.{length-concat}

@@ -34,11 +34,8 @@ abbrev pub written : ℕ → WriteAnswer
 written count = record { number = 0; place = 0; count = count }
 
 -- 6: the row of step t is within the limits
-abbrev pub rowsOk : List ℕ → ℕ → (ℕ → List ℕ) → ℕ → Bool
-rowsOk ramp n rows t = rowOk ramp n (rows t)
-
 abbrev pub givenOk : Study → ℕ → Bool
-givenOk a t = rowsOk (a .road .ramp) (a .road .n) (a .rows) t
+givenOk a t = rowOk (a .road .ramp) (a .road .n) (a .rows t)
 
 -- the frame's faults, of numbers that belong to no place: 2, a version that no record has; 3; 19; 1, more than 65,536 bytes;
 -- 4, row numbers not T × (1 + 2n)

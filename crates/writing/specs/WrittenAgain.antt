@@ -3,18 +3,17 @@ use mathlib.Core.Path.{_≡_, refl, ap, _∙_}
 use mathlib.Core.List.{List, [], _++_}
 use Prim.Native.Nat.{ℕ, _+_, _-_, _*_, _≤_, _<_}
 use native.Mathlib.Omega.{arith}
-use lib.ListN.{length, take, drop}
+use lib.ListN.{length}
 use lib.Seq.{take-all}
 use Rattle.numbers.specs.Lists.{at}
 use Rattle.rows.specs.Rows.{concatOf}
 use Rattle.rows.specs.Concat.{concat-same}
 use Rattle.rows.specs.TablesLaws.{row-ends}
-use Rattle.road.specs.declared.Road.{Road}
 use Rattle.road.specs.Road.{startState, startIn}
 use Rattle.studies.specs.Study.{Study, study}
 use Rattle.fields.specs.Fields.{countSize, versionOf, secondsSize, headerSize, gateQueueOffset, cellSize, shortSize, numberSize}
 use Rattle.fields.specs.Fields.{rowNumbers, rowSize, rowStart, numberOf, recordRow, bytesOf}
-use Rattle.fields.specs.FieldsLaws.{Column, row-at}
+use Rattle.fields.specs.FieldsLaws.{row-at}
 use Rattle.fields.specs.BytesLaws.{partOf, part-join, part-next, part-concat, bytes-part}
 use Rattle.header.specs.Header.{sizeOf}
 use Rattle.reading.specs.Reading.{ReadAnswer, readingOf}

@@ -9,7 +9,8 @@ ghost use Rattle.rows.specs.Tables.{rowAt};
 ghost use Rattle.road.specs.Refusals.{refusalNumber};
 ghost use Rattle.fields.specs.Fields.{rowNumbers};
 ghost use Rattle.encoding.specs.Encoding.{Rows};
-ghost use Rattle.writing.specs.Writing.{unwritten, rowsOk, writeAnswer, frameFault, writingOf, targetAfter};
+ghost use Rattle.limits.specs.Limits.{rowOk};
+ghost use Rattle.writing.specs.Writing.{unwritten, writeAnswer, frameFault, writingOf, targetAfter};
 ghost use Rattle.writing.specs.Saved.{ReadsBack};
 
 // 2, 3, 19, 1 and 4: the version, n and T, the seconds, the record's size, and the count of the rows' numbers.
@@ -37,7 +38,7 @@ fn frame_refusal(version: u8, seconds: u16, n: usize, steps: usize, numbers: usi
 // The first step whose row is out of its limits, or `steps`.
 fn first_row(ramp: [u16; 64], n: usize, rows: &[u32], steps: usize) -> usize
     requires { ⌜ Rows (now rows) n steps ⌝ }
-    ensures { λ t. ⌜ t ≡ firstOf (rowsOk ramp n (rowAt (now (rows .entry)) (rowNumbers n))) steps ⌝ }
+    ensures { λ t. ⌜ t ≡ firstOf (λ j. rowOk ramp n (rowAt (now (rows .entry)) (rowNumbers n) j)) steps ⌝ }
 {
     let numbers = 1 + 2 * n;
     let mut from = 0;

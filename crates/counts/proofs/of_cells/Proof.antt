@@ -2,7 +2,7 @@
 use mathlib.Core.Path.{_≡_}
 use lib.ListN.{length}
 use Rattle.road.specs.Road.{mostCells}
-use Rattle.counts.specs.Cells.{Part, part-length, PartSum, part-sum}
+use Rattle.counts.specs.Cells.{Part, part-length, part-sum}
 use native.Mathlib.Omega.{arith}
 use borrow.Author.Needs.{needs}
 use Rattle.counts.proofs.of_cells.Statement.{statement}

@@ -1,8 +1,6 @@
 -- `encoding::put_rows` meets its contract. The invariant: the rows of t steps are put. Assumes nothing.
-use mathlib.Core.Path.{_≡_}
-use mathlib.Core.List.{List}
-use Prim.Native.Nat.{ℕ, _+_, _-_, _*_, _≤_}
-use lib.ListN.{length, take, drop}
+use Prim.Native.Nat.{_+_, _-_, _≤_}
+use lib.ListN.{length}
 use Rattle.rows.specs.TablesLaws.{part-row, part-length}
 use Rattle.fields.specs.Fields.{rowNumbers}
 use Rattle.encoding.specs.Encoding.{Rowing, rowing-none, rowing-more, rowing-end, row-there, row-room}

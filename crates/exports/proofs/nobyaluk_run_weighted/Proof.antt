@@ -1,5 +1,5 @@
 -- `exports::nobyaluk_run_weighted` meets its contract. Assumes nothing.
-use mathlib.Core.Path.{_≡_, refl, sym, ap, _∙_}
+use mathlib.Core.Path.{refl, ap, _∙_}
 use Rattle.exports.specs.Answers.{endedFor}
 use borrow.Author.Needs.{needs}
 use Rattle.exports.proofs.nobyaluk_run_weighted.Statement.{statement}

@@ -1,5 +1,5 @@
 -- `exports::nobyaluk_wanted` meets its contract: in each case of the answer. Assumes nothing.
-use mathlib.Core.Path.{_≡_, refl, sym, ap, _∙_}
+use mathlib.Core.Path.{_≡_, sym, ap, _∙_}
 use Rattle.road.specs.declared.Wanted.{Wanted}
 use Rattle.wanted.specs.Wanted.{WantedAnswer, wantedAnswer}
 use Rattle.exports.specs.Answers.{wantedFor}

@@ -1,5 +1,5 @@
 -- `exports::reading_of` meets its contract. Assumes nothing.
-use mathlib.Core.Path.{_≡_, refl, sym, ap, _∙_}
+use mathlib.Core.Path.{refl}
 use borrow.Author.Needs.{needs}
 use Rattle.exports.proofs.reading_of.Statement.{statement}
 use Rattle.exports.proofs.reading_of.Tie as tie

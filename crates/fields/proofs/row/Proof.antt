@@ -2,7 +2,6 @@
 use Prim.Native.Nat.{ℕ}
 use lib.ListN.{length-replicate}
 use native.Mathlib.Omega.{arith}
-use borrow.Author.Needs.{needs}
 use Rattle.fields.proofs.row.Statement.{statement}
 use Rattle.fields.proofs.row.Tie as tie
 

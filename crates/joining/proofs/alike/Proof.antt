@@ -1,6 +1,5 @@
 -- `joining::alike` meets its contract. Assumes nothing.
 use mathlib.Core.Path.{refl}
-use borrow.Author.Needs.{needs}
 use Rattle.joining.proofs.alike.Statement.{statement}
 use Rattle.joining.proofs.alike.Tie as tie
 

@@ -2,7 +2,6 @@
 use native.Mathlib.Omega.{arith}
 use Rattle.fields.specs.FieldsLaws.{start-small}
 use Rattle.joining.specs.JoiningLaws.{too-many, by-size}
-use borrow.Author.Needs.{needs}
 use Rattle.joining.proofs.fits.Statement.{statement}
 use Rattle.joining.proofs.fits.Tie as tie
 

@@ -1,5 +1,5 @@
 -- `load::load` meets its contract. Each return, by the test on the way to it. Assumes nothing.
-use mathlib.Core.Path.{_≡_, sym, ap, _∙_}
+use mathlib.Core.Path.{sym, ap, _∙_}
 use Rattle.load.specs.Load.{loaded}
 use Rattle.load.specs.LoadLaws.{refused-answer, refused-list, loaded-answer, loaded-list}
 use borrow.Author.Needs.{needs}

@@ -1,7 +1,6 @@
 -- `picking::row` meets its contract. Each return, by the tests on the way to it. Assumes nothing.
 use native.Mathlib.Omega.{arith}
 use Rattle.picking.specs.PickingLaws.{array-cells, array-steps, array-numbers}
-use borrow.Author.Needs.{needs}
 use Rattle.picking.proofs.row.Statement.{statement}
 use Rattle.picking.proofs.row.Tie as tie
 

@@ -1,5 +1,5 @@
 -- `printing::step_lines` meets its contract: the lines are those of the row that the step wrote. Assumes nothing.
-use mathlib.Core.Path.{_≡_, ap, _∙_}
+use mathlib.Core.Path.{ap, _∙_}
 use native.Mathlib.Omega.{arith}
 use lib.ListN.{length}
 use Rattle.road.specs.declared.State.{State}

@@ -1,9 +1,7 @@
 -- `put::put` meets its contract. Each return, by the tests on the way to it. Assumes nothing.
 use mathlib.Core.Path.{_≡_, sym, _∙_}
 use mathlib.Core.Bool.{true}
-use Prim.Native.Nat.{_≤_}
 use borrow.Author.Tests.{not-true, not-false}
-use Rattle.road.specs.Road.{mostCells}
 use Rattle.road.specs.Refusals.{refusalNumber}
 use Rattle.reading.specs.Within.{read-within, read-row}
 use Rattle.put.specs.Put.{rampOk, ratesOk}

@@ -1,5 +1,5 @@
 -- `ramps::granted` meets its contract: without a ramp, and with one. Assumes nothing.
-use mathlib.Core.Path.{_≡_, ap, _∙_}
+use mathlib.Core.Path.{ap, _∙_}
 use lib.Ieee.{Float}
 use Rattle.meter.specs.Meter.{wholeBelow}
 use Rattle.ramps.specs.Granting.{no-ramp, with-ramp}

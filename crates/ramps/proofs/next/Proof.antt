@@ -1,6 +1,5 @@
 -- `ramps::next` meets its contract: the releases fit, so their look leaves the rooms; then the step, and what entered in it. Assumes nothing.
 use mathlib.Core.Path.{_≡_, ap, _∙_}
-use mathlib.Core.List.{List}
 use Prim.Native.Nat.{ℕ}
 use Rattle.road.specs.declared.Road.{Road}
 use Rattle.road.specs.declared.State.{State}

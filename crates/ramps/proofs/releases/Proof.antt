@@ -10,7 +10,6 @@ use Rattle.ramps.specs.Ramps.{metered}
 use Rattle.ramps.specs.LentRamps.{ramped}
 use Rattle.ramps.specs.Granting.{Granting, granting-none, granting-more, granting-end}
 use borrow.Author.Needs.{needs}
-use native.Mathlib.Omega.{arith}
 use Rattle.ramps.proofs.releases.Statement.{statement}
 use Rattle.ramps.proofs.releases.Tie as tie
 

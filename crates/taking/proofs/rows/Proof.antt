@@ -1,5 +1,4 @@
 -- `taking::rows` meets its contract. The invariant: the rows of the first t steps stand in the list. Assumes nothing.
-use mathlib.Core.Path.{_≡_}
 use Prim.Native.Nat.{_+_, _-_, _≤_}
 use lib.ListN.{length}
 use Rattle.rows.specs.TablesLaws.{part-length}

@@ -1,5 +1,5 @@
 -- `timing::in_seconds` meets its contract. Each return, by the tests on the way to it. Assumes nothing.
-use mathlib.Core.Path.{_≡_, refl}
+use mathlib.Core.Path.{refl}
 use Prim.Native.Nat.{_-_, _*_, _/_, _%_, _≤_, _<_}
 use Rattle.road.specs.Road.{mostLong}
 use Rattle.timing.specs.TimingLaws.{rest-fits, no-seconds, far, product-fits, exact}

@@ -1,5 +1,5 @@
 -- `timing::vehicle_seconds` meets its contract. Assumes nothing.
-use mathlib.Core.Path.{_≡_, ap, _∙_}
+use mathlib.Core.Path.{ap, _∙_}
 use Prim.Native.Nat.{ℕ, min}
 use Rattle.road.specs.Road.{mostLong}
 use Rattle.timing.specs.Seconds.{vehicleSeconds}

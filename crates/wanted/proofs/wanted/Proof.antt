@@ -1,6 +1,6 @@
 -- `wanted::wanted` meets its contract. Each return, by the tests on the way to it. Assumes nothing.
 use mathlib.Core.Path.{_≡_, sym, _∙_}
-use mathlib.Core.Bool.{true, false}
+use mathlib.Core.Bool.{true}
 use lib.ListN.{length}
 use borrow.Author.Tests.{not-true, not-false}
 use Rattle.road.specs.Road.{mostRate}

@@ -1,6 +1,5 @@
 -- `weighing::weighed_cells` meets its contract. The invariant: the weighted counts of the first i cells are added. Assumes nothing.
-use Prim.Native.Nat.{ℕ, _+_, _-_, _*_}
-use native.Mathlib.Omega.{arith}
+use Prim.Native.Nat.{_+_, _-_, _*_}
 use Rattle.numbers.specs.Lists.{at}
 use Rattle.weighing.specs.Summed.{SummedProducts, summed-none, summed-more, summed-end}
 use borrow.Author.Needs.{needs}

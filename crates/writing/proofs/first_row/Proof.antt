@@ -9,7 +9,6 @@ use Rattle.rows.specs.Tables.{rowAt}
 use Rattle.rows.specs.TablesLaws.{part-row, part-length, mul-more}
 use Rattle.fields.specs.Fields.{rowNumbers}
 use Rattle.limits.specs.Limits.{rowOk}
-use Rattle.writing.specs.Writing.{rowsOk}
 use Rattle.writing.specs.Checks.{row-fits}
 use borrow.Author.Needs.{needs}
 use native.Mathlib.Omega.{arith}
@@ -18,7 +17,7 @@ use Rattle.writing.proofs.first_row.Tie as tie
 
 abbrev Inv-loop : tie.InvT-loop
 Inv-loop ramp n rows steps numbers from₀ t₀ from t =
-    (from ≡ t * rowNumbers n) × Passed (rowsOk ramp n (rowAt rows (rowNumbers n))) steps t
+    (from ≡ t * rowNumbers n) × Passed (λ j. rowOk ramp n (rowAt rows (rowNumbers n) j)) steps t
 
 abbrev μ-loop : tie.MeasureT-loop
 μ-loop ramp n rows steps numbers from₀ t₀ from t = steps - t
@@ -43,7 +42,7 @@ fits c = row-fits (A (c .before) .pre) (c .before .loop .inv .0) (c .loop-test .
 found : (c : tie.After-row-within Inv-loop μ-loop) →
     let l = In c .before in
     let a = A l .args in
-    c .row-within .result ≡ rowsOk (a .ramp) (a .n) (rowAt (a .rows .now) (rowNumbers (a .n))) (l .loop .t)
+    c .row-within .result ≡ rowOk (a .ramp) (a .n) (rowAt (a .rows .now) (rowNumbers (a .n)) (l .loop .t))
 found c =
     let l = In c .before in
     let a = A l .args in

@@ -3,7 +3,6 @@ use mathlib.Core.Path.{_≡_, sym}
 use lib.ListN.{length, take}
 use lib.Seq.{length-take-le}
 use native.Mathlib.Omega.{arith}
-use borrow.Author.Needs.{needs}
 use Rattle.moves.proofs.lent.first_sum.Statement.{statement}
 use Rattle.moves.proofs.lent.first_sum.Tie as tie
 

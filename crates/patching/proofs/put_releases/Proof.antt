@@ -1,12 +1,12 @@
--- `releasing::put_releases` meets its contract. The invariant: the releases of the first i cells are put. Assumes nothing.
+-- `patching::put_releases` meets its contract. The invariant: the releases of the first i cells are put. Assumes nothing.
 use mathlib.Core.Path.{_≡_, ap, _∙_}
 use Prim.Native.Nat.{ℕ, _-_}
 use Rattle.fields.specs.Fields.{versionOf, rowStart}
-use Rattle.releasing.specs.PuttingReleases.{PutCells, put-none, room, put-more, put-end}
+use Rattle.patching.specs.PatchingLoop.{PutCells, put-none, room, put-more, put-end}
 use native.Mathlib.Omega.{arith}
 use borrow.Author.Needs.{needs}
-use Rattle.releasing.proofs.put_releases.Statement.{statement}
-use Rattle.releasing.proofs.put_releases.Tie as tie
+use Rattle.patching.proofs.put_releases.Statement.{statement}
+use Rattle.patching.proofs.put_releases.Tie as tie
 
 abbrev Inv-loop : tie.InvT-loop
 Inv-loop bytes₀ n t releases start i₀ bytes i = (start ≡ rowStart (versionOf bytes₀) n t) × PutCells bytes₀ n t releases bytes i

@@ -2,7 +2,7 @@
 ghost use mathlib.Core.Path.{_≡_};
 ghost use Rattle.numbers.specs.Lists.{at};
 ghost use Rattle.fields.specs.Fields.{HoldsRow};
-ghost use Rattle.releasing.specs.Releases.{putReleases};
+ghost use Rattle.patching.specs.Releases.{putReleases};
 
 // Puts a release for each of the n cells into the row of step `t`.
 pub fn put_releases(bytes: &mut [u8], n: usize, t: usize, releases: &[u32; 64])

@@ -1,7 +1,7 @@
 -- What the loop that puts the releases of a step carries. Assumes nothing.
 use mathlib.Core.Path.{_≡_, refl, ap, _∙_}
 use mathlib.Core.List.{List, [], _∷_}
-use Prim.Native.Nat.{ℕ, zero, suc, _+_, _*_, _≤_, _<_}
+use Prim.Native.Nat.{ℕ, _+_, _*_, _≤_, _<_}
 use native.Mathlib.Numerals.{add-one}
 use native.Mathlib.Omega.{arith}
 use lib.ListN.{length}
@@ -9,8 +9,8 @@ use Rattle.numbers.specs.Lists.{at}
 use mathlib.Core.Logic.{inl}
 use Rattle.fields.specs.Fields.{numberSize, versionOffset, versionOf, rowStart, HoldsRow}
 use Rattle.fields.specs.Stored.{Stored}
-use Rattle.releasing.specs.Releases.{putEntry, releaseNumber, putReleases, releasedRow}
-use Rattle.releasing.specs.Bytes.{number-apart}
+use Rattle.patching.specs.Releases.{putEntry, releaseNumber, putReleases, releasedRow}
+use Rattle.patching.specs.Bytes.{number-apart}
 
 -- in a row of two cells, 8 and 9 are put after the arrivals of each
 on-paper : releasedRow (λ i. 8 + i) 2 (1 ∷ 2 ∷ 3 ∷ 4 ∷ 5 ∷ []) ≡ 1 ∷ 2 ∷ 8 ∷ 4 ∷ 9 ∷ []

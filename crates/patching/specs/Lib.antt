@@ -1,5 +1,5 @@
 pub mod Releases
 pub mod Bytes
 pub mod ReleasesLaws
-pub mod PuttingReleases
+pub mod PatchingLoop
 pub mod Same

@@ -11,8 +11,8 @@ use Rattle.numbers.specs.Lists.{at}
 use Rattle.rows.specs.Placed.{length-placed}
 use Rattle.fields.specs.Fields.{numberSize, versionOffset, versionOf, rowSize, rowStart, bytesOf, entryStart, entryOf, recordRow, HoldsRow}
 use Rattle.fields.specs.FieldsLaws.{length-row, row-at, row-within}
-use Rattle.releasing.specs.Releases.{putEntry, releaseNumber, putReleases, putTable, releasedRow}
-use Rattle.releasing.specs.Bytes.{Outside, Apart, compare, byte-other, number-placed, number-apart}
+use Rattle.patching.specs.Releases.{putEntry, releaseNumber, putReleases, putTable, releasedRow}
+use Rattle.patching.specs.Bytes.{Outside, Apart, compare, byte-other, number-placed, number-apart}
 
 -- the rows do not overlap, and neither do the numbers of a row
 entries-apart : (version n t k q j : ℕ) → k < 1 + 2 * n → j < 1 + 2 * n → (q ≡ t → j ≡ k → ⊥)

@@ -1,5 +1,5 @@
 -- Laws of a number's bytes placed into a list: it is read there, and all that lies apart from it is as it was. Assumes nothing.
-use mathlib.Core.Path.{_≡_, refl, sym, ap, _∙_}
+use mathlib.Core.Path.{_≡_, refl, ap, _∙_}
 use mathlib.Core.Logic.{_⊎_, ⊎-elim, inl, inr}
 use mathlib.Core.List.{List, _++_, append-assoc}
 use Prim.Native.Nat.{ℕ, zero, suc, _+_, _-_, _^_, _≤_, _<_}
@@ -10,7 +10,7 @@ use Rattle.numbers.specs.Lists.{at}
 use Rattle.rows.specs.Concat.{at-first, at-second}
 use Rattle.rows.specs.Placed.{placed, placed-there}
 use Rattle.fields.specs.Fields.{numberOf, bytesOf}
-use Rattle.fields.specs.BytesLaws.{length-bytes, number-same, Field, field-number}
+use Rattle.fields.specs.BytesLaws.{length-bytes, number-same, field-number}
 
 -- k lies outside the w places from i
 abbrev pub Outside : ℕ → ℕ → ℕ → Type 0
