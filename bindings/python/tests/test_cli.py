@@ -203,6 +203,19 @@ def test_new(told, tmp_path):
     assert status == 0 and f"'{folder}/road.toml'" in out
     assert told("run", folder / "road.toml")[0] == 0
     assert told("new", folder)[0] == 2
+    inside = folder / "road.toml/inside"
+    assert told("new", inside)[::2] == (4, f"nobyaluk: {inside} could not be made: Not a directory\n")
+
+
+def test_without_matplotlib_only_pictures_are_missing(root):
+    """run, compare and sweep print as ever; what draws says what to install."""
+    study = root / "examples/studies/five-cells.toml"
+    for words, status, part in (("run", 0, "170.32"), ("compare", 0, "170.32"), ("sweep", 0, "170.3150"), ("plot", 2, "apt-get install python3-matplotlib"),
+                                ("report -o -", 2, "apt-get install python3-matplotlib")):
+        command = "import sys; sys.modules['matplotlib'] = None; from nobyaluk.cli import main; sys.exit(main(sys.argv[1:]))"
+        more = ["--load", "1:1:1"] if words == "sweep" else []
+        out = subprocess.run([sys.executable, "-c", command, *words.split(), study, *more], capture_output=True, text=True)
+        assert out.returncode == status and part in (out.stderr if status else out.stdout), words
 
 
 def test_statuses(examples, told, tmp_path):
@@ -280,6 +293,9 @@ def test_front_door(checkout, tmp_path):
     assert "nobyaluk: crate 1 of 2: rows proved (1 s)" in said and "another proves and builds here; this one waits for it" in said
     again = subprocess.run(command, cwd=tmp_path, env=env, capture_output=True, text=True)
     assert again.returncode == 0 and again.stderr == "" and calls.read_text().count("\n") == 2
+    shown = subprocess.run([there / "nobyaluk", "new", "my road"], cwd=tmp_path, env=env, capture_output=True, text=True).stdout.splitlines()
+    assert shown[1] == f"  '{there}/nobyaluk' run 'my road/road.toml'"  # a command to copy, as this one was called
+    assert subprocess.run(shown[1], shell=True, cwd=tmp_path, env=env, capture_output=True).returncode == 0
     os.utime(there / "crates/edges/src/lib.rt", (time.time() + 60,) * 2)  # not part of the engine
     assert subprocess.run(command, cwd=tmp_path, env=env, capture_output=True).returncode == 0 and calls.read_text().count("\n") == 2
     os.utime(there / "crates/rows/src/lib.rt", (time.time() + 60,) * 2)
@@ -318,4 +334,56 @@ def test_without_numpy_it_says_what_to_install(root, tmp_path):
     (tmp_path / "python3").write_text("#!/bin/sh\nexit 1\n")
     (tmp_path / "python3").chmod(0o755)
     out = subprocess.run([root / "nobyaluk", "run"], env={**os.environ, "PYTHON": str(tmp_path / "python3")}, capture_output=True, text=True)
-    assert out.returncode == 3 and "apt-get install python3-numpy python3-matplotlib, or pip install numpy matplotlib" in out.stderr
+    assert out.returncode == 3 and "apt-get install python3-numpy python3-matplotlib as root, or pip install numpy matplotlib" in out.stderr
+
+
+def only(folder, *names, **scripts):
+    """A folder that can be the whole PATH: these programs of the machine, and these scripts."""
+    folder.mkdir()
+    for name in names:
+        (folder / name).symlink_to(shutil.which(name))
+    for name, script in scripts.items():
+        (folder / name.replace("_", "-")).write_text(f"#!/bin/sh\n{script}\n")
+        (folder / name.replace("_", "-")).chmod(0o755)
+    return str(folder)
+
+
+def test_without_a_compiler_the_kit_links(checkout, tmp_path):
+    """Neither cc nor nm is there: the kit's own tools link the library, and look at the archive before that."""
+    there, env, _ = checkout
+    if not shutil.which("rt"):
+        pytest.skip("no kit")
+    (tmp_path / "kit").mkdir()
+    (tmp_path / "kit/on").symlink_to(os.path.realpath(shutil.which("rt") + "/../../on"))
+    (tmp_path / "bin").rename(tmp_path / "kit/bin")
+    tools = "sh bash env dirname readlink awk find head id flock mkdir mktemp grep cat sleep cp uname sort tr touch rm mv"
+    env["PATH"] = only(tmp_path / "few", *tools.split()) + f":{tmp_path}/kit/bin"
+    out = subprocess.run([there / "nobyaluk", "run", there / "examples/studies/five-cells.toml"], env=env, capture_output=True, text=True)
+    assert out.returncode == 0 and "170.32 vehicle-hours" in out.stdout and "not found" not in out.stderr
+    (tmp_path / "more.c").write_text("int puts(const char *s); int more(void) { return puts(0); }\n")
+    subprocess.run("cc -c more.c && ar rc libexports.a more.o", shell=True, cwd=tmp_path, check=True)
+    out = subprocess.run([there / "bindings/build"], env={**env, "NOBYALUK_LIB_DIR": str(tmp_path)}, capture_output=True, text=True)
+    assert out.returncode == 1 and "U puts" in out.stdout
+
+
+@pytest.mark.parametrize("user, settings, installs", [(0, {}, True), (0, {"NOBYALUK_NO_INSTALL": "1"}, False), (0, {"PYTHON": "/bin/false"}, False), (1000, {}, False)])
+def test_what_the_checks_install(root, tmp_path, user, settings, installs):
+    """Where something is missing, and only as root: all that bindings/apt.txt names, with a stand-in for apt-get; why it failed is said."""
+    apt = f'echo "$@" >>"{tmp_path}/calls"\ncase $* in *install*) echo "E: no network" && exit 100 ;; esac'
+    path = only(tmp_path / "few", "sh", "bash", "env", "dirname", "tr", "cat", "grep", apt_get=apt, id=f"echo {user}")
+    out = subprocess.run([root / "bindings/install"], env={"PATH": path, **settings}, capture_output=True, text=True)
+    assert out.returncode == 0
+    if not installs:
+        assert out.stderr == "" and not (tmp_path / "calls").exists()
+        return
+    update, install = (tmp_path / "calls").read_text().splitlines()
+    assert update == "update -q" and install.split()[-10:] == (root / "bindings/apt.txt").read_text().split()
+    assert out.stderr.endswith("E: no network\n")
+
+
+def test_the_checks_name_the_cargo_they_need(root, tmp_path):
+    for cargo, found in (("exit 1", "none"), ("echo cargo 1.65.0", "1.65.0"), ("echo 'cargo 1.84.1 (66221abde 2024-11-19)'", "1.84.1")):
+        path = only(tmp_path / found, rt="exit 1", cargo=f'case $1 in --version) {cargo} ;; *) exit 1 ;; esac')
+        out = subprocess.run([root / ".ci/run"], env={**os.environ, "PATH": f"{path}:{os.environ['PATH']}", "NOBYALUK_NO_INSTALL": "1"}, capture_output=True, text=True)
+        assert (out.returncode, out.stdout) == (1, "")
+        assert out.stderr == f"the checks need cargo 1.85 or later, for reference/ (on Debian 12: apt-get install cargo-web); {found} was found\n"

@@ -157,7 +157,8 @@ fn write(dice: &mut Dice) -> Case {
 }
 
 fn fill(dice: &mut Dice) -> FillInput {
-    let law = dice.pick(&[meters::common_law, meters::common_law, meters::odd_law]);
+    let law =
+        dice.pick::<meters::MakeLaw>(&[meters::common_law, meters::common_law, meters::odd_law]);
     let mut input = meters::random(turn(dice), law, dice);
     let (n, steps) = (
         record::cells_of(&input.record),

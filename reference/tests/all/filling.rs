@@ -201,7 +201,7 @@ fn in_release(road: &Road, at: usize) -> bool {
     let (n, start) = (road.n, size(road.version, road.n, 0));
     at >= start && {
         let slot = (at - start) / 4 % (1 + 2 * n);
-        slot > 0 && slot.is_multiple_of(2)
+        slot > 0 && slot % 2 == 0
     }
 }
 
