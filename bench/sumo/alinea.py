@@ -3,6 +3,7 @@
 Every 20 s the rate of each on-ramp grows by 0.1 x (target - vehicles in its cell); the target is `factor` x the cell's critical
 count, capacity / speed x length. The light lets one car through a green of 1 s.
 """
+import contextlib
 import os
 import sys
 import tomllib
@@ -15,7 +16,8 @@ import traci  # noqa: E402
 def run(command, study, end, factor):
     study = tomllib.loads(Path(study).read_text())
     speed = study["defaults"]["speed"]
-    traci.start(command, stdout=open(os.devnull, "w"))
+    with open(os.devnull, "w") as nowhere, contextlib.redirect_stdout(nowhere):  # it tells of each try to connect
+        traci.start(command, stdout=nowhere)
     have, ramps = set(traci.edge.getIDList()), []
     for i, c in enumerate(study["cell"], 1):
         if "ramp" in c:

@@ -1,5 +1,5 @@
 #!/usr/bin/env python3
-"""Median wall and processor time and peak memory of a command, outputs off.
+"""Median wall and processor time of a command, outputs off.
 
     timing.py RUNS micro|meso FOLDER open|tight
     timing.py RUNS ctm PROGRAM RECORD
@@ -24,7 +24,7 @@ def command(kind, first, second):
 def main():
     runs, (kind, first, second) = int(sys.argv[1]), sys.argv[2:5]
     words, given = command(kind, first, second)
-    wall, cpu, memory = [], [], []
+    wall, cpu = [], []
     for _ in range(runs):
         with open(given) as file:
             start = time.perf_counter()
@@ -32,10 +32,9 @@ def main():
             _, status, use = os.wait4(p.pid, 0)
         wall.append(time.perf_counter() - start)
         cpu.append(use.ru_utime + use.ru_stime)
-        memory.append(use.ru_maxrss)
         assert status == 0
     shown = lambda xs: f"{statistics.median(xs):.4f} s ({min(xs):.4f} to {max(xs):.4f})"
-    print(f"{kind} {os.path.basename(first)} {os.path.basename(second)}: {runs} runs, wall {shown(wall)}, cpu {shown(cpu)}, peak {max(memory)} KiB", flush=True)
+    print(f"{kind} {os.path.basename(first)} {os.path.basename(second)}: {runs} runs, wall {shown(wall)}, cpu {shown(cpu)}", flush=True)
 
 
 main()
