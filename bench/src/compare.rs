@@ -1,75 +1,10 @@
-//! Both programs on the same records: every field of the answers and the whole of the lent list.
-use crate::load::{record, Draws, PEAK, SEED};
-use crate::{straight, SIZES};
+//! All programs on the same records: every field of the answers and the whole of the lent list.
+use crate::load::{record, Draws, LOADS, PEAK, SEED};
+use crate::programs::{Program, ENGINE, OTHERS};
+use crate::SIZES;
 use std::collections::BTreeMap;
 
-/// What both programs say, in one form.
-#[derive(Debug, PartialEq)]
-struct Answer {
-    refusal: [u64; 3],
-    times: [u64; 3],
-    total_present_exits: [u64; 3],
-    road: straight::Road,
-    state: straight::State,
-    list: Vec<u32>,
-}
-
 const UNTOUCHED: u32 = 4_000_000_007;
-
-fn by_rust(record: &[u8], length: usize) -> Answer {
-    let mut list = vec![UNTOUCHED; length];
-    let straight::Ended {
-        refusal,
-        road,
-        state,
-    } = straight::run(record, &mut list);
-    let refusal = refusal.map_or([0; 3], |r| {
-        [u64::from(r.number), r.step as u64, r.place as u64]
-    });
-    Answer {
-        refusal,
-        times: [state.gate_time, state.road_time, state.ramp_time],
-        total_present_exits: [state.total(), state.present(road.n), state.exits(&road)],
-        road,
-        state,
-        list,
-    }
-}
-
-fn by_engine(record: &[u8], length: usize) -> Answer {
-    let mut list = vec![UNTOUCHED; length];
-    let ended = nobyaluk::run_into(record, &[], &mut list);
-    let (road, state) = (ended.road, ended.state);
-    Answer {
-        refusal: [ended.number, ended.step, ended.place],
-        times: [state.gate_time, state.road_time, state.ramp_time],
-        total_present_exits: [ended.total, ended.present, ended.exits],
-        road: straight::Road {
-            n: road.n,
-            version: road.version,
-            seconds: road.seconds,
-            gate_capacity: road.gate_capacity,
-            speed: road.speed.map(u32::from),
-            wave: road.wave.map(u32::from),
-            share: road.share.map(u32::from),
-            ramp: road.ramp.map(|mark| mark == 1),
-            jam: road.jam,
-            capacity: road.capacity,
-        },
-        state: straight::State {
-            done: state.done,
-            gate_time: state.gate_time,
-            road_time: state.road_time,
-            ramp_time: state.ramp_time,
-            gate_queue: state.gate_queue,
-            gate_cumulative: state.gate_cumulative,
-            held: state.held,
-            queue: state.queue,
-            cumulative: state.cumulative,
-        },
-        list,
-    }
-}
 
 /// The records compared so far, by the number of the refusal.
 #[derive(Default)]
@@ -77,14 +12,22 @@ struct Compared(BTreeMap<u64, u32>);
 
 impl Compared {
     fn compare(&mut self, record: &[u8], length: usize) -> Result<(), String> {
-        let (engine, rust) = (by_engine(record, length), by_rust(record, length));
-        if engine != rust {
-            let pairs = rust.list.iter().zip(&engine.list);
-            let first = pairs.take_while(|(a, b)| a == b).count();
-            return Err(format!(
-                "a difference: engine {:?} {:?} {:?}, Rust {:?} {:?} {:?}, lists alike up to number {first} of {length}",
-                engine.refusal, engine.times, engine.total_present_exits, rust.refusal, rust.times, rust.total_present_exits,
-            ));
+        let asked = |program: &Program| {
+            let mut list = vec![UNTOUCHED; length];
+            ((program.answer)(record, &mut list), list)
+        };
+        let (engine, outflows) = asked(&ENGINE);
+        for program in &OTHERS {
+            let (other, list) = asked(program);
+            if (&other, &list) != (&engine, &outflows) {
+                let pairs = list.iter().zip(&outflows);
+                let first = pairs.take_while(|(a, b)| a == b).count();
+                return Err(format!(
+                    "a difference: engine {:?} {:?} {:?}, {} {:?} {:?} {:?}, lists alike up to number {first} of {length}",
+                    engine.refusal, engine.times, engine.total_present_exits,
+                    program.name, other.refusal, other.times, other.total_present_exits,
+                ));
+            }
         }
         *self.0.entry(engine.refusal[0]).or_default() += 1;
         Ok(())
@@ -154,6 +97,10 @@ pub fn compare_all() -> Result<String, String> {
         let waiting = put(&whole, queue, 900_000_000);
         compared.compare(&put(&waiting, release, 900_000), numbers)?;
     }
+    let (n, steps) = SIZES[0];
+    for seed in LOADS {
+        compared.compare(&made(seed, PEAK, n, steps)?, steps * (n + 1))?;
+    }
     for seed in 0..1_500 {
         let (n, steps) = (1 + draws.draw(63) as usize, 1 + draws.draw(60) as usize);
         let peak = draws.draw(80_000);
@@ -176,7 +123,8 @@ pub fn compare_all() -> Result<String, String> {
     let counts: Vec<String> = compared.0.iter().map(counts).collect();
     let all: u32 = compared.0.values().sum();
     Ok(format!(
-        "{all} records, the same answers and outflows (by refusal, {})",
+        "{all} records, the same answers and outflows by engine, {} (by refusal, {})",
+        OTHERS.map(|program| program.name).join(", "),
         counts.join(", ")
     ))
 }

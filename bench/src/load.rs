@@ -1,11 +1,15 @@
 //! The records of the stated load, as docs/LOAD.md has them: a road that depends on n alone, arrivals by the proved `load`, and
 //! releases filled by a meter law.
 use nobyaluk::{Law, Load, Refused, Road, Start, CELLS, STEPS};
+use std::ops::RangeInclusive;
 
 /// The arrivals' peak at the gate, in parts a step, of the measured records.
 pub const PEAK: u32 = 40_000;
 /// The first seed of the measured records.
 pub const SEED: u32 = 13;
+
+/// The seeds of the loads that a study of the longest road has.
+pub const LOADS: RangeInclusive<u32> = 1..=1_000;
 
 /// Draws by the proved load, one after the other.
 pub struct Draws(pub u32);
@@ -27,7 +31,7 @@ fn has_ramp(cell: usize) -> bool {
 }
 
 /// The road of n cells, of 64 at most: an off-ramp at every fourth cell, a bottleneck at every sixth.
-fn road(n: usize) -> Road {
+pub fn road(n: usize) -> Road {
     let mut road = Road {
         n,
         version: 1,
@@ -83,7 +87,7 @@ fn rows(seed: u32, peak: u32, n: usize, steps: usize) -> Result<Vec<u32>, Refuse
 }
 
 /// ALINEA at every cell, with the count at which it sends its capacity as the target.
-fn laws(road: &Road) -> Vec<Law> {
+pub fn laws(road: &Road) -> Vec<Law> {
     let cells = road.speed.iter().zip(road.capacity).take(road.n);
     cells
         .map(|(&speed, capacity)| Law::Alinea {

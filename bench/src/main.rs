@@ -1,7 +1,7 @@
-//! The proved engine beside straightforward Rust. First both are compared, then timed.
+//! The proved engine beside straightforward Rust, tuned Rust and an expert's C. First all are compared, then timed.
 //!
 //! `bench` compares and times; `bench --compare-only` only compares; `bench record SEED PEAK N T` writes such a record to
-//! standard output; `bench calls engine|rust N T COUNT` makes that many runs of one record, for a profiler.
+//! standard output; `bench calls engine|straight|tuned|c|fill N T COUNT` makes that many calls on one record, for a profiler.
 #![forbid(unsafe_code)]
 use std::io::Write;
 use std::process::ExitCode;
@@ -9,8 +9,10 @@ use std::str::FromStr;
 
 mod compare;
 mod load;
+mod programs;
 mod straight;
 mod timing;
+mod tuned;
 
 /// Cells and steps of the records that are timed: each is near the most bytes that a record may have.
 const SIZES: [(usize, usize); 3] = [(64, 124), (21, 377), (6, 1_257)];
@@ -24,7 +26,7 @@ fn main() -> ExitCode {
         ["record", seed, peak, n, steps] => print_record(seed, peak, n, steps),
         ["calls", program, n, steps, count] => timing::make_calls(program, n, steps, count),
         _ => Err(
-            "bench [--compare-only | record SEED PEAK N T | calls engine|rust N T COUNT]".into(),
+            "bench [--compare-only | record SEED PEAK N T | calls engine|straight|tuned|c|fill N T COUNT]".into(),
         ),
     };
     match done {

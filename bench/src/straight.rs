@@ -5,7 +5,7 @@ const STEPS: usize = 1_440;
 const BYTES: usize = 65_536;
 const RATE: u32 = 1_000_000;
 const QUEUE: u32 = 1_000_000_000;
-const WHOLE: u32 = 1_000;
+pub const WHOLE: u32 = 1_000;
 
 #[derive(Debug, PartialEq, Eq)]
 pub struct Road {
@@ -49,14 +49,14 @@ pub struct Ended {
 }
 
 /// What reading gives: the rows stay in the record.
-struct Study<'a> {
-    road: Road,
-    state: State,
-    rows: &'a [u8],
+pub struct Study<'a> {
+    pub road: Road,
+    pub state: State,
+    pub rows: &'a [u8],
 }
 
 /// One step's numbers, in the record's bytes.
-struct Row<'a>(&'a [u8]);
+pub struct Row<'a>(pub &'a [u8]);
 
 fn u16_at(bytes: &[u8], at: usize) -> u16 {
     u16::from_be_bytes([bytes[at], bytes[at + 1]])
@@ -67,7 +67,7 @@ fn u32_at(bytes: &[u8], at: usize) -> u32 {
     u32::from_be_bytes(four)
 }
 
-fn refuse(number: u8, step: usize, place: usize) -> Refusal {
+pub fn refuse(number: u8, step: usize, place: usize) -> Refusal {
     Refusal {
         number,
         step,
@@ -76,12 +76,12 @@ fn refuse(number: u8, step: usize, place: usize) -> Refusal {
 }
 
 /// share x count / 1,000, rounded down.
-fn part(share: u32, count: u32) -> u32 {
+pub fn part(share: u32, count: u32) -> u32 {
     (u64::from(share) * u64::from(count) / u64::from(WHOLE)) as u32
 }
 
 /// The greatest outflow up to the demand that lets no more than `room` into the next cell.
-fn outflow(share: u32, cumulative: u32, demand: u32, room: u32) -> u32 {
+pub fn outflow(share: u32, cumulative: u32, demand: u32, room: u32) -> u32 {
     if share == 0 {
         return demand;
     }
@@ -110,11 +110,11 @@ impl Road {
         }
     }
 
-    fn demand(&self, i: usize, held: u32) -> u32 {
+    pub fn demand(&self, i: usize, held: u32) -> u32 {
         part(self.speed[i], held).min(self.capacity[i])
     }
 
-    fn supply(&self, i: usize, held: u32) -> u32 {
+    pub fn supply(&self, i: usize, held: u32) -> u32 {
         part(self.wave[i], self.jam[i] - held).min(self.capacity[i])
     }
 }
@@ -150,15 +150,15 @@ impl State {
 }
 
 impl Row<'_> {
-    fn gate_arrivals(&self) -> u32 {
+    pub fn gate_arrivals(&self) -> u32 {
         u32_at(self.0, 0)
     }
 
-    fn arrivals(&self, i: usize) -> u32 {
+    pub fn arrivals(&self, i: usize) -> u32 {
         u32_at(self.0, 4 + 8 * i)
     }
 
-    fn release(&self, i: usize) -> u32 {
+    pub fn release(&self, i: usize) -> u32 {
         u32_at(self.0, 8 + 8 * i)
     }
 
@@ -195,7 +195,7 @@ fn read_cell(bytes: &[u8], i: usize, road: &mut Road, state: &mut State) -> bool
         && state.queue[i] <= most_queue
 }
 
-fn read(record: &[u8]) -> Result<Study<'_>, Refusal> {
+pub fn read(record: &[u8]) -> Result<Study<'_>, Refusal> {
     let size = record.len();
     if !(16..=BYTES).contains(&size)
         || u32_at(record, 0) as usize != size - 4
@@ -329,7 +329,7 @@ pub fn run(record: &[u8], list: &mut [u32]) -> Ended {
     }
 }
 
-fn nothing(refusal: Refusal) -> Ended {
+pub fn nothing(refusal: Refusal) -> Ended {
     Ended {
         refusal: Some(refusal),
         road: Road::empty(),

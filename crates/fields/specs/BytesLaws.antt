@@ -28,6 +28,12 @@ unfolding numberOf
 number-same s t i j zero h = refl
 number-same s t i j (suc w) h = rw (number-same s t i j w (λ k l. h k (omega arith)), h w (le-refl (suc w)))
 
+-- and bytes that are nowhere greater make a number that is not greater
+pub number-le : (s t : List ℕ) (i j w : ℕ) → ((k : ℕ) → k < w → at s (i + k) ≤ at t (j + k)) → numberOf s i w ≤ numberOf t j w
+unfolding numberOf
+number-le s t i j zero h = le-refl 0
+number-le s t i j (suc w) h = omega (arith, number-le s t i j w (λ k l. h k (omega arith)), h w (le-refl (suc w)))
+
 -- of the first w of w + 1 bytes, and the last
 bytes-first : (w x k : ℕ) → k < w → at (bytesOf (suc w) x) k ≡ at (bytesOf w (x / 256)) k
 unfolding bytesOf

@@ -19,7 +19,7 @@ pub const COUNT_SIZE: usize = 4;
 
 const CELL_SIZE: usize = 24;
 
-const RATES_SIZE: usize = 8;
+pub const RATES_SIZE: usize = 8;
 
 // Sizes of a field: v, w, b, the ramp mark, T and the seconds have two bytes, the other numbers four.
 pub const SHORT_SIZE: usize = 2;

@@ -1,87 +1,226 @@
--- One step of filling, from what its code finds. Assumes nothing.
-use mathlib.Core.Path.{_≡_, ap, _∙_}
+-- One step of filling: what it asks, what it gives, and what is kept from step to step. Assumes nothing.
+use mathlib.Core.Path.{_≡_, refl, sym, ap, _∙_}
 use mathlib.Core.List.{List}
-use Prim.Native.Nat.{ℕ, _+_, _≤_, _<_}
+use Prim.Native.Nat.{ℕ, suc, _+_, _*_, _≤_, _<_}
 use native.Mathlib.Nat.{le-refl}
+use native.Mathlib.Numerals.{add-one}
 use native.Mathlib.Omega.{arith}
+use lib.Ieee.{Float}
 use lib.ListN.{length}
 use Rattle.numbers.specs.Lists.{at}
 use Rattle.rows.specs.Rows.{fillOf}
-use Rattle.rows.specs.RowsLaws.{fill-at}
+use Rattle.rows.specs.RowsLaws.{fill-at, length-fill}
 use Rattle.road.specs.declared.Road.{Road}
-use Rattle.road.specs.Road.{mostCells}
-use Rattle.fields.specs.Fields.{recordRow, HoldsRow}
+use Rattle.road.specs.declared.State.{State}
+use Rattle.limits.specs.LimitsLaws.{RowOk}
+use Rattle.fields.specs.Fields.{numberSize, numberOf, versionOf, rowStart, recordRow, HoldsRow}
+use Rattle.fields.specs.FieldsLaws.{row-at}
 use Rattle.meter.specs.declared.Law.{Law}
+use Rattle.meter.specs.LawColumns.{InColumns}
+use Rattle.model.specs.Places.{gateArrivals, enteringAt}
+use Rattle.model.specs.Move.{heldOf, cumulativeOf, movedTo, countedOf}
 use Rattle.model.specs.Rules.{outflowsOf}
+use Rattle.model.specs.RulesLaws.{outflows-obey, demand-at-cell}
 use Rattle.columns.specs.Columns.{roadOf}
 use Rattle.moves.specs.Asked.{Steppable}
+use Rattle.passes.specs.Rest.{restOf}
+use Rattle.passes.specs.Supplies.{NoRamp, Supplies, supplyIn, supply-model}
+use Rattle.passes.specs.RampList.{Listed}
+use Rattle.passes.specs.Next.{Ready, Stepped}
 use Rattle.patching.specs.Releases.{putReleases}
-use Rattle.patching.specs.ReleasesLaws.{PutRow, put-releases, put-same}
-use Rattle.ramps.specs.Ramps.{Metered, grantedAt, filledRow, nextMetered, meteredOf}
-use Rattle.ramps.specs.LentRamps.{ramped}
-use Rattle.ramps.specs.RampsLaws.{granted-small}
+use Rattle.patching.specs.ReleasesLaws.{PutRow, put-releases}
+use Rattle.ramps.specs.Ramps.{Metered, metered, grantedAt, filledRow, meteredOf}
+use Rattle.ramps.specs.RampsLaws.{granted-small, filled-release, last-release, last-entry}
+use Rattle.ramps.specs.Grants.{ramped, Lasts, Grants, Granted}
 
--- what filling a step asks: the bytes hold its row, a step by the filled row asks nothing more, and y has room for its outflows
-pub record FillsRow (bytes : List ℕ) (laws : List Law) (r : Road) (m : Metered) (k : ℕ) (y : List ℕ) : Type 0 where
-  pub held : HoldsRow bytes (r .n) k
-  pub step : Steppable r (m .state) (filledRow laws r m (recordRow bytes (r .n) k))
-  pub places : length y ≡ r .n + 1
+-- the arrays of the loop over the steps beside the state's
+pub record Arrays : Type 0 where
+  pub cell : List ℕ
+  pub rest : List ℕ
+  pub room : List ℕ
+  pub release : List ℕ
+  pub waits : List ℕ
+  pub came : List ℕ
+  pub demand : List ℕ
 
--- that, on some road with these columns, and arrays for a release and an entry of each cell
-pub record FillsLent (bytes : List ℕ) (laws : List Law) (n gate : ℕ) (speed wave share ramp jam capacity : List ℕ) (m : Metered) (k : ℕ) (y : List ℕ)
-    : Type 0 where
+abbrev pub arrays : List ℕ → List ℕ → List ℕ → List ℕ → List ℕ → List ℕ → List ℕ → Arrays
+arrays cell rest room release waits came demand = record {
+  cell = cell;
+  rest = rest;
+  room = room;
+  release = release;
+  waits = waits;
+  came = came;
+  demand = demand;
+}
+
+-- what is kept of them: the cells with a ramp are listed, with what the last step left there; the rests are those of b × F; all have an entry for each cell
+pub record Kept (n : ℕ) (share ramp : List ℕ) (m : Metered) (ramps : ℕ) (w : Arrays) : Type 0 where
+  pub listed : Listed (NoRamp ramp) n ramps (w .cell)
+  pub lasts : Lasts m ramps (w .cell) (w .release) (w .came)
+  pub rests : (i : ℕ) → i < n → at (w .rest) i ≡ restOf (at share i) (at (m .state .cumulative) i)
+  pub longReleases : n ≤ length (m .releases)
+  pub longEntries : n ≤ length (m .entries)
+  pub longRest : n ≤ length (w .rest)
+  pub longRoom : n ≤ length (w .room)
+  pub longRelease : n ≤ length (w .release)
+  pub longWaits : n ≤ length (w .waits)
+  pub longCame : n ≤ length (w .came)
+  pub longDemand : n ≤ length (w .demand)
+
+pub kept-on : {n n′ : ℕ} {share share′ ramp ramp′ : List ℕ} {m m′ : Metered} {ramps : ℕ} {w : Arrays}
+    → n′ ≡ n → share′ ≡ share → ramp′ ≡ ramp → m′ ≡ m → Kept n share ramp m ramps w → Kept n′ share′ ramp′ m′ ramps w
+kept-on en es er em h = rw (en, es, er, em) h
+
+-- what filling a step asks: the bytes hold its row, which is within its limits, a step by the filled row may be made, the laws are in columns, and y
+-- has room for its outflows
+pub record FillsRow (laws : List Law) (bytes : List ℕ) (q : Road) (m : Metered) (k : ℕ) (kinds : List ℕ) (numbers : List Float) (ramps : ℕ) (w : Arrays)
+    (y : List ℕ) : Type 0 where
+  pub held : HoldsRow bytes (q .n) k
+  pub row : RowOk q (recordRow bytes (q .n) k)
+  pub step : Steppable q (m .state) (filledRow laws q m (recordRow bytes (q .n) k))
+  pub columns : InColumns laws kinds numbers
+  pub kept : Kept (q .n) (q .share) (q .ramp) m ramps w
+  pub places : length y ≡ q .n + 1
+
+-- that, by some laws and on some road with these columns
+pub record FillsLent (bytes : List ℕ) (k n gate : ℕ) (speed wave share ramp jam capacity kinds : List ℕ) (numbers : List Float) (s : State) (ramps : ℕ)
+    (w : Arrays) (y : List ℕ) : Type 0 where
+  pub laws : List Law
   pub road : Road
-  pub fills : FillsRow bytes laws (roadOf (ramped road ramp) n gate speed wave share jam capacity) m k y
-  pub released : length (m .releases) ≡ mostCells
-  pub entered : length (m .entries) ≡ mostCells
+  pub releases : List ℕ
+  pub entries : List ℕ
+  pub fills : FillsRow laws bytes (roadOf (ramped road ramp) n gate speed wave share jam capacity) (metered s releases entries) k kinds numbers ramps w y
 
--- what filling a step gives: the bytes with its releases, what the next step's wishes go by, and its outflows
-pub record FilledRow (bytes : List ℕ) (laws : List Law) (r : Road) (m : Metered) (k : ℕ) (put : List ℕ) (t : Metered) (y : List ℕ) : Type 0 where
-  pub releases : put ≡ putReleases bytes (r .n) k (grantedAt laws r m (recordRow bytes (r .n) k)) (r .n)
-  pub goesBy : t ≡ meteredOf laws r m (recordRow bytes (r .n) k)
-  pub row : y ≡ outflowsOf r (m .state) (filledRow laws r m (recordRow bytes (r .n) k))
+-- what filling a step gives: the bytes with its releases, the state after it, its outflows, and what is kept
+pub record FilledRow (laws : List Law) (bytes : List ℕ) (q : Road) (m : Metered) (k : ℕ) (put : List ℕ) (t : State) (ramps : ℕ) (w : Arrays) (y : List ℕ)
+    : Type 0 where
+  pub releases : put ≡ putReleases bytes (q .n) k (grantedAt laws q m (recordRow bytes (q .n) k)) (q .n)
+  pub state : t ≡ meteredOf laws q m (recordRow bytes (q .n) k) .state
+  pub row : y ≡ outflowsOf q (m .state) (filledRow laws q m (recordRow bytes (q .n) k))
+  pub kept : Kept (q .n) (q .share) (q .ramp) (meteredOf laws q m (recordRow bytes (q .n) k)) ramps w
 
--- what its code has found: the releases granted by the row that was read, put into the bytes
-pub record Given (bytes : List ℕ) (laws : List Law) (r : Road) (m : Metered) (k : ℕ) (given put : List ℕ) : Type 0 where
-  pub held : HoldsRow bytes (r .n) k
-  pub cells : r .n ≤ length (m .releases)
-  pub grants : given ≡ fillOf (grantedAt laws r m (recordRow bytes (r .n) k)) (r .n) (m .releases)
-  pub puts : put ≡ putReleases bytes (r .n) k (at given) (r .n)
-
-module _ {bytes : List ℕ} {laws : List Law} {r : Road} {m : Metered} {k : ℕ} {given put : List ℕ} (g : Given bytes laws r m k given put) where
+module _ {laws : List Law} {bytes : List ℕ} {q : Road} {m : Metered} {k : ℕ} {kinds : List ℕ} {numbers : List Float} {ramps : ℕ} {w : Arrays} {y₀ : List ℕ}
+    (f : FillsRow laws bytes q m k kinds numbers ramps w y₀) where
   abbrev row : List ℕ
-  row = recordRow bytes (r .n) k
+  row = recordRow bytes (q .n) k
 
-  same : (i : ℕ) → i < r .n → at given i ≡ grantedAt laws r m row i
-  same i l = rw (g .grants) (fill-at (grantedAt laws r m row) (r .n) (m .releases) i l (g .cells))
+  abbrev filled : List ℕ
+  filled = filledRow laws q m row
 
-  -- the releases put are those granted
-  pub given-put : put ≡ putReleases bytes (r .n) k (grantedAt laws r m (recordRow bytes (r .n) k)) (r .n)
-  given-put = g .puts ∙ put-same bytes (r .n) k (at given) (grantedAt laws r m row) (r .n) same
+  abbrev y : List ℕ
+  y = outflowsOf q (m .state) filled
 
-  -- they changed the releases of the step alone
-  changed : PutRow bytes put (r .n) k (grantedAt laws r m row) (r .n)
-  changed = rw given-put (put-releases bytes (r .n) k (grantedAt laws r m row) (r .n) (le-refl (r .n)) (g .held) (λ i l. granted-small laws r m row i))
+  -- the supplies, and then granting, ask nothing more
+  pub supplies-ask : Supplies (q .n) (q .wave) (q .jam) (m .state .held)
+  supplies-ask = record {
+    cells = f .step .input .road .cells;
+    waves = f .step .input .road .wave;
+    jams = f .step .input .road .jam;
+    helds = f .step .input .state .held;
+  }
 
-  -- so the bytes still hold the row
-  pub given-held : HoldsRow put (r .n) k
-  given-held = record { cells = g .held .cells; row = rw (changed .version) (omega (arith, changed .size, g .held .row)) }
+  module _ {room₁ : List ℕ} {start : ℕ} (er : room₁ ≡ fillOf (supplyIn (q .wave) (q .jam) (q .capacity) (m .state .held)) (q .n) (w .room))
+      (es : start ≡ rowStart (versionOf bytes) (q .n) k) where
+    same-room : length room₁ ≡ length (w .room)
+    same-room = ap length er ∙ length-fill (supplyIn (q .wave) (q .jam) (q .capacity) (m .state .held)) (q .n) (w .room)
 
-  module _ {filled : List ℕ} (again : filled ≡ recordRow put (r .n) k) where
-    -- the row read again is the filled one
-    pub given-row : filled ≡ filledRow laws r m (recordRow bytes (r .n) k)
-    unfolding filledRow
-    given-row = again ∙ changed .row
+    pub grants-ask : Grants laws q m bytes k start ramps (w .cell) kinds numbers room₁ (w .release) (w .waits) (w .came)
+    grants-ask = record {
+      step = f .step;
+      row = f .row;
+      held = f .held;
+      starts = es;
+      listed = f .kept .listed;
+      columns = f .columns;
+      lasts = f .kept .lasts;
+      supplies = λ i l.
+          ap (λ (x : List ℕ). at x i) er
+          ∙ fill-at (supplyIn (q .wave) (q .jam) (q .capacity) (m .state .held)) (q .n) (w .room) i l (f .kept .longRoom)
+          ∙ supply-model q (m .state) i;
+      longRoom = omega (arith, same-room, f .kept .longRoom);
+      longRelease = f .kept .longRelease;
+      longWaits = f .kept .longWaits;
+      longCame = f .kept .longCame;
+    }
 
-    pub given-steps : Steppable r (m .state) (filledRow laws r m (recordRow bytes (r .n) k)) → Steppable r (m .state) filled
-    given-steps h = rw given-row h
+    -- the releases are granted
+    module _ {put room release waits came : List ℕ}
+        (g : Granted laws q m bytes k ramps (w .cell) room₁ (w .release) (w .waits) (w .came) put room release waits came) where
+      changed : PutRow bytes put (q .n) k (grantedAt laws q m row) (q .n)
+      changed =
+          rw (g .puts) (put-releases bytes (q .n) k (grantedAt laws q m row) (q .n) (le-refl (q .n)) (f .held) (λ i _. granted-small laws q m row i))
 
-    -- what the step by it leaves is what the next step's wishes go by
-    given-next : {next : Metered} → next ≡ nextMetered r m filled given → next ≡ meteredOf laws r m (recordRow bytes (r .n) k)
-    unfolding meteredOf
-    given-next e = e ∙ rw (given-row, g .grants)
+      -- the bytes hold the filled row, and its gate arrivals
+      pub gate-there : start + numberSize ≤ length put
+      gate-there = omega (arith, es, f .held .row, changed .size)
 
-    -- so the step is filled
-    pub given-filled : {t : Metered} {y : List ℕ} → t ≡ nextMetered r m filled given → y ≡ outflowsOf r (m .state) filled
-        → FilledRow bytes laws r m k put t y
-    given-filled et ey = record { releases = given-put; goesBy = given-next et; row = ey ∙ ap (outflowsOf r (m .state)) given-row }
+      gate-is : numberOf put start numberSize ≡ gateArrivals filled
+      unfolding filledRow
+      gate-is =
+          let e : start ≡ rowStart (versionOf put) (q .n) k + numberSize * 0 = omega (arith, es, ap (λ (v : ℕ). rowStart v (q .n) k) (changed .version)) in
+          ap (λ (p : ℕ). numberOf put p numberSize) e ∙ sym (row-at put (q .n) k 0 (omega arith)) ∙ ap gateArrivals (changed .row)
+
+      -- so the step is ready
+      pub step-ready : {arrivals : ℕ} → arrivals ≡ numberOf put start numberSize
+          → Ready q (m .state) (filledRow laws q m (recordRow bytes (q .n) k)) ramps arrivals (w .cell) release waits room (w .rest)
+      step-ready e = record {
+        steppable = f .step;
+        listed = f .kept .listed;
+        releases = λ j l. g .releases j l ∙ sym (filled-release laws q m row (f .row .numbers) (at (w .cell) j) (f .kept .listed .within j l));
+        waits = g .waiting;
+        rooms = g .rooms;
+        rests = f .kept .rests;
+        longRest = f .kept .longRest;
+        gate = e ∙ gate-is;
+      }
+
+      -- what had come into a cell, with its release and what enters, is what it then holds and F
+      entered : (j : ℕ) → j < ramps →
+          at came (at (w .cell) j) + at (meteredOf laws q m row .entries) (at (w .cell) j)
+          ≡ at (meteredOf laws q m row .state .held) (at (w .cell) j) + at (meteredOf laws q m row .state .cumulative) (at (w .cell) j)
+      unfolding meteredOf countedOf movedTo
+      entered j l =
+          let i = at (w .cell) j in
+          let inside = f .kept .listed .within j l in
+          let s = f .step .sized in
+          let hold = fill-at (heldOf q (m .state) filled y) (q .n) (m .state .held) i inside (s .held) in
+          let sent = fill-at (cumulativeOf (m .state) y) (q .n) (m .state .cumulative) i inside (s .cumulative) in
+          let one : at y (i + 1) ≡ at y (suc i) = ap (at y) (add-one i) in
+          omega (
+            arith,
+            g .reached j l,
+            last-entry laws q m row (f .kept .longEntries) i inside,
+            hold,
+            sent,
+            one,
+            filled-release laws q m row (f .row .numbers) i inside,
+            outflows-obey q (m .state) filled (f .step .released) .demand (suc i) inside,
+            demand-at-cell q (f .step .input .road) (m .state) i inside,
+          )
+
+      -- and after it the step is filled
+      pub row-filled : {t : State} {y rest demand : List ℕ} → Stepped q (m .state) (filledRow laws q m (recordRow bytes (q .n) k)) t y rest
+          → length demand ≡ length (w .demand) → FilledRow laws bytes q m k put t ramps (arrays (w .cell) rest room release waits came demand) y
+      unfolding meteredOf
+      row-filled st ed = record {
+        releases = g .puts;
+        state = st .state;
+        row = st .outflows;
+        kept = record {
+          listed = f .kept .listed;
+          lasts = record {
+            releases = λ j l. g .releases j l ∙ sym (last-release laws q m row (f .kept .longReleases) (at (w .cell) j) (f .kept .listed .within j l));
+            entries = entered;
+          };
+          rests = λ i l. st .rests i l ∙ ap (λ (u : State). restOf (at (q .share) i) (at (u .cumulative) i)) (st .state);
+          longReleases = omega (arith, length-fill (grantedAt laws q m row) (q .n) (m .releases), f .kept .longReleases);
+          longEntries = omega (arith, length-fill (enteringAt q (m .state) y) (q .n) (m .entries), f .kept .longEntries);
+          longRest = st .longRest;
+          longRoom = omega (arith, g .sameRoom, same-room, f .kept .longRoom);
+          longRelease = omega (arith, g .sameRelease, f .kept .longRelease);
+          longWaits = omega (arith, g .sameWaits, f .kept .longWaits);
+          longCame = omega (arith, g .sameCame, f .kept .longCame);
+          longDemand = omega (arith, f .kept .longDemand);
+        };
+      }

@@ -6,26 +6,26 @@ use road::Refusal;
 use road::Road;
 use road::State;
 ghost use mathlib.Core.Path.{_≡_};
-ghost use lib.ListN.{length};
+ghost use mathlib.Core.List.{List};
+ghost use Prim.Native.Nat.{ℕ};
 ghost use Rattle.road.specs.declared.Road.{Road};
-ghost use Rattle.road.specs.Road.{mostCells};
+ghost use Rattle.meter.specs.declared.Law.{Law};
 ghost use Rattle.columns.specs.Columns.{roadOf, stateOf};
 ghost use Rattle.reading.specs.Reading.{studyBy};
 ghost use Rattle.patching.specs.Releases.{putTable};
 ghost use Rattle.schedules.specs.Schedules.{endAnswer, tableOf};
 ghost use Rattle.schedules.specs.Demand.{Taken, Promised};
 ghost use Rattle.ramps.specs.Ramps.{metered};
-ghost use Rattle.ramps.specs.LentRamps.{ramped};
+ghost use Rattle.ramps.specs.Grants.{ramped};
 ghost use Rattle.filling.specs.Filling.{meteredAfter, grantedIn, filledStudy, fillingOf, recordAfter, filledList};
-ghost use Rattle.filling.specs.Turn.{FillsLent, FilledRow};
+ghost use Rattle.filling.specs.Turn.{arrays, FillsRow, FillsLent, FilledRow};
 ghost use Rattle.filling.specs.Filled.{Fillable};
 ghost use Rattle.filling.specs.Theorems.{OnlyReleases};
 
 // One step on lent columns: its releases are granted and put into the bytes, then the step is made with them.
-fn fill_row<'a>(
+fn fill_row<'a, 'b>(
     bytes: &mut [u8],
     k: usize,
-    laws: [Law; 64],
     n: usize,
     gate_capacity: u32,
     speed: &'a [u16; 64],
@@ -34,54 +34,73 @@ fn fill_row<'a>(
     ramp: &'a [u16; 64],
     jam: &'a [u32; 64],
     capacity: &'a [u32; 64],
+    kinds: &'b [u8; 64],
+    numbers: &'b [f64; 192],
     l: Ledger,
     held: &mut [u32; 64],
     queue: &mut [u32; 64],
     cumulative: &mut [u32; 64],
-    released: &mut [u32; 64],
-    entered: &mut [u32; 64],
+    ramps: usize,
+    cell: &[usize; 64],
+    rest: &mut [u32; 64],
+    room: &mut [u32; 65],
+    release: &mut [u32; 64],
+    waiting: &mut [u32; 64],
+    came: &mut [u32; 64],
+    demand: &mut [u32; 64],
     y: &mut [u32],
 ) -> Ledger
-    requires { ⌜ FillsLent (now bytes) laws n «gate_capacity» (now speed) (now wave) (now share) (now ramp) (now jam) (now capacity)
-        (metered (stateOf l (now held) (now queue) (now cumulative)) (now released) (now entered)) k (now y) ⌝ }
-    ensures filled { λ t. ⌜ ((r : Road) → FilledRow (now (bytes .entry)) laws
+    requires { ⌜ FillsLent (now bytes) k n «gate_capacity» (now speed) (now wave) (now share) (now ramp) (now jam) (now capacity) (now kinds) (now numbers)
+        (stateOf l (now held) (now queue) (now cumulative)) ramps
+        (arrays (now cell) (now rest) (now room) (now release) (now waiting) (now came) (now demand)) (now y) ⌝ }
+    ensures { λ t. ⌜ ((laws : List Law) (r : Road) (releases entries : List ℕ) → FillsRow laws (now (bytes .entry))
         (roadOf (ramped r (now (ramp .entry))) n «gate_capacity» (now (speed .entry)) (now (wave .entry)) (now (share .entry)) (now (jam .entry)) (now (capacity .entry)))
-        (metered (stateOf l (now (held .entry)) (now (queue .entry)) (now (cumulative .entry))) (now (released .entry)) (now (entered .entry))) k
-        (now (bytes .exit)) (metered (stateOf t (now (held .exit)) (now (queue .exit)) (now (cumulative .exit))) (now (released .exit)) (now (entered .exit)))
+        (metered (stateOf l (now (held .entry)) (now (queue .entry)) (now (cumulative .entry))) releases entries) k (now (kinds .entry)) (now (numbers .entry)) ramps
+        (arrays (now (cell .entry)) (now (rest .entry)) (now (room .entry)) (now (release .entry)) (now (waiting .entry)) (now (came .entry)) (now (demand .entry)))
+        (now (y .entry)) → FilledRow laws (now (bytes .entry))
+        (roadOf (ramped r (now (ramp .entry))) n «gate_capacity» (now (speed .entry)) (now (wave .entry)) (now (share .entry)) (now (jam .entry)) (now (capacity .entry)))
+        (metered (stateOf l (now (held .entry)) (now (queue .entry)) (now (cumulative .entry))) releases entries) k
+        (now (bytes .exit)) (stateOf t (now (held .exit)) (now (queue .exit)) (now (cumulative .exit))) ramps
+        (arrays (now (cell .entry)) (now (rest .exit)) (now (room .exit)) (now (release .exit)) (now (waiting .exit)) (now (came .exit)) (now (demand .exit)))
         (now (y .exit))) ⌝ }
-    ensures lengths { λ t. ⌜ (length (now (released .exit)) ≡ mostCells) × (length (now (entered .exit)) ≡ mostCells) ⌝ }
 {
-    let numbers = 1 + 2 * n;
-    let row = fields::row(bytes, n, k);
-    ramps::releases(
-        laws,
-        n,
-        wave,
+    passes::supplies(n, wave, jam, capacity, held, room);
+    let start = fields::row_start(fields::version(bytes), n, k);
+    ramps::grant(
+        bytes,
+        start,
+        ramps,
+        cell,
         ramp,
-        jam,
-        capacity,
-        held,
-        queue,
-        &row[..numbers],
-        entered,
-        released,
-    );
-    patching::put_releases(bytes, n, k, released);
-    let filled = fields::row(bytes, n, k);
-    ramps::next(
-        n,
-        gate_capacity,
-        speed,
-        wave,
-        share,
-        jam,
-        capacity,
-        l,
+        kinds,
+        numbers,
         held,
         queue,
         cumulative,
-        &filled[..numbers],
-        entered,
+        room,
+        release,
+        waiting,
+        came,
+    );
+    let arrivals = fields::number(bytes, start, 4);
+    passes::next(
+        n,
+        gate_capacity,
+        speed,
+        share,
+        capacity,
+        l,
+        ramps,
+        arrivals,
+        cell,
+        release,
+        waiting,
+        room,
+        held,
+        queue,
+        cumulative,
+        rest,
+        demand,
         y,
     )
 }
@@ -105,20 +124,20 @@ fn fill_rows(
     let n = r.n;
     let places = n + 1;
     let capacity = r.capacity;
+    let columns = meter::columns(laws);
     let mut road = r;
+    let mut cell = [0usize; 64];
+    let ramps = passes::ramp_cells(n, &road.ramp, &mut cell);
     let mut held = s.held;
     let mut queue = s.queue;
     let mut cumulative = s.cumulative;
-    let mut l = Ledger {
-        done: s.done,
-        gate_time: s.gate_time,
-        road_time: s.road_time,
-        ramp_time: s.ramp_time,
-        gate_queue: s.gate_queue,
-        gate_cumulative: s.gate_cumulative,
-    };
-    let mut released = [0u32; 64];
-    let mut entered = [0u32; 64];
+    let mut came = s.held;
+    let mut l = Ledger::of(s);
+    let mut rest = [0u32; 64];
+    let mut room = [0u32; 65];
+    let mut release = [0u32; 64];
+    let mut waiting = [0u32; 64];
+    let mut demand = [0u32; 64];
     let mut k = 0;
     let mut to = 0;
     while k < steps {
@@ -130,7 +149,6 @@ fn fill_rows(
         l = fill_row(
             bytes,
             k,
-            laws,
             road.n,
             road.gate_capacity,
             &road.speed,
@@ -139,12 +157,20 @@ fn fill_rows(
             &road.ramp,
             &road.jam,
             &road.capacity,
+            &columns.kinds,
+            &columns.numbers,
             l,
             &mut held,
             &mut queue,
             &mut cumulative,
-            &mut released,
-            &mut entered,
+            ramps,
+            &cell,
+            &mut rest,
+            &mut room,
+            &mut release,
+            &mut waiting,
+            &mut came,
+            &mut demand,
             &mut out[to..end],
         );
         to = end;

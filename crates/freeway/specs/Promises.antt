@@ -3,9 +3,9 @@
 use mathlib.Core.Path.{_≡_, refl}
 use mathlib.Core.Bool.{true, false}
 use mathlib.Core.List.{List, [], _++_}
-use Prim.Native.Nat.{ℕ, _+_, _^_, _≤_, _<_, min}
+use Prim.Native.Nat.{ℕ, _+_, _*_, _^_, _≤_, _<_, min}
 use lib.Ieee.{Float, nan, inf, le, lt}
-use lib.ListN.{length}
+use lib.ListN.{length, take}
 use Rattle.numbers.specs.Lists.{at}
 use Rattle.flow.specs.Flow.{outflowOf, enteringOf, dividedOf}
 use Rattle.flow.specs.FlowLaws as flow
@@ -13,14 +13,18 @@ use Rattle.flow.specs.Division as paper
 use Rattle.road.specs.declared.Road.{Road}
 use Rattle.road.specs.declared.State.{State}
 use Rattle.road.specs.declared.Start.{Start}
-use Rattle.road.specs.Road.{mostRate}
-use Rattle.fields.specs.Fields.{secondVersion, versionOf}
+use Rattle.road.specs.declared.Refusal.{Refusal}
+use Rattle.road.specs.declared.Wanted.{Wanted}
+use Rattle.road.specs.Road.{mostRate, startIn, totalOf}
+use Rattle.road.specs.Refusals.{refusalNumber, fault}
+use Rattle.fields.specs.Fields.{secondVersion, versionOf, rowNumbers}
 use Rattle.limits.specs.LimitsLaws.{RoadOk}
-use Rattle.load.specs.Load.{loadingOf, loadedList}
+use Rattle.load.specs.Load.{loaded, loadingOf, loadedList}
 use Rattle.load.specs.Theorems as loads
-use Rattle.wanted.specs.Wanted.{Obeys, answer, wantedOf, tableAfter}
+use Rattle.wanted.specs.Wanted as wanted
+use Rattle.wanted.specs.Wanted.{Obeys, answer, wantedAnswer, wantedOf, tableAfter}
 use Rattle.wanted.specs.Theorems as wants
-use Rattle.street.specs.Street.{Asked, grantsOf}
+use Rattle.street.specs.Street.{Asked, grantsOf, grantingOf, grantsAfter}
 use Rattle.street.specs.Theorems as streets
 use Rattle.meter.specs.Meter.{wholeBelow, count}
 use Rattle.meter.specs.MeterLaws as meters
@@ -38,9 +42,11 @@ use Rattle.reading.specs.Within as within
 use Rattle.reading.specs.Versions as versions
 use Rattle.reading.specs.Caller as callers
 use Rattle.put.specs.Put.{puttingOf, releasedRecord}
+use Rattle.put.specs.PutLaws.{Ramp}
 use Rattle.put.specs.Theorems as puts
 use Rattle.writing.specs.Writing.{writingOf, targetAfter}
 use Rattle.writing.specs.Saved as saving
+use Rattle.taking.specs.TakenRows as taking
 use Rattle.joining.specs.Joining.{joinedRoad, joinedStart, joiningOf, joinedTarget}
 use Rattle.joining.specs.Theorems as joins
 use Rattle.schedules.specs.Schedules.{judgingOf, runningOf, listAfter, stepsMade}
@@ -48,14 +54,26 @@ use Rattle.schedules.specs.Demand.{Taken, Promised, WeightedDemand, Reaches, Ah
 use Rattle.schedules.specs.Whole as whole
 use Rattle.schedules.specs.Weighing.{weighingOf}
 use Rattle.schedules.specs.Weighted as weighting
+use Rattle.schedules.specs.WeightsUnread as unread
 use Rattle.schedules.specs.ImprovedRuns as improving
+use Rattle.schedules.specs.RaisedNotEmpty as worked
 use Rattle.schedules.specs.Accounts as accounting
 use Rattle.schedules.specs.Judged as judged
 use Rattle.schedules.specs.Unclosed as unclosed
 use Rattle.filling.specs.Filling.{fillingOf, recordAfter, filledList}
 use Rattle.filling.specs.Theorems as filling
+use Rattle.freeway.specs.Answers as answers
 use Rattle.freeway.specs.PutRun as putting
+use Rattle.freeway.specs.WantedRun as wantedRun
+use Rattle.freeway.specs.WantedPut as wantedPut
 use Rattle.freeway.specs.JoinedRun as joinedRun
+
+-- 01, forms. A number and values for each case of an answer, and no two cases with the same; of every other type of answer: `Answers`
+pub refusal-settled : (q p : Refusal) → refusalNumber q ≡ refusalNumber p → q ≡ p
+refusal-settled = answers.refusal-same
+
+pub wanted-settled : (x y : Wanted) → wantedAnswer x ≡ wantedAnswer y → x ≡ y
+wanted-settled = answers.wanted-same
 
 -- 01, one step. The outflow is the greatest that the demand allows and whose entering part finds room
 pub outflow-greatest : (b F room d y : ℕ) → y ≤ d → enteringOf b F y ≤ room → y ≤ outflowOf b F room d
@@ -64,7 +82,7 @@ outflow-greatest = flow.outflow-greatest
 pub outflow-allowed : (b F room d : ℕ) → (outflowOf b F room d ≤ d) × (enteringOf b F (outflowOf b F room d) ≤ room)
 outflow-allowed b F room d = (flow.outflow-le b F room d, flow.outflow-fits b F room d)
 
--- start plus arrivals equals present plus exits
+-- a step loses nobody: present, exits and the step's arrivals are present and exits after it. Over whole tables: `conserved` of `accounts`
 pub conserved : (r : Road) (s : State) (row : List ℕ) → RoadOk r → Sized r s → Released r s row
     → presentOf r s + exitsOf r s + arrivalsOf r row
     ≡ presentOf r (nextOf r s row (outflowsOf r s row)) + exitsOf r (nextOf r s row (outflowsOf r s row))
@@ -82,7 +100,7 @@ read-within s h = within.read-within s (readingOf s) refl h
 pub accepts-exactly : (bytes lanes zs : List ℕ) → judged.AcceptsExactly bytes lanes zs (judgingOf bytes lanes zs)
 accepts-exactly bytes lanes zs = judged.accepts-exactly bytes lanes zs refl
 
--- totals are the sums of present over the steps done, of gate, road and ramps apart and together
+-- totals are the sums of present over the steps done, of gate, road and ramps apart and together; start plus arrivals equals present plus exits
 pub accounts : (bytes lanes zs : List ℕ) → Taken bytes lanes → (k : ℕ) → Reaches (studyOf bytes lanes) zs k → accounting.Accounts (studyOf bytes lanes) zs k
 accounts = accounting.accounts
 
@@ -96,12 +114,19 @@ pub written-back : (road : Road) (T : ℕ) (start : Start) (rows target : List �
     → saving.Saved road T start rows target
 written-back = saving.saved
 
+-- a record that was read and written again has the same bytes, its rows taken into any list that has room for them
+pub written-again : (s : List ℕ) → readingOf s .number ≡ 0 → (list : List ℕ) → readingOf s .steps * rowNumbers (readingOf s .road .n) ≤ length list
+    → ((i : ℕ) → at s i < 256) → (target : List ℕ) → length s ≤ length target
+    → take (length s) (targetAfter (readingOf s .road) (readingOf s .steps) (startIn (readingOf s .state))
+    (taking.rowsTaken s (readingOf s .road .n) (readingOf s .steps) list) target) ≡ s
+written-again = taking.same-bytes
+
 -- every refusal leaves the target unchanged, and the count is 0
 pub unwritten : (road : Road) (T : ℕ) (start : Start) (rows target : List ℕ) → (writingOf road T start rows target .number ≡ 0 → ⊥)
     → (targetAfter road T start rows target ≡ target) × (writingOf road T start rows target .count ≡ 0)
 unwritten = saving.unsaved
 
--- request 3. The release is the greatest whole number not above the wish, under the cap; 0 for a wish that is negative or not a number;
+-- request 3. The release is the greatest whole number not above the wish, under a cap of 32 bits; 0 for a wish that is negative or not a number;
 -- an infinite wish above takes the cap
 pub whole-greatest : (x : Float) (cap k : ℕ) → 0 < k → k ≤ cap → cap < 2 ^ 32 → le (count k) x ≡ true → k ≤ wholeBelow x cap
 whole-greatest = meters.whole-greatest
@@ -119,7 +144,7 @@ whole-infinite = meters.whole-infinite
 pub only-releases : (laws : List Law) (bytes lanes list : List ℕ) → filling.OnlyReleases bytes (recordAfter laws bytes lanes list)
 only-releases = filling.only-releases
 
--- its list, road and state are those that rerunning that record gives
+-- unless it is refused with 16, its list, road and state are those that rerunning that record gives
 pub rerun : (laws : List Law) (bytes lanes list : List ℕ) → (fillingOf laws bytes lanes list .number ≡ 16 → ⊥) → filling.Rerun laws bytes lanes list
 rerun = filling.rerun
 
@@ -134,26 +159,41 @@ division = paper.divided-is-greatest
 
 -- request 6. An empty table means all open: running, judging and the list are those of a model without closures
 pub all-open : (bytes list zs : List ℕ)
-    → (runningOf bytes [] list ≡ unclosed.plainRunning bytes list) × (judgingOf bytes [] zs ≡ unclosed.plainJudging bytes zs)
-all-open bytes list zs = (unclosed.empty-runs bytes list, unclosed.empty-judges bytes zs)
+    → (runningOf bytes [] list ≡ unclosed.plainRunning bytes list)
+    × ((judgingOf bytes [] zs ≡ unclosed.plainJudging bytes zs) × (listAfter bytes [] list ≡ unclosed.plainList bytes list))
+all-open bytes list zs = (unclosed.empty-runs bytes list, (unclosed.empty-judges bytes zs, unclosed.empty-writes bytes list))
 
--- request 7. A version 1 record is read as before, and a reader that knows only version 1 meets refusal 2
+-- request 7. A version 1 record is read as before; where reading finds no fault with its length, a reader that knows only version 1 refuses version 2 with 2
 pub read-as-before : (s : List ℕ) → (versionOf s ≡ secondVersion → ⊥) → readingOf s ≡ firstReadingOf s
 read-as-before = versions.first-reader-same
 
 pub first-refuses : (s : List ℕ) → versionOf s ≡ secondVersion → (readingOf s .number ≡ 1 → ⊥) → firstReadingOf s ≡ refusedOf 2 0
 first-refuses = versions.first-refuses
 
--- request 8. With weights that fall from the gate on, the run's weighted total is at most every schedule's
+-- request 8. If no place weighs more than the one before it, gate first, the run's weighted total is at most every schedule's over the steps both reach
 pub weighted : (bytes lanes : List ℕ) → Taken bytes lanes → (list : List ℕ) (w u : ℕ → ℕ)
     → WeightedDemand bytes lanes w u (listAfter bytes lanes list) (runningOf bytes lanes list) (weighingOf w u bytes lanes list)
 weighted = weighting.weighted-demand
 
--- raising v, w, J or C of cells never makes the total larger, when both roads accept the same releases, start, arrivals and closures
+-- weights past cell n are not read
+pub weights-unread : (bytes lanes : List ℕ) (w v u x : ℕ → ℕ) → ((p : ℕ) → p ≤ studyOf bytes lanes .road .n → w p ≡ v p)
+    → ((i : ℕ) → i < studyOf bytes lanes .road .n → u i ≡ x i) → (list : List ℕ) → weighingOf w u bytes lanes list ≡ weighingOf v x bytes lanes list
+weights-unread = unread.run-unread
+
+-- raising v, w, J or C of cells never makes the total larger, after every step that both roads reach with the same releases, start, arrivals and closures
 pub raised : (s t lanes : List ℕ) → Taken s lanes → Taken t lanes → Improved (studyOf s lanes) (studyOf t lanes) → (list out : List ℕ) (k : ℕ)
     → k ≤ stepsMade (studyOf s lanes) (runningOf s lanes list) → k ≤ stepsMade (studyOf t lanes) (runningOf t lanes out)
     → Ahead (studyOf s lanes .road) (engineAfter (studyOf t lanes) k) (engineAfter (studyOf s lanes) k)
 raised = improving.improved-steps
+
+-- so, when both accept, the total returned is not larger; a worked pair, in which it falls
+pub raised-accepted : (s t lanes : List ℕ) → Taken s lanes → Taken t lanes → Improved (studyOf s lanes) (studyOf t lanes) → (list out : List ℕ)
+    → runningOf s lanes list .number ≡ 0 → runningOf t lanes out .number ≡ 0
+    → totalOf (runningOf t lanes out .state) ≤ totalOf (runningOf s lanes list .state)
+raised-accepted = improving.improved-accepted
+
+pub raised-profits : worked.Profits
+raised-profits = worked.profits
 
 -- request 9. The result reads without refusal, as upstream's cells, then downstream's, with the stated share at the joint
 pub joined : (up down : List ℕ) (share : ℕ) (target : List ℕ) → joiningOf up down share target .number ≡ 0
@@ -189,26 +229,94 @@ pub least : (start ceiling rate : ℕ) (arrivals table : List ℕ) → wantedOf 
     → wants.Least start ceiling rate arrivals (tableAfter start ceiling rate arrivals table)
 least = wants.found-least
 
--- none is said only where no table obeys
-pub none : (start ceiling rate : ℕ) (arrivals table : List ℕ) → wantedOf start ceiling rate arrivals (length table) ≡ answer 0 false
-    → (other : List ℕ) → Obeys start ceiling rate arrivals other → ⊥
-none = wants.none-only
+pub least-only : (start ceiling rate : ℕ) (arrivals : List ℕ) {one other : List ℕ} → wants.Least start ceiling rate arrivals one
+    → wants.Least start ceiling rate arrivals other → one ≡ other
+least-only = wants.least-unique
 
--- request 11. The limit is never passed, no ramp gets more than its wish, none less than the smaller of wish and guarantee, in ramp order
+-- none exactly where, within the limits of 23, no table obeys; the lent table is then unchanged
+pub none-only : (start ceiling rate : ℕ) (arrivals table : List ℕ) → wantedOf start ceiling rate arrivals (length table) ≡ answer 0 true false
+    → (other : List ℕ) → Obeys start ceiling rate arrivals other → ⊥
+none-only = wants.none-only
+
+pub none-if : (start ceiling rate : ℕ) (arrivals table : List ℕ) → wanted.Asked start ceiling rate arrivals (length table)
+    → ((other : List ℕ) → Obeys start ceiling rate arrivals other → ⊥)
+    → (wantedOf start ceiling rate arrivals (length table) ≡ answer 0 true false) × (tableAfter start ceiling rate arrivals table ≡ table)
+none-if = wants.none-if
+
+-- 23 exactly where a limit is passed; the lent table is then unchanged
+pub wanted-refused : (start ceiling rate : ℕ) (arrivals table : List ℕ) → wantedOf start ceiling rate arrivals (length table) .number ≡ 23
+    → wanted.Asked start ceiling rate arrivals (length table) → ⊥
+wanted-refused = wants.refused-only
+
+pub wanted-refused-if : (start ceiling rate : ℕ) (arrivals table : List ℕ) → (wanted.Asked start ceiling rate arrivals (length table) → ⊥)
+    → (wantedOf start ceiling rate arrivals (length table) ≡ answer 23 false false) × (tableAfter start ceiling rate arrivals table ≡ table)
+wanted-refused-if = wants.refused-if
+
+-- there is no other end
+pub wanted-ends : (start ceiling rate : ℕ) (arrivals table : List ℕ)
+    → wants.Ends start ceiling rate arrivals table (wantedOf start ceiling rate arrivals (length table)) (tableAfter start ceiling rate arrivals table)
+wanted-ends = wants.ends
+
+-- 'running checks it': where a ramp has a table's releases, and its start queue and arrivals, and the table obeys, running never says 9 of that ramp
+pub never-nine : (bytes lanes : List ℕ) → Taken bytes lanes → (i start ceiling rate : ℕ) (arrivals table : List ℕ)
+    → wantedRun.Follows (studyOf bytes lanes) i start arrivals table → Obeys start ceiling rate arrivals table
+    → (list : List ℕ) → runningOf bytes lanes list .number ≡ 9 → runningOf bytes lanes list .place ≡ i + 1 → ⊥
+never-nine = wantedRun.running-never-nine
+
+-- a table found for a ramp's own queue and arrivals is put into the record without a refusal, and the record then keeps the queue
+pub found-put : (bytes lanes : List ℕ) → Taken bytes lanes → (i : ℕ) → Ramp (readingOf bytes .road .ramp) (readingOf bytes .road .n) (i + 1)
+    → (ceiling rate : ℕ) (lent : List ℕ)
+    → wantedOf (at (readingOf bytes .state .queue) i) ceiling rate (wantedPut.rampArrivals bytes i) (length lent) .found ≡ true
+    → wantedPut.QueueKept bytes lanes i ceiling
+    (tableAfter (at (readingOf bytes .state .queue) i) ceiling rate (wantedPut.rampArrivals bytes i) lent)
+    (wantedPut.putSteps bytes (i + 1) (tableAfter (at (readingOf bytes .state .queue) i) ceiling rate (wantedPut.rampArrivals bytes i) lent)
+    (readingOf bytes .steps))
+found-put = wantedPut.found-kept
+
+-- request 11. The limit is never passed, no ramp gets more than its wish, none less than the smaller of wish and guarantee, what remains goes in ramp
+-- order and nothing is wasted; no other grants are so
 pub fair : (limit : ℕ) (guarantees wishes : List ℕ) → Asked limit guarantees wishes
     → streets.Fair limit guarantees wishes (grantsOf limit guarantees wishes)
 fair = streets.fair
+
+pub fair-only : {limit : ℕ} {guarantees wishes : List ℕ} → Asked limit guarantees wishes → (grants : List ℕ)
+    → streets.Fair limit guarantees wishes grants → grants ≡ grantsOf limit guarantees wishes
+fair-only = streets.fair-unique
 
 -- whatever the others wish
 pub whatever-others-wish : (limit : ℕ) (guarantees : List ℕ) (i wish : ℕ) → i < length guarantees → (wishes : List ℕ) → at wishes i ≡ wish
     → min wish (at guarantees i) ≤ at (grantsOf limit guarantees wishes) i
 whatever-others-wish = streets.whatever-others-wish
 
--- putting a release into a record changes nothing else in it, and each road is then compared with its own rivals
+-- 24 or the grants, and no other end; 24 leaves the grants' list unchanged
+pub granted-ends : (limit : ℕ) (guarantees wishes grants : List ℕ)
+    → streets.Ends limit guarantees wishes grants (grantingOf limit guarantees wishes (length grants)) (grantsAfter limit guarantees wishes grants)
+granted-ends = streets.ends
+
+-- putting never refuses a granted release for its size
+pub granted-put : (limit : ℕ) (guarantees wishes : List ℕ) → Asked limit guarantees wishes → (i : ℕ) → i < length guarantees
+    → (bytes : List ℕ) (step cell : ℕ) → readingOf bytes .number ≡ 0 → Ramp (readingOf bytes .road .ramp) (readingOf bytes .road .n) cell
+    → step < readingOf bytes .steps → puttingOf bytes step cell (at (grantsOf limit guarantees wishes) i) ≡ fault 0 0
+granted-put = putting.granted-put
+
+-- putting a release into a record changes nothing else in it
 pub put : (bytes : List ℕ) (step cell release : ℕ) → puttingOf bytes step cell release .number ≡ 0
     → puts.Asked bytes step cell release × puts.Stands bytes (releasedRecord bytes step cell release) step cell release
 put = puts.puts
 
+-- each refusal with all that comes before it, and what it leaves of the record
+pub put-ends : (bytes : List ℕ) (step cell release : ℕ)
+    → puts.Ends bytes step cell release (puttingOf bytes step cell release) (releasedRecord bytes step cell release)
+put-ends = puts.ends
+
+-- a run that makes that step has checked the release against queue and supply
+pub put-checked : (bytes lanes : List ℕ) → Taken bytes lanes → (step cell release : ℕ) → puttingOf bytes step cell release .number ≡ 0 → (list : List ℕ)
+    → step < stepsMade (studyOf (releasedRecord bytes step cell release) lanes) (runningOf (releasedRecord bytes step cell release) lanes list)
+    → (i : ℕ) → i + 1 ≡ cell → putting.Checked (studyOf (releasedRecord bytes step cell release) lanes)
+    (listAfter (releasedRecord bytes step cell release) lanes list) step release i
+put-checked = putting.put-checked
+
+-- each road is then compared with its own rivals
 pub put-compared : (bytes lanes : List ℕ) → Taken bytes lanes → (step cell release : ℕ) → puttingOf bytes step cell release .number ≡ 0 → (list : List ℕ)
     → Promised (releasedRecord bytes step cell release) lanes (listAfter (releasedRecord bytes step cell release) lanes list)
     (runningOf (releasedRecord bytes step cell release) lanes list)
@@ -221,6 +329,18 @@ at-most-peak = loads.at-most-peak
 pub goes-on : (seed peak : ℕ) (first second : List ℕ)
     → loadedList seed peak (first ++ second) ≡ loadedList seed peak first ++ loadedList (loadingOf seed peak (length first) .last) peak second
 goes-on = loads.goes-on
+
+-- 25 exactly where the peak is above 1,000,000; it leaves the list unchanged and returns the seed
+pub peak-refused : (seed peak n : ℕ) → loadingOf seed peak n .number ≡ 25 → mostRate < peak
+peak-refused = loads.refused-exactly
+
+pub peak-refused-if : (seed peak : ℕ) (list : List ℕ) → mostRate < peak
+    → (loadingOf seed peak (length list) ≡ loaded 25 seed) × (loadedList seed peak list ≡ list)
+peak-refused-if = loads.refused-if
+
+-- there is no other end but the seed's arrivals in their order, with the last number
+pub loaded-ends : (seed peak : ℕ) (list : List ℕ) → loads.Ends seed peak list (loadingOf seed peak (length list)) (loadedList seed peak list)
+loaded-ends = loads.ends
 
 -- request 14. For every pair of limits 26 comes exactly where no refusal before it applies and n or the count of bytes is above the pair
 pub caller-beyond : (s : List ℕ) (cells most : ℕ) → callers.Beyond cells most s → readingWithin cells most s ≡ refusedOf 26 0

@@ -5,18 +5,28 @@ use mathlib.Core.List.{List}
 use Prim.Native.Nat.{ℕ, _+_, _*_, _≤_, _<_}
 use native.Mathlib.Nat.{le-refl}
 use native.Mathlib.Omega.{arith}
-use lib.ListN.{set}
-use Rattle.road.specs.declared.State.{State}
+use lib.ListN.{length, set}
+use Rattle.numbers.specs.Lists.{at}
+use Rattle.road.specs.Refusals.{fault}
 use Rattle.studies.specs.Study.{Study, roadAt}
+use Rattle.street.specs.Street as street
+use Rattle.street.specs.Street.{grantsOf}
+use Rattle.street.specs.StreetLaws.{grants-wish}
 use Rattle.fields.specs.FieldsLaws.{row-at}
 use Rattle.reading.specs.Reading.{ReadAnswer, readingOf, studyOf}
 use Rattle.model.specs.Places.{releaseAt, mostReleaseAt, supplyAt}
+use Rattle.put.specs.Put.{puttingOf, releasedRecord}
+use Rattle.put.specs.PutLaws.{Ramp}
+use Rattle.put.specs.Theorems.{Asked, Stands, puts, put-if}
 use Rattle.schedules.specs.Schedules.{scheduledAt, stepsMade, runningOf, listAfter}
 use Rattle.schedules.specs.Readable.{readable}
 use Rattle.schedules.specs.Demand.{Taken, Promised}
 use Rattle.schedules.specs.Whole.{promised}
-use Rattle.put.specs.Put.{puttingOf, releasedRecord}
-use Rattle.put.specs.Theorems.{Asked, Stands, puts}
+
+-- in the state that a table of outflows has before a step, a release at i is at most queue plus arrivals, and at most the supply
+pub record Checked (a : Study) (out : List ℕ) (step release i : ℕ) : Type 0 where
+  pub queue : release ≤ mostReleaseAt (scheduledAt a out step) (a .rows step) i
+  pub supply : release ≤ supplyAt (roadAt a step) (scheduledAt a out step) i
 
 module _ (bytes lanes : List ℕ) (taken : Taken bytes lanes) (step cell release : ℕ) (put : puttingOf bytes step cell release .number ≡ 0) where
   abbrev after : List ℕ
@@ -61,13 +71,19 @@ module _ (bytes lanes : List ℕ) (taken : Taken bytes lanes) (step cell release
   -- a run that makes that step has checked it: against queue plus arrivals, and against the supply
   module _ (list : List ℕ)
       (made : step < stepsMade (studyOf (releasedRecord bytes step cell release) lanes) (runningOf (releasedRecord bytes step cell release) lanes list)) where
-    abbrev before : State
-    before = scheduledAt a (listAfter after lanes list) step
-
-    pub put-checked : (i : ℕ) → i + 1 ≡ cell → (release ≤ mostReleaseAt before (a .rows step) i) × (release ≤ supplyAt (roadAt a step) before i)
+    pub put-checked : (i : ℕ) → i + 1 ≡ cell → Checked (studyOf (releasedRecord bytes step cell release) lanes)
+        (listAfter (releasedRecord bytes step cell release) lanes list) step release i
     put-checked i e =
         let own = put-promised list .grounds .own (stepsMade a (runningOf after lanes list)) (le-refl _) .obeys step made .released in
         let ok = readable after lanes (readingOf after) refl (put-taken .reads) (put-taken .opens) .ok in
         let n : i < roadAt a step .n =
         omega (arith, ok .roads step .n, asked .ramp .within, ap (λ (x : ReadAnswer). x .road .n) (stands .reads)) in
-        (omega (arith, put-release i e, own .queue i n), omega (arith, put-release i e, own .supply i n))
+        record { queue = omega (arith, put-release i e, own .queue i n); supply = omega (arith, put-release i e, own .supply i n) }
+
+-- putting never refuses a granted release for its size: at a ramp of the road and a step of the record it is put
+pub granted-put : (limit : ℕ) (guarantees wishes : List ℕ) → street.Asked limit guarantees wishes → (i : ℕ) → i < length guarantees
+    → (bytes : List ℕ) (step cell : ℕ) → readingOf bytes .number ≡ 0 → Ramp (readingOf bytes .road .ramp) (readingOf bytes .road .n) cell
+    → step < readingOf bytes .steps → puttingOf bytes step cell (at (grantsOf limit guarantees wishes) i) ≡ fault 0 0
+granted-put limit guarantees wishes asked i l bytes step cell reads ramp before =
+    put-if bytes step cell (at (grantsOf limit guarantees wishes) i)
+    (record { reads = reads; ramp = ramp; before = before; rate = omega (arith, grants-wish limit guarantees wishes i l, asked .wished i (omega (arith, asked .same))) })

@@ -2,6 +2,7 @@
 -- queue is the one that the table keeps, after every step and whatever the outflows, and 9 never comes of that ramp. Assumes nothing.
 use mathlib.Core.Path.{_≡_, refl, sym, ap, _∙_}
 use mathlib.Core.Bool.{Bool, true, false, cond}
+use mathlib.Core.Logic.{⊎-elim}
 use mathlib.Core.List.{List}
 use Prim.Native.Nat.{ℕ, zero, suc, _+_, _≤_, _<_}
 use native.Mathlib.Omega.{arith}
@@ -11,15 +12,20 @@ use borrow.Author.Tests.{le-leb, eqb-true, eqb-false}
 use Rattle.road.specs.Refusals.{fault, FaultAnswer}
 use Rattle.numbers.specs.Lists.{at}
 use Rattle.numbers.specs.First.{unless, firstFault}
-use Rattle.studies.specs.Study.{Study, roadAt}
+use Rattle.numbers.specs.Tests.{order}
+use Rattle.studies.specs.Study.{Study, roadAt, tableSize}
 use Rattle.model.specs.Places.{arrivalsAt, releaseAt, mostReleaseAt, supplyAt}
 use Rattle.model.specs.MoveLaws.{next-queue}
 use Rattle.model.specs.Rules.{Sized}
 use Rattle.model.specs.Runs.{scheduleAfter, engineAfter, outflowsAt}
 use Rattle.model.specs.Step.{lowestOf, releaseFault, releaseFaultAt}
 use Rattle.model.specs.RunsLaws.{StudyOk, schedule-sized, engine-schedule}
-use Rattle.schedules.specs.Schedules.{runSays, firstStep, EndAnswer, runEnd}
+use Rattle.reading.specs.Reading.{readingOf, studyOf}
+use Rattle.schedules.specs.Schedules.{runSays, firstStep, EndAnswer, runEnd, runningOf}
 use Rattle.schedules.specs.SchedulesLaws.{step-within, end-all, end-fault}
+use Rattle.schedules.specs.Ends.{runs-long, runs-short}
+use Rattle.schedules.specs.Readable.{readable}
+use Rattle.schedules.specs.Demand.{Taken}
 use Rattle.wanted.specs.Wanted.{queueAfter, Obeys}
 
 -- the ramp of the cell at i has this start queue, these arrivals and this table's releases
@@ -106,3 +112,20 @@ module _ (a : Study) (ok : StudyOk a) (i start ceiling rate : ℕ) (arrivals tab
           no-nine-in k l
           (nine-there (releaseFaultAt (roadAt a k) (engineAfter a k) (a .rows k)) (roadAt a k .n) i
           (sym (ap (λ (x : EndAnswer). x .number) end) ∙ n) (sym (ap (λ (x : EndAnswer). x .place) end) ∙ p))
+
+-- the same of running's answer for a record, whatever list is lent
+module _ (bytes lanes : List ℕ) (taken : Taken bytes lanes) (i start ceiling rate : ℕ) (arrivals table : List ℕ)
+    (follows : Follows (studyOf bytes lanes) i start arrivals table) (obeys : Obeys start ceiling rate arrivals table) where
+  within : StudyOk (studyOf bytes lanes)
+  within = readable bytes lanes (readingOf bytes) refl (taken .reads) (taken .opens) .ok
+
+  pub running-never-nine : (list : List ℕ) → runningOf bytes lanes list .number ≡ 9 → runningOf bytes lanes list .place ≡ i + 1 → ⊥
+  running-never-nine list n p = ⊎-elim
+      (λ (l : tableSize (studyOf bytes lanes) ≤ length list).
+      let e = runs-long bytes lanes taken list l in
+      never-nine (studyOf bytes lanes) within i start ceiling rate arrivals table follows obeys
+      (sym (ap (λ (x : EndAnswer). x .number) e) ∙ n) (sym (ap (λ (x : EndAnswer). x .place) e) ∙ p))
+      (λ (l : length list < tableSize (studyOf bytes lanes)).
+      let z = ap (λ (x : EndAnswer). x .number) (runs-short bytes lanes taken list l) in
+      omega (arith, n))
+      (order (tableSize (studyOf bytes lanes)) (length list))

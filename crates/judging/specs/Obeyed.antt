@@ -1,49 +1,36 @@
 -- What the loop over the steps of a schedule knows, and how judging ends. Assumes nothing.
 use mathlib.Core.Path.{_≡_, refl, sym, ap, _∙_}
 use mathlib.Core.List.{List}
-use Prim.Native.Nat.{ℕ, _+_, _*_, _≤_, _<_}
+use Prim.Native.Nat.{ℕ, _+_, _≤_, _<_}
 use native.Mathlib.Numerals.{add-one}
-use native.Mathlib.Omega.{arith}
 use lib.ListN.{length}
 use Rattle.numbers.specs.FirstLaws.{Faultless, faultless-none, faultless-more}
-use Rattle.rows.specs.TablesLaws.{row-ends, mul-more}
 use Rattle.road.specs.Refusals.{FaultAnswer}
 use Rattle.road.specs.declared.Road.{Road}
 use Rattle.road.specs.declared.State.{State}
-use Rattle.road.specs.Road.{mostSteps}
+use Rattle.road.specs.Road.{mostCells}
 use Rattle.studies.specs.Study.{Study, roadAt, places, tableSize}
-use Rattle.model.specs.Move.{nextOf}
 use Rattle.model.specs.StepLaws.{number-of}
-use Rattle.model.specs.Verdict.{verdictOf}
-use Rattle.model.specs.VerdictLaws.{verdict-obeys}
 use Rattle.model.specs.Runs.{scheduleAfter}
 use Rattle.model.specs.RunsLaws.{StudyOk, StepOf, step-road, step-input, step-sized, step-left}
-use Rattle.moves.specs.Asked.{Movable}
-use Rattle.verdict.specs.Proposed.{Proposed}
 use Rattle.reading.specs.Reading.{ReadAnswer, readingOf, studyBy}
 use Rattle.schedules.specs.Schedules.{proposedAt, scheduledAt, judgeSays, EndAnswer, ended, noState, openingOf, judgeEnd, judgingOf}
 use Rattle.schedules.specs.SchedulesLaws.{judge-reached, ends-all, ends-at}
 use Rattle.schedules.specs.Demand.{Taken}
 use Rattle.schedules.specs.Opening.{opened-taken, opened-reads}
 use Rattle.schedules.specs.Ends.{judges-unopened, judges-length, judges-ends}
-use Rattle.schedules.specs.Readable.{Readable}
 use Rattle.schedules.specs.Judged.{AcceptsExactly, accepts-exactly}
+use Rattle.judging.specs.JudgedStep.{Judges, JudgedStep}
 
--- what judging step by step asks: a record that reads, and a schedule of the right length
-pub record Judgeable (bytes : List ℕ) (a : Study) (zs : List ℕ) : Type 0 where
-  pub readable : Readable bytes a
-  pub right : length zs ≡ tableSize a
-
--- the schedule obeys in the first k steps, u is its own state after them, and its next row begins at `from`
-pub record Obeyed (a : Study) (zs : List ℕ) (u : State) (k from : ℕ) : Type 0 where
-  pub starts : from ≡ k * places a
+-- the schedule obeys in the first k steps, and u is its own state after them
+pub record Obeyed (a : Study) (zs : List ℕ) (u : State) (k : ℕ) : Type 0 where
   pub state : u ≡ scheduledAt a zs k
   pub faultless : Faultless (λ j. judgeSays a zs j .number) (a .steps) k
 
 -- a turn of it: q is the step's road, and the code holds the row of step k and the schedule's row of outflows
-pub record JudgeTurn (a : Study) (zs : List ℕ) (u : State) (k from : ℕ) (q : Road) (row y : List ℕ) : Type 0 where
+pub record JudgeTurn (a : Study) (zs : List ℕ) (u : State) (k : ℕ) (q : Road) (row y : List ℕ) : Type 0 where
   pub ok : StudyOk a
-  pub obeyed : Obeyed a zs u k from
+  pub obeyed : Obeyed a zs u k
   pub left : k < a .steps
   pub road : q ≡ roadAt a k
   pub numbers : row ≡ a .rows k
@@ -51,20 +38,15 @@ pub record JudgeTurn (a : Study) (zs : List ℕ) (u : State) (k from : ℕ) (q :
   pub size : length y ≡ places a
 
 module _ {a : Study} {zs : List ℕ} where
-  pub obeyed-none : Obeyed a zs (a .start) 0 0
+  pub obeyed-none : Obeyed a zs (a .start) 0
   unfolding scheduleAfter
-  obeyed-none = record { starts = omega arith; state = refl; faultless = faultless-none }
+  obeyed-none = record { state = refl; faultless = faultless-none }
 
-  module _ {u : State} {k from : ℕ} (h : Obeyed a zs u k from) where
-    -- the schedule's row of outflows lies within what bounds the table
-    pub row-ends-by : (most : ℕ) → tableSize a ≤ most → k < a .steps → from + places a ≤ most
-    row-ends-by most m l = omega (arith, h .starts, row-ends k (a .steps) (places a) l)
+  -- the end after all steps
+  pub obeyed-end : {u : State} {k : ℕ} → Obeyed a zs u k → {e : EndAnswer} → a .steps ≤ k → e ≡ ended 0 0 0 (a .road) u → e ≡ judgeEnd a zs
+  obeyed-end h l g = g ∙ ends-all a (judgeSays a zs) (scheduledAt a zs) (h .faultless) (h .state) l
 
-    -- the end after all steps
-    pub obeyed-end : {e : EndAnswer} → a .steps ≤ k → e ≡ ended 0 0 0 (a .road) u → e ≡ judgeEnd a zs
-    obeyed-end l g = g ∙ ends-all a (judgeSays a zs) (scheduledAt a zs) (h .faultless) (h .state) l
-
-  module _ {u : State} {k from : ℕ} {q : Road} {row y : List ℕ} (t : JudgeTurn a zs u k from q row y) where
+  module _ {u : State} {k : ℕ} {q : Road} {row y : List ℕ} (t : JudgeTurn a zs u k q row y) where
     this-step : StepOf a q u row k
     this-step = record {
       ok = t .ok;
@@ -74,37 +56,32 @@ module _ {a : Study} {zs : List ℕ} where
       reached = rw (t .obeyed .state) (judge-reached a (t .ok) zs k (t .obeyed .faultless .within) (t .obeyed .faultless .before));
     }
 
-    same-places : length y ≡ q .n + 1
-    same-places = t .size ∙ ap (λ (n : ℕ). n + 1) (sym (step-road this-step .n))
+    -- it may be judged and made
+    pub judges : {room : List ℕ} → length room ≡ mostCells
+        → Judges (q .n) (q .«gate_capacity») (q .speed) (q .wave) (q .share) (q .jam) (q .capacity) u row room y
+    judges e = record {
+      road = q;
+      input = step-input this-step;
+      sized = step-sized this-step;
+      left = step-left this-step;
+      places = t .size ∙ ap (λ (n : ℕ). n + 1) (sym (step-road this-step .n));
+      rooms = e;
+    }
 
-    pub proposed : Proposed (q .n) row y
-    proposed = record { cells = step-road this-step .ok .cells; numbers = step-input this-step .row .numbers; places = same-places }
-
-    pub steps-left : u .done < mostSteps
-    steps-left = step-left this-step
-
-    module _ {f : FaultAnswer} (e : f ≡ verdictOf q u row y) where
-      says : f ≡ judgeSays a zs k
-      says = rw (e, t .road, t .obeyed .state, t .numbers, t .outflows)
+    module _ {f : FaultAnswer} {v : State} (j : JudgedStep q u row y f v) where
+      pub says : f ≡ judgeSays a zs k
+      says = rw (j .found, t .road, t .obeyed .state, t .numbers, t .outflows)
 
       -- the end at a fault
-      pub ends-fault : {x : EndAnswer} → (f .number ≡ 0 → ⊥) → x ≡ ended (f .number) k (f .place) (a .road) u → x ≡ judgeEnd a zs
-      ends-fault n g = g ∙ ends-at a (judgeSays a zs) (scheduledAt a zs) (t .obeyed .faultless) (t .obeyed .state) (t .left) says n
+      pub ends-fault : {x : EndAnswer} → (f .number ≡ 0 → ⊥) → x ≡ ended (f .number) k (f .place) (a .road) v → x ≡ judgeEnd a zs
+      ends-fault n g =
+          g ∙ ends-at a (judgeSays a zs) (scheduledAt a zs) (t .obeyed .faultless) (j .kept n ∙ t .obeyed .state) (t .left) says n
 
-      -- no fault: the row may be moved by, and the next turn follows
-      pub movable : f .number ≡ 0 → Movable q u row y
-      movable z = record {
-        input = step-input this-step;
-        sized = step-sized this-step;
-        places = same-places;
-        obeys = verdict-obeys q u row y (sym (number-of e) ∙ z);
-      }
-
-      pub obeyed-more : f .number ≡ 0 → {v : State} → v ≡ nextOf q u row y → Obeyed a zs v (k + 1) (from + places a)
+      -- no fault: the next turn follows
+      pub obeyed-more : f .number ≡ 0 → Obeyed a zs v (k + 1)
       unfolding scheduleAfter
-      obeyed-more z ev = record {
-        starts = omega (arith, t .obeyed .starts, mul-more k (places a));
-        state = rw (ev, t .road, t .obeyed .state, t .numbers, t .outflows, add-one k);
+      obeyed-more z = record {
+        state = rw (j .moved z, t .road, t .obeyed .state, t .numbers, t .outflows, add-one k);
         faultless = faultless-more (t .obeyed .faultless) (t .left) (number-of says) z;
       }
 

@@ -1,16 +1,112 @@
-// Judging: whether a proposed schedule obeys the rules of a record, step by step in its own states.
+// Judging: whether a proposed schedule obeys the rules of a record, step by step in its own states. History writes these states into lent
+// lists too, as plots need them.
 use columns::Ledger;
 use road::Ended;
 use road::Refusal;
 use road::Road;
 use road::State;
 ghost use mathlib.Core.Path.{_≡_};
+ghost use mathlib.Core.Bool.{true, cond};
+ghost use Prim.Native.Nat.{_+_, _≤_};
+ghost use lib.ListN.{length};
+ghost use Rattle.rows.specs.Placed.{placed};
+ghost use Rattle.road.specs.Road.{mostCells};
+ghost use Rattle.road.specs.Refusals.{refusalNumber, fault};
+ghost use Rattle.road.specs.declared.Road.{Road};
+ghost use Rattle.columns.specs.Columns.{roadOf, stateOf};
 ghost use Rattle.reading.specs.Reading.{studyBy};
+ghost use Rattle.reading.specs.Table.{mostOutflows};
 ghost use Rattle.schedules.specs.Schedules.{endAnswer, judgeEnd, judgingOf};
 ghost use Rattle.schedules.specs.Judged.{AcceptsExactly};
-ghost use Rattle.judging.specs.Obeyed.{Judgeable};
+ghost use Rattle.judging.specs.JudgedStep.{Judges, JudgedStep};
+ghost use Rattle.judging.specs.History.{placesOf, heldEnd, queueEnd, historyOf, heldAfter, queueAfter};
+ghost use Rattle.judging.specs.WrittenStates.{Judgeable};
 
-// Goes through a schedule of the right length up to its first fault: 9, 10, 13 or 14.
+// What judging finds of a step, and the ledger after it: the one before it where there is a fault.
+pub struct Judged {
+    pub refusal: Refusal,
+    pub place: usize,
+    pub ledger: Ledger,
+}
+
+// Judges a row of outflows, and moves every place by it where it obeys.
+fn judge_step<'a>(
+    n: usize,
+    gate_capacity: u32,
+    speed: &'a [u16; 64],
+    wave: &'a [u16; 64],
+    share: &'a [u16; 64],
+    jam: &'a [u32; 64],
+    capacity: &'a [u32; 64],
+    l: Ledger,
+    held: &mut [u32; 64],
+    queue: &mut [u32; 64],
+    cumulative: &mut [u32; 64],
+    row: &[u32],
+    room: &mut [u32; 64],
+    y: &[u32],
+) -> Judged
+    requires { ⌜ Judges n «gate_capacity» (now speed) (now wave) (now share) (now jam) (now capacity)
+        (stateOf l (now held) (now queue) (now cumulative)) (now row) (now room) (now y) ⌝ }
+    ensures step { λ j. ⌜ ((r : Road) → JudgedStep
+        (roadOf r n «gate_capacity» (now (speed .entry)) (now (wave .entry)) (now (share .entry)) (now (jam .entry)) (now (capacity .entry)))
+        (stateOf l (now (held .entry)) (now (queue .entry)) (now (cumulative .entry))) (now (row .entry)) (now (y .entry))
+        (fault (refusalNumber (j .refusal)) (j .place)) (stateOf (j .ledger) (now (held .exit)) (now (queue .exit)) (now (cumulative .exit)))) ⌝ }
+    ensures length { λ j. ⌜ length (now (room .exit)) ≡ mostCells ⌝ }
+{
+    let q = verdict::lent::verdict(
+        n,
+        gate_capacity,
+        speed,
+        wave,
+        share,
+        jam,
+        capacity,
+        l.gate_queue,
+        l.gate_cumulative,
+        held,
+        queue,
+        cumulative,
+        row,
+        room,
+        y,
+    );
+    let refusal = q.refusal;
+    if refusal.number() != 0 {
+        return Judged {
+            refusal: refusal,
+            place: q.place,
+            ledger: l,
+        };
+    }
+    let t = moves::lent::advance(n, share, l, held, queue, cumulative, row, y);
+    Judged {
+        refusal: refusal,
+        place: q.place,
+        ledger: t,
+    }
+}
+
+// Where `writes`, puts a row of places into a list from `from` on: the gate's number, then each cell's.
+fn put_places(writes: bool, from: usize, gate: u32, cells: &[u32; 64], n: usize, list: &mut [u32])
+    requires { ⌜ (n ≤ mostCells) × ((from + (n + 1) ≤ mostOutflows) × (writes ≡ true → from + (n + 1) ≤ length (now list))) ⌝ }
+    ensures { λ _. ⌜ now (list .exit) ≡ cond writes (placed (now (list .entry)) from (placesOf gate (now (cells .entry)) n)) (now (list .entry)) ⌝ }
+{
+    if !writes {
+        return;
+    }
+    let mut x = gate;
+    let mut i = 0;
+    while i < n {
+        list[from + i] = x;
+        x = cells[i];
+        i += 1;
+    }
+    list[from + n] = x;
+}
+
+// Goes through a schedule of the right length up to its first fault: 9, 10, 13 or 14. Where `writes`, puts the states after the steps before
+// it into the lists.
 fn judge_rows(
     bytes: &[u8],
     table: &[u8],
@@ -18,73 +114,60 @@ fn judge_rows(
     s: State,
     steps: usize,
     schedule: &[u32],
+    writes: bool,
+    held: &mut [u32],
+    queue: &mut [u32],
 ) -> Ended
-    requires { ⌜ Judgeable (now bytes) (studyBy (now bytes) (now table) r s steps) (now schedule) ⌝ }
-    ensures { λ e. ⌜ endAnswer e ≡ judgeEnd (studyBy (now (bytes .entry)) (now (table .entry)) r s steps) (now (schedule .entry)) ⌝ }
+    requires { ⌜ Judgeable (now bytes) (studyBy (now bytes) (now table) r s steps) (now schedule) writes (now held) (now queue) ⌝ }
+    ensures answer { λ e. ⌜ endAnswer e ≡ judgeEnd (studyBy (now (bytes .entry)) (now (table .entry)) r s steps) (now (schedule .entry)) ⌝ }
+    ensures held { λ e. ⌜ (writes ≡ true
+        → now (held .exit) ≡ heldEnd (studyBy (now (bytes .entry)) (now (table .entry)) r s steps) (now (schedule .entry)) (now (held .entry))) ⌝ }
+    ensures queue { λ e. ⌜ (writes ≡ true
+        → now (queue .exit) ≡ queueEnd (studyBy (now (bytes .entry)) (now (table .entry)) r s steps) (now (schedule .entry)) (now (queue .entry))) ⌝ }
 {
     let n = r.n;
     let numbers = 1 + 2 * n;
-    let places = n + 1;
-    let capacity = r.capacity;
-    let mut road = r;
-    let mut held = s.held;
-    let mut queue = s.queue;
+    let mut capacity = r.capacity;
+    let mut cells = s.held;
+    let mut ramps = s.queue;
     let mut cumulative = s.cumulative;
-    let mut l = Ledger {
-        done: s.done,
-        gate_time: s.gate_time,
-        road_time: s.road_time,
-        ramp_time: s.ramp_time,
-        gate_queue: s.gate_queue,
-        gate_cumulative: s.gate_cumulative,
-    };
+    let mut l = Ledger::of(s);
     let mut row = [0u32; 129];
     let mut room = [0u32; 64];
     let mut k = 0;
-    let mut from = 0;
     while k < steps {
         if table.len() != 0 {
-            let left = lanes::step_capacities(capacity, table, n, k);
-            road.capacity = left;
+            capacity = lanes::step_capacities(r.capacity, table, n, k);
         }
         fields::read_row(bytes, n, k, &mut row);
-        let end = from + places;
-        let outflows = &schedule[from..end];
-        let q = verdict::lent::verdict(
-            road.n,
-            road.gate_capacity,
-            &road.speed,
-            &road.wave,
-            &road.share,
-            &road.jam,
-            &road.capacity,
-            l.gate_queue,
-            l.gate_cumulative,
-            &held,
-            &queue,
-            &cumulative,
-            &row[..numbers],
-            &mut room,
-            outflows,
-        );
-        let refusal = q.refusal;
-        if refusal.number() != 0 {
-            return Ended::at_step(refusal, k, q.place, r, l.state(held, queue, cumulative));
-        }
-        l = moves::lent::advance(
-            road.n,
-            &road.share,
+        let from = k * (n + 1);
+        let end = from + (n + 1);
+        let j = judge_step(
+            n,
+            r.gate_capacity,
+            &r.speed,
+            &r.wave,
+            &r.share,
+            &r.jam,
+            &capacity,
             l,
-            &mut held,
-            &mut queue,
+            &mut cells,
+            &mut ramps,
             &mut cumulative,
             &row[..numbers],
-            outflows,
+            &mut room,
+            &schedule[from..end],
         );
-        from = end;
+        l = j.ledger;
+        let refusal = j.refusal;
+        if refusal.number() != 0 {
+            return Ended::at_step(refusal, k, j.place, r, l.state(cells, ramps, cumulative));
+        }
+        put_places(writes, from, l.gate_queue, &cells, n, held);
+        put_places(writes, from, 0, &ramps, n, queue);
         k += 1;
     }
-    Ended::complete(r, l.state(held, queue, cumulative))
+    Ended::complete(r, l.state(cells, ramps, cumulative))
 }
 
 // Judges a proposed schedule under a table of lanes: the refusals of reading, 17, 18, 12, then 9 or 10 and 13 or 14 step by step.
@@ -103,5 +186,60 @@ pub fn judge(bytes: &[u8], table: &[u8], schedule: &[u32]) -> Ended
     if schedule.len() != steps * (road.n + 1) {
         return Ended::without_state(Refusal::ScheduleLength, 0);
     }
-    judge_rows(bytes, table, road, state, steps, schedule)
+    let mut held = [0u32; 0];
+    let mut queue = [0u32; 0];
+    judge_rows(
+        bytes,
+        table,
+        road,
+        state,
+        steps,
+        schedule,
+        false,
+        &mut held,
+        &mut queue,
+    )
+}
+
+// Judges a schedule under a table of lanes and writes its states: the refusals of reading, 17, 18, 12, 11, then as judging.
+pub fn history(
+    bytes: &[u8],
+    table: &[u8],
+    schedule: &[u32],
+    held: &mut [u32],
+    queue: &mut [u32],
+) -> Ended
+    ensures answer { λ e. ⌜ endAnswer e ≡ historyOf (now (bytes .entry)) (now (table .entry)) (now (schedule .entry)) (now (held .entry)) (now (queue .entry)) ⌝ }
+    ensures held { λ e. ⌜ now (held .exit) ≡ heldAfter (now (bytes .entry)) (now (table .entry)) (now (schedule .entry)) (now (held .entry)) (now (queue .entry)) ⌝ }
+    ensures queue { λ e. ⌜ now (queue .exit) ≡ queueAfter (now (bytes .entry)) (now (table .entry)) (now (schedule .entry)) (now (held .entry)) (now (queue .entry)) ⌝ }
+{
+    let a = opening::opened(bytes, table);
+    let refusal = a.refusal;
+    if refusal.number() != 0 {
+        return Ended::without_state(refusal, a.place);
+    }
+    let road = a.road;
+    let state = a.state;
+    let steps = a.steps;
+    let size = steps * (road.n + 1);
+    if schedule.len() != size {
+        return Ended::without_state(Refusal::ScheduleLength, 0);
+    }
+    if held.len() < size {
+        return Ended::without_state(Refusal::ListLength, 0);
+    }
+    if queue.len() < size {
+        return Ended::without_state(Refusal::ListLength, 0);
+    }
+    judge_rows(
+        bytes,
+        table,
+        road,
+        state,
+        steps,
+        schedule,
+        true,
+        held,
+        queue,
+    )
 }

@@ -7,6 +7,7 @@ ghost use Prim.Native.Nat.{_*_, _%_, _≤_};
 ghost use lib.ListN.{length};
 ghost use Rattle.road.specs.Road.{mostRate};
 ghost use Rattle.load.specs.Load.{numbers, nextOf, arrivalOf, numberAfter, arrivalsOf, loadAnswer, loadingOf, loadedList};
+ghost use Rattle.load.specs.Theorems.{Ends};
 
 // How many numbers have 32 bits.
 const NUMBERS: u64 = 4294967296;
@@ -57,10 +58,11 @@ fn fill(seed: u32, peak: u32, list: &mut [u32]) -> u32
     number
 }
 
-// Fills a list with the arrivals of a seed and a peak; 25 leaves it as it was lent.
+// Fills a list with the arrivals of a seed and a peak; 25 leaves it unchanged.
 pub fn load(seed: u32, peak: u32, list: &mut [u32]) -> Loaded
     ensures answer { λ r. ⌜ loadAnswer r ≡ loadingOf seed peak (length (now (list .entry))) ⌝ }
     ensures list { λ r. ⌜ now (list .exit) ≡ loadedList seed peak (now (list .entry)) ⌝ }
+    ensures ends { λ r. ⌜ Ends seed peak (now (list .entry)) (loadAnswer r) (now (list .exit)) ⌝ }
 {
     if Road::RATE < peak {
         return Loaded {

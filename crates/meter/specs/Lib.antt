@@ -1,3 +1,4 @@
 pub mod Meter
 pub mod Wishes
 pub mod MeterLaws
+pub mod LawColumns

@@ -4,13 +4,13 @@ use mathlib.Core.Bool.{Bool, true, false, not, cond, _&&_, _||_, true≢false}
 use mathlib.Core.List.{List, [], _∷_}
 use mathlib.Core.Logic.{⊎-elim}
 use Prim.Native.Nat.{ℕ, zero, suc, _+_, _-_, _*_, _^_, _≤_, _<_, min}
-use native.Mathlib.Nat.{le-refl, le-div-iff-mul-le, mul-pos, sub-self, zero-mul, le-of-suc-le-suc}
+use native.Mathlib.Nat.{le-refl, le-div-iff-mul-le, div-lt-iff-lt-mul, mul-pos, sub-self, zero-mul, le-of-suc-le-suc}
 use native.Mathlib.Omega.{arith}
 use borrow.Author.Tests.{leb-true, leb-false, ltb-true, le-leb, le-ltb, eqb-true, eqb-false, eq-eqb, ne-eqb}
-use lib.Dec.{T, leb, ltb, eqb, le→leb, leb→le, lit<}
+use lib.Dec.{T, leb, ltb, eqb, le→leb, leb→le, lt→ltb, lit<}
 use lib.IntN.{pos, negsuc}
 use lib.ListN.{getD, length, List·getD-eq-default}
-use lib.Ieee.{Float, nan, inf, fin, binary64, up, down, round, sub, eq, lt, le, ofInt, ofBits}
+use lib.Ieee.{Float, nan, inf, fin, binary64, up, down, round, sub, eq, lt, le, ofInt, ofBits, toUnsigned}
 use lib.Ieee.Fits.{down-pos}
 use lib.Ieee.Exact.{HasValue}
 use lib.Ieee.Back.{round-whole}
@@ -142,6 +142,71 @@ whole-greatest x cap k some within short h = leb-true k (wholeBelow x cap) (sym 
 
 pub whole-under : (x : Float) (cap k : ℕ) → 0 < k → k ≤ cap → cap < 2 ^ 32 → le (count k) x ≡ false → wholeBelow x cap < k
 whole-under x cap k some within short h = leb-false k (wholeBelow x cap) (sym (whole-agrees x cap k some within (omega arith)) ∙ h)
+
+-- the wish without its fraction
+
+-- below 2 ^ 64 the release is the smaller of the cap and the wish without its fraction
+whole-cut : (x : Float) (cap : ℕ) → cap < 2 ^ 32 → wholeBelow x cap ≡ min (toUnsigned 64 x) cap
+unfolding wholeBelow toUnsigned
+whole-cut nan cap h = omega arith
+whole-cut (inf true) cap h = omega arith
+whole-cut (inf false) cap h = omega arith
+whole-cut (fin true m e) cap h = omega arith
+whole-cut (fin false m e) cap h = omega arith
+
+-- a wish that the cap is not above takes the cap
+pub whole-all : (x : Float) (cap : ℕ) → cap < 2 ^ 32 → le (count cap) x ≡ true → cap ≡ wholeBelow x cap
+whole-all x zero h t = omega (arith, whole-most x 0)
+whole-all x (suc k) h t = omega (arith, whole-most x (suc k), whole-greatest x (suc k) (suc k) (omega arith) (omega arith) h t)
+
+zero-value : HasValue (ofBits binary64 0) false 0 1
+unfolding ofBits
+zero-value = (refl, refl)
+
+-- a wish that 0 is not at most gives 0
+pub whole-none : (x : Float) (cap : ℕ) → le (ofBits binary64 0) x ≡ false → 0 ≡ wholeBelow x cap
+unfolding wholeBelow
+whole-none nan cap h = refl
+whole-none (inf true) cap h = refl
+whole-none (inf false) cap h = absurd (subst T h (below-infinity (ofBits binary64 0) 0 zero-value))
+whole-none (fin true m e) cap h = refl
+whole-none (fin false m e) cap h =
+    absurd (subst T h (le-of-values (ofBits binary64 0) (fin false m e) 0 1 (m * up e) (down e) (lit< tt) (down-pos e) zero-value (refl, refl) (omega arith)))
+
+-- between 0 and the cap it is the wish without its fraction
+pub whole-between : (x : Float) (cap : ℕ) → cap < 2 ^ 32 → le (count cap) x ≡ false → le (ofBits binary64 0) x ≡ true → toUnsigned 64 x ≡ wholeBelow x cap
+unfolding ofBits le ofInt
+whole-between x zero h t u = absurd (true≢false (sym u ∙ t))
+whole-between x (suc k) h t u =
+    omega (arith, whole-cut x (suc k) h, whole-under x (suc k) (suc k) (omega arith) (omega arith) h t)
+
+first-true : (s t : Bool) → s && t ≡ true → s ≡ true
+first-true true t h = refl
+first-true false t h = h
+
+-- such a wish is above −1
+pub above-minus-one : (x : Float) → le (ofBits binary64 0) x ≡ true → T (lt (fin true 1 (pos 0)) x)
+unfolding lt le eq ofBits
+above-minus-one nan h = absurd (true≢false (sym h))
+above-minus-one (inf true) h = absurd (true≢false (sym h))
+above-minus-one (inf false) h = tt
+above-minus-one (fin true m e) h =
+    let zero-wish = eqb-true (0 * down e) (m * up e * 1) (first-true _ _ h) in
+    lt→ltb (m * up e * 1) (1 * down e) (omega (arith, zero-wish, down-pos e, zero-mul (down e)))
+above-minus-one (fin false m e) h = lt→ltb 0 (1 * down e + m * up e * 1) (omega (arith, down-pos e))
+
+-- and below 2 ^ 64
+pub below-cast : (x : Float) (cap : ℕ) → cap < 2 ^ 32 → le (count cap) x ≡ false → le (ofBits binary64 0) x ≡ true → T (lt x (fin false 1 (pos 64)))
+unfolding lt le eq ofBits ofInt wholeBelow
+below-cast nan cap h t u = absurd (true≢false (sym u))
+below-cast (inf true) cap h t u = tt
+below-cast (inf false) cap h t u = absurd (subst T t (below-infinity (count cap) cap (count-value cap h)))
+below-cast (fin true m e) cap h t u = lt→ltb 0 (m * up e * 1 + 18446744073709551616 * down e) (omega (arith, down-pos e))
+below-cast (fin false m e) zero h t u = absurd (true≢false (sym u ∙ t))
+below-cast (fin false m e) (suc k) h t u =
+    let low = whole-under (fin false m e) (suc k) (suc k) (omega arith) (omega arith) h t in
+    let cut = div-lt-iff-lt-mul {k = down e} {x = m * up e} {y = 2 ^ 64} (down-pos e) .0 (omega (arith, low)) in
+    lt→ltb (m * up e * 1) (18446744073709551616 * down e) (omega (arith, cut))
 
 -- finite numbers
 

@@ -1,8 +1,11 @@
 // Meter laws: what a ramp's law wishes for, and the release that a wish gives.
 use road::Road;
 ghost use mathlib.Core.Path.{_≡_};
+ghost use Prim.Native.Nat.{_<_};
 ghost use lib.Ieee.Scale.{finite};
+ghost use Rattle.road.specs.Road.{mostCells};
 ghost use Rattle.meter.specs.Meter.{alineaOf, demandCapacityOf, wishOf, wholeBelow, lawFinite, lawFaultOf};
+ghost use Rattle.meter.specs.LawColumns.{lawBy, lawIn, InColumns};
 
 // The ALINEA feedback: a gain, and the count that the cell is to hold.
 pub struct Alinea {
@@ -57,21 +60,17 @@ pub fn wish(law: Law, last: u32, entered: u32, held: u32) -> f64
     }
 }
 
-// The release of a wish: the greatest whole number up to the cap that is not above it, narrowed down by halves.
+// The release of a wish: the greatest whole number up to the cap that is not above it, the wish without its fraction below the cap.
 pub fn release(wish: f64, cap: u32) -> u32
     ensures { λ r. ⌜ r ≡ wholeBelow wish cap ⌝ }
 {
-    let mut low: u32 = 0;
-    let mut high = cap;
-    while low < high {
-        let middle = high - (high - low) / 2;
-        if (middle as f64) <= wish {
-            low = middle;
-        } else {
-            high = middle - 1;
-        }
+    if (cap as f64) <= wish {
+        return cap;
     }
-    low
+    if 0.0 <= wish {
+        return std::num::truncating_f64_to_u64(wish) as u32;
+    }
+    0
 }
 
 // Whether x is neither infinite nor a NaN.
@@ -111,4 +110,98 @@ pub fn law_fault(laws: [Law; 64], ramp: [u16; 64], n: usize) -> usize
         i += 1;
     }
     0
+}
+
+// A law's kind and numbers: kind 1 is ALINEA, 2 demand-capacity, every other a fixed rate.
+struct LawParts {
+    kind: u8,
+    first: f64,
+    second: f64,
+    third: f64,
+}
+
+fn parts(law: Law) -> LawParts
+    ensures { λ p. ⌜ lawBy (p .kind) (p .first) (p .second) (p .third) ≡ law ⌝ }
+{
+    match law {
+        Law::Fixed(rate) => LawParts {
+            kind: 0,
+            first: rate,
+            second: 0.0,
+            third: 0.0,
+        },
+        Law::Alinea(p) => LawParts {
+            kind: 1,
+            first: p.gain,
+            second: p.target,
+            third: 0.0,
+        },
+        Law::DemandCapacity(p) => LawParts {
+            kind: 2,
+            first: p.capacity,
+            second: p.critical,
+            third: p.least,
+        },
+    }
+}
+
+// The law of a kind and its numbers.
+fn law_of(kind: u8, first: f64, second: f64, third: f64) -> Law
+    ensures { λ r. ⌜ r ≡ lawBy kind first second third ⌝ }
+{
+    if kind == 1 {
+        return Law::Alinea(Alinea {
+            gain: first,
+            target: second,
+        });
+    }
+    if kind == 2 {
+        return Law::DemandCapacity(DemandCapacity {
+            capacity: first,
+            critical: second,
+            least: third,
+        });
+    }
+    Law::Fixed(first)
+}
+
+// Laws in columns, which can be lent: a kind for each cell, and three numbers for each.
+pub struct LawColumns {
+    pub kinds: [u8; 64],
+    pub numbers: [f64; 192],
+}
+
+// The laws of all cells in columns.
+pub fn columns(laws: [Law; 64]) -> LawColumns
+    ensures { λ c. ⌜ InColumns laws (c .kinds) (c .numbers) ⌝ }
+{
+    let mut kinds = [0u8; 64];
+    let mut numbers = [0.0; 192];
+    let mut i = 0;
+    while i < Road::CELLS {
+        let law = laws[i];
+        let p = parts(law);
+        kinds[i] = p.kind;
+        numbers[3 * i] = p.first;
+        numbers[3 * i + 1] = p.second;
+        numbers[3 * i + 2] = p.third;
+        i += 1;
+    }
+    LawColumns {
+        kinds: kinds,
+        numbers: numbers,
+    }
+}
+
+// The law of the cell at `i` of columns.
+pub fn law_in(kinds: &[u8; 64], numbers: &[f64; 192], i: usize) -> Law
+    requires { ⌜ i < mostCells ⌝ }
+    ensures { λ r. ⌜ r ≡ lawIn (now (kinds .entry)) (now (numbers .entry)) i ⌝ }
+{
+    law_of(
+        kinds[i],
+        numbers[3 * i],
+        numbers[3 * i + 1],
+        numbers[3 * i + 2],
+    )
 }

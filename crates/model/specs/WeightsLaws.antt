@@ -1,6 +1,6 @@
 -- Laws of weights: what they give where all weigh 1, or one kind of place alone, and how a weighted total grows. Assumes nothing.
 use mathlib.Core.Path.{_≡_, ap}
-use Prim.Native.Nat.{ℕ, zero, suc, _+_, _*_, min, _<_}
+use Prim.Native.Nat.{ℕ, zero, suc, _+_, _*_, min, _≤_, _<_}
 use native.Mathlib.Omega.{arith}
 use Rattle.numbers.specs.Lists.{at}
 use Rattle.rows.specs.RowsLaws.{sum-list-none, sum-list-more, sum-list-same, sum-list-take, sum-list-min}
@@ -74,3 +74,20 @@ module _ (w u : ℕ → ℕ) (n : ℕ) where
   pub weighted-total-more : (f : ℕ → State) (k : ℕ) → weightedTotal w u n f (suc k) ≡ weightedTotal w u n f k + weightedOf w u n (f (suc k))
   unfolding weightedTotal
   weighted-total-more f k = sum-list-more (λ j. weightedOf w u n (f (suc j))) k
+
+-- weights past cell n are not looked at
+module _ (w v u x : ℕ → ℕ) (n : ℕ) (places : (p : ℕ) → p ≤ n → w p ≡ v p) (ramps : (i : ℕ) → i < n → u i ≡ x i) where
+  pub weights-unread : (s : State) → weightedOf w u n s ≡ weightedOf v x n s
+  unfolding weightedOf
+  weights-unread s =
+      omega (
+        arith,
+        ap (λ (k : ℕ). k * s .«gate_queue») (places 0 (omega arith)),
+        sum-list-same (λ i. w (suc i) * at (s .held) i) (λ i. v (suc i) * at (s .held) i) n (λ i l. ap (λ (k : ℕ). k * at (s .held) i) (places (suc i) l)),
+        sum-list-same (λ i. u i * at (s .queue) i) (λ i. x i * at (s .queue) i) n (λ i l. ap (λ (k : ℕ). k * at (s .queue) i) (ramps i l)),
+      )
+
+  pub total-unread : (f : ℕ → State) (k : ℕ) → weightedTotal w u n f k ≡ weightedTotal v x n f k
+  unfolding weightedTotal
+  total-unread f k =
+      sum-list-same (λ j. weightedOf w u n (f (suc j))) (λ j. weightedOf v x n (f (suc j))) k (λ j l. weights-unread (f (suc j)))

@@ -3,10 +3,11 @@ use mathlib.Core.Path.{_≡_, ap, _∙_}
 use mathlib.Core.List.{List}
 use Prim.Native.Nat.{ℕ, _+_, _-_, _≤_, _<_}
 use native.Mathlib.Nat.{le-refl}
-use lib.ListN.{set, take}
+use lib.ListN.{length, set, take}
 use Rattle.flow.specs.Flow.{enteringOf}
 use Rattle.rows.specs.Sum.{sumOf}
-use Rattle.rows.specs.RowsLaws.{fill-past}
+use Rattle.rows.specs.SumLaws.{Summed}
+use Rattle.rows.specs.RowsLaws.{fill-past, length-fill}
 use Rattle.road.specs.declared.Road.{Road}
 use Rattle.road.specs.declared.State.{State}
 use Rattle.numbers.specs.Lists.{at}
@@ -16,7 +17,7 @@ use Rattle.model.specs.Move.{heldOf, queueOf, cumulativeOf, movedTo, movedOf, c
 use Rattle.model.specs.MoveLaws.{counted-is, counted-present}
 use Rattle.model.specs.Kept.{present-bound}
 use native.Mathlib.Omega.{arith}
-use Rattle.model.specs.Rules.{outflowsOf}
+use Rattle.model.specs.Rules.{outflowsOf, Sized}
 use Rattle.moves.specs.Asked.{Movable, Countable, Moved, moved-cell, moved-end}
 use Rattle.columns.specs.declared.Ledger.{Ledger}
 use Rattle.columns.specs.Columns.{sharing, stateOf}
@@ -45,6 +46,14 @@ module _ {r : Road} {s : State} {row y : List ℕ} {t : State} {entering i : ℕ
   unfolding movedTo
   cumulative-there = ap (λ (x : State). at (x .cumulative) i) (h .moved) ∙ fill-past (cumulativeOf s y) i (s .cumulative) i (le-refl i)
 
+  -- its columns have an entry for it
+  pub long-there : Sized r s → i < r .n → (i < length (t .held)) × (i < length (t .queue))
+  unfolding movedTo
+  long-there z l =
+      let eh = ap (λ (x : State). length (x .held)) (h .moved) ∙ length-fill (heldOf r s row y) i (s .held) in
+      let eq = ap (λ (x : State). length (x .queue)) (h .moved) ∙ length-fill (queueOf s row) i (s .queue) in
+      (omega (arith, eh, z .held), omega (arith, eq, z .queue))
+
   -- so it is moved in place
   pub moved-there : {next : ℕ} → i < r .n → next ≡ enteringOf (at (r .share) i) (at (t .cumulative) i) (at y (i + 1))
       → Moved r s row y (record {
@@ -63,8 +72,7 @@ module _ {r : Road} {s : State} {row y : List ℕ} {t : State} {entering i : ℕ
       rw (held-there, queue-there, cumulative-there) (moved-cell h l g)
 
   -- and when all are moved the step is counted
-  pub counted-there : {gate road ramp : ℕ} → r .n ≤ i → gate ≡ t .«gate_queue» → road ≡ sumOf (take (r .n) (t .held))
-      → ramp ≡ sumOf (take (r .n) (t .queue))
+  pub counted-there : {gate road ramp : ℕ} → r .n ≤ i → gate ≡ t .«gate_queue» → Summed (t .held) road i → Summed (t .queue) ramp i
       → record {
         done = t .done + 1;
         «gate_time» = t .«gate_time» + gate;
@@ -76,7 +84,10 @@ module _ {r : Road} {s : State} {row y : List ℕ} {t : State} {entering i : ℕ
         queue = t .queue;
         cumulative = t .cumulative;
       } ≡ nextOf r s row y
-  counted-there l eg er eq = counted-is r t eg er eq ∙ ap (countedOf r) (moved-end h l)
+  counted-there l eg er eq =
+      let e : i ≡ r .n = omega (arith, h .within) in
+      counted-is r t eg (er .is ∙ ap (λ (k : ℕ). sumOf (take k (t .held))) e) (eq .is ∙ ap (λ (k : ℕ). sumOf (take k (t .queue))) e)
+      ∙ ap (countedOf r) (moved-end h l)
 
 -- counting after a move asks nothing more
 pub countable : {r : Road} {s : State} {row y : List ℕ} {t : State} → Movable r s row y → s .done < mostSteps → t ≡ movedOf r s row y → Countable r t

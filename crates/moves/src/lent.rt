@@ -2,10 +2,6 @@
 use columns::Ledger;
 use road::Road;
 ghost use mathlib.Core.Path.{_≡_};
-ghost use Prim.Native.Nat.{_*_, _≤_};
-ghost use lib.ListN.{length, take};
-ghost use Rattle.rows.specs.Sum.{sumOf};
-ghost use Rattle.road.specs.Road.{mostCells};
 ghost use Rattle.road.specs.declared.Road.{Road};
 ghost use Rattle.model.specs.Move.{nextOf};
 ghost use Rattle.columns.specs.Columns.{sharing, stateOf};
@@ -17,15 +13,8 @@ fn wide(x: u32) -> u64
     x as u64
 }
 
-// The sum of the first n counts.
-fn first_sum(counts: &[u32], n: usize) -> u64
-    requires { ⌜ (n ≤ mostCells) × (n ≤ length (now counts)) ⌝ }
-    ensures { λ x. ⌜ (x ≡ sumOf (take n (now (counts .entry)))) × (x ≤ 4294967295 * n) ⌝ }
-{
-    rows::sum(&counts[..n])
-}
-
-// Moves every place by a row of outflows that obeys the rules, and counts the step.
+// Moves every place by a row of outflows that obeys the rules, and counts the step: what each cell then holds and what waits at each ramp is
+// added as it is moved.
 pub fn advance(
     n: usize,
     share: &[u16; 64],
@@ -44,19 +33,23 @@ pub fn advance(
     let first = y[0];
     let waiting = l.gate_queue + row[0] - first;
     let mut entering = flow::entering(Road::WHOLE, l.gate_cumulative, first);
+    let mut on_road: u64 = 0;
+    let mut at_ramps: u64 = 0;
     let mut i = 0;
     while i < n {
         let release = row[2 * i + 2];
         let outflow = y[i + 1];
         let before = cumulative[i];
-        held[i] = held[i] + (entering as u32) + release - outflow;
-        queue[i] = queue[i] + row[2 * i + 1] - release;
+        let holds = held[i] + (entering as u32) + release - outflow;
+        let waits = queue[i] + row[2 * i + 1] - release;
+        held[i] = holds;
+        queue[i] = waits;
         cumulative[i] = before + outflow;
+        on_road += wide(holds);
+        at_ramps += wide(waits);
         entering = flow::entering(share[i], before, outflow);
         i += 1;
     }
-    let on_road = first_sum(held, n);
-    let at_ramps = first_sum(queue, n);
     Ledger {
         done: l.done + 1,
         gate_time: l.gate_time + wide(waiting),

@@ -1,15 +1,17 @@
 -- Laws of a number's bytes placed into a list: it is read there, and all that lies apart from it is as it was. Assumes nothing.
-use mathlib.Core.Path.{_≡_, refl, ap, _∙_}
+use mathlib.Core.Path.{_≡_, refl, sym, ap, _∙_}
 use mathlib.Core.Logic.{_⊎_, ⊎-elim, inl, inr}
 use mathlib.Core.List.{List, _++_, append-assoc}
 use Prim.Native.Nat.{ℕ, zero, suc, _+_, _-_, _^_, _≤_, _<_}
+use native.Mathlib.Nat.{not-suc-le-zero, eq-or-lt-of-le, le-of-suc-le-suc}
 use native.Mathlib.Omega.{arith}
 use lib.ListN.{length, take, drop}
-use lib.Seq.{getD-take, getD-drop, length-take-le}
+use lib.Seq.{getD-take, getD-drop, length-take-le, ext-getD}
 use Rattle.numbers.specs.Lists.{at}
+use Rattle.numbers.specs.Tests.{order}
 use Rattle.rows.specs.Concat.{at-first, at-second}
-use Rattle.rows.specs.Placed.{placed, placed-there}
-use Rattle.fields.specs.Fields.{numberOf, bytesOf}
+use Rattle.rows.specs.Placed.{placed, placed-there, length-placed}
+use Rattle.fields.specs.Fields.{numberSize, numberOf, bytesOf}
 use Rattle.fields.specs.BytesLaws.{length-bytes, number-same, field-number}
 
 -- k lies outside the w places from i
@@ -81,3 +83,35 @@ module _ (s : List ℕ) (i w x : ℕ) (room : i + w ≤ length s) where
   -- any number apart from it is as it was
   pub number-apart : (j v : ℕ) → Apart j v i w → numberOf (placed s i (bytesOf w x)) j v ≡ numberOf s j v
   number-apart j v a = number-same (placed s i (bytesOf w x)) s j j v (λ k l. byte-other (j + k) (apart-outside j v i w k a l))
+
+-- the bytes of a number that is 0 are 0
+zero-bytes : (s : List ℕ) (i w : ℕ) → numberOf s i w ≡ 0 → (k : ℕ) → k < w → at s (i + k) ≡ 0
+unfolding numberOf
+zero-bytes s i zero e k l = absurd (not-suc-le-zero l)
+zero-bytes s i (suc w) e k l = ⊎-elim
+    (λ (q : k ≡ w). rw q (omega arith))
+    (λ (m : k < w). zero-bytes s i w (omega arith) k m)
+    (eq-or-lt-of-le (le-of-suc-le-suc l))
+
+-- so 0 placed where 0 is changes nothing
+module _ (s : List ℕ) (i : ℕ) (room : i + numberSize ≤ length s) (z : numberOf s i numberSize ≡ 0) where
+  abbrev zeroed : List ℕ
+  zeroed = placed s i (bytesOf numberSize 0)
+
+  same-byte : (k : ℕ) → at zeroed k ≡ at s k
+  same-byte k = ⊎-elim
+      (λ (h : i ≤ k).
+      ⊎-elim
+      (λ (m : i + numberSize ≤ k). byte-other s i numberSize 0 room k (inr m))
+      (λ (m : k < i + numberSize).
+      let e : k ≡ i + (k - i) = omega arith in
+      let l : k - i < numberSize = omega arith in
+      ap (at zeroed) e
+      ∙ zero-bytes zeroed i numberSize (number-placed s i numberSize 0 room (omega arith)) (k - i) l
+      ∙ sym (ap (at s) e ∙ zero-bytes s i numberSize z (k - i) l))
+      (order (i + numberSize) k))
+      (λ (h : k < i). byte-other s i numberSize 0 room k (inl h))
+      (order i k)
+
+  pub zero-placed : placed s i (bytesOf numberSize 0) ≡ s
+  zero-placed = ext-getD 0 zeroed s (length-placed s i (bytesOf numberSize 0)) (λ k _. same-byte k)

@@ -1,5 +1,4 @@
 pub mod Releases
 pub mod Bytes
 pub mod ReleasesLaws
-pub mod PatchingLoop
 pub mod Same

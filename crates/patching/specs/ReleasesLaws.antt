@@ -1,9 +1,9 @@
 -- Laws of releases put into a record: what is put stands there, and nothing else changes. Assumes nothing.
 use mathlib.Core.Path.{_≡_, refl, sym, ap, _∙_}
 use mathlib.Core.Logic.{_⊎_, ⊎-elim, inl, inr}
-use mathlib.Core.List.{List}
-use Prim.Native.Nat.{ℕ, zero, suc, _+_, _*_, _^_, _≤_, _<_}
-use native.Mathlib.Nat.{mul-le-mul-right, not-suc-le-zero, eq-or-lt-of-le, le-of-suc-le-suc, le-refl}
+use mathlib.Core.List.{List, [], _∷_}
+use Prim.Native.Nat.{ℕ, zero, suc, _+_, _-_, _*_, _^_, _≤_, _<_}
+use native.Mathlib.Nat.{add-zero, add-suc, mul-le-mul-right, not-suc-le-zero, eq-or-lt-of-le, le-of-suc-le-suc, le-refl}
 use native.Mathlib.Omega.{arith}
 use lib.ListN.{length, set, length-set}
 use lib.Seq.{getD-set-same, getD-set-other, ext-getD}
@@ -12,7 +12,12 @@ use Rattle.rows.specs.Placed.{length-placed}
 use Rattle.fields.specs.Fields.{numberSize, versionOffset, versionOf, rowSize, rowStart, bytesOf, entryStart, entryOf, recordRow, HoldsRow}
 use Rattle.fields.specs.FieldsLaws.{length-row, row-at, row-within}
 use Rattle.patching.specs.Releases.{putEntry, releaseNumber, putReleases, putTable, releasedRow}
-use Rattle.patching.specs.Bytes.{Outside, Apart, compare, byte-other, number-placed, number-apart}
+use Rattle.patching.specs.Bytes.{Outside, Apart, compare, byte-other, number-placed, number-apart, zero-placed}
+
+-- in a row of two cells, 8 and 9 are put after the arrivals of each
+on-paper : releasedRow (λ i. 8 + i) 2 (1 ∷ 2 ∷ 3 ∷ 4 ∷ 5 ∷ []) ≡ 1 ∷ 2 ∷ 8 ∷ 4 ∷ 9 ∷ []
+unfolding releasedRow
+on-paper = refl
 
 -- the rows do not overlap, and neither do the numbers of a row
 entries-apart : (version n t k q j : ℕ) → k < 1 + 2 * n → j < 1 + 2 * n → (q ≡ t → j ≡ k → ⊥)
@@ -140,6 +145,36 @@ put-releases s n t f (suc c) h l m =
     let p = put-releases s n t f c (omega arith) l (λ i a. m i (omega arith)) in
     let held : HoldsRow (putReleases s n t f c) n t = record { cells = l .cells; row = rw (p .version) (omega (arith, p .size, l .row)) } in
     put-more c p (put-entry (putReleases s n t f c) n t (releaseNumber c) (f c) (omega arith) held (m c (omega arith)))
+
+-- releases of 0 put where 0 is change nothing
+module _ (s : List ℕ) (n t : ℕ) (f : ℕ → ℕ) (held : HoldsRow s n t) (small : (i : ℕ) → f i < 2 ^ 32) where
+  -- the cell at i has a release of 0, and gets none
+  abbrev pub NoRelease : ℕ → Type 0
+  NoRelease i = (f i ≡ 0) × (at (recordRow s n t) (releaseNumber i) ≡ 0)
+
+  put-one : (c : ℕ) → c < n → NoRelease c → putReleases s n t f (suc c) ≡ putReleases s n t f c
+  unfolding putReleases
+  put-one c l (e, z) =
+      let u = putReleases s n t f c in
+      let p = put-releases s n t f c (omega arith) held (λ i _. small i) in
+      let there : entryOf u n t (releaseNumber c) ≡ 0 =
+      sym (row-at u n t (releaseNumber c) (omega arith))
+      ∙ ap (λ (row : List ℕ). at row (releaseNumber c)) (p .row)
+      ∙ released-other f c (recordRow s n t) (releaseNumber c) (λ i m q. omega arith)
+      ∙ z in
+      ap (putEntry u n t (releaseNumber c)) e ∙ zero-placed u (entryStart (versionOf u) n t (releaseNumber c)) (rw (p .version) (omega (arith, p .size, held .row))) there
+
+  put-skip : (a d : ℕ) → a + d ≤ n → ((i : ℕ) → a ≤ i → i < a + d → NoRelease i) → putReleases s n t f (a + d) ≡ putReleases s n t f a
+  put-skip a zero l z = ap (putReleases s n t f) (add-zero a)
+  put-skip a (suc d) l z =
+      ap (putReleases s n t f) (add-suc a d)
+      ∙ put-one (a + d) (omega arith) (z (a + d) (omega arith) (omega arith))
+      ∙ put-skip a d (omega arith) (λ i x y. z i x (omega arith))
+
+  pub put-to : (a b : ℕ) → a ≤ b → b ≤ n → ((i : ℕ) → a ≤ i → i < b → NoRelease i) → putReleases s n t f b ≡ putReleases s n t f a
+  put-to a b h l z =
+      let e : a + (b - a) ≡ b = omega arith in
+      ap (putReleases s n t f) (sym e) ∙ put-skip a (b - a) (omega arith) (λ i x y. z i x (omega arith))
 
 -- only the releases of those cells matter
 pub put-same : (s : List ℕ) (n t : ℕ) (f g : ℕ → ℕ) (c : ℕ) → ((i : ℕ) → i < c → f i ≡ g i) → putReleases s n t f c ≡ putReleases s n t g c

@@ -1,3 +1,3 @@
 pub mod Printed
-pub mod Lined
+pub mod Lines
 pub mod PrintedLaws

@@ -1,19 +1,20 @@
 // What is printed of a record: its run whole, or a refusal's line, put at the start of a buffer.
 use columns::Ledger;
+use road::Fault;
 use road::Road;
 use road::State;
 ghost use mathlib.Core.List.{[]};
 ghost use Prim.Native.Nat.{_+_, _*_, _≤_};
 ghost use lib.ListN.{length};
 ghost use Rattle.road.specs.declared.Road.{Road};
-ghost use Rattle.columns.specs.Columns.{sending, stateOf};
-ghost use Rattle.outflows.specs.Rooms.{Rooms};
-ghost use Rattle.stepping.specs.Nexts.{Nexts};
+ghost use Rattle.road.specs.Refusals.{faultAnswer};
+ghost use Rattle.columns.specs.Columns.{roadOf, stateOf};
+ghost use Rattle.passes.specs.Step.{Asks, StepAsks};
 ghost use Rattle.reading.specs.Reading.{studyBy};
-ghost use Rattle.rows.specs.Placed.{Puts, Holds};
+ghost use Rattle.rows.specs.Placed.{Puts};
 ghost use Rattle.listing.specs.Listing.{mostLine};
 ghost use Rattle.printing.specs.Printed.{lastOf, printedRun, printedWithin};
-ghost use Rattle.printing.specs.Lined.{mostText, Printable, Ending, PutStep};
+ghost use Rattle.printing.specs.Lines.{mostText, Printable, Printed, Ending, PutStep};
 
 // The bytes of a text: no record that reads needs more.
 pub const TEXT: usize = 924161;
@@ -23,54 +24,87 @@ pub fn room() -> [u8; TEXT] {
     [0; TEXT]
 }
 
-// A step that was made and put: the ledger after it, and the index after its lines.
+// A step that was made and put: its fault, or none, the ledger after it and the index after its lines.
 struct Put {
+    fault: Fault,
     ledger: Ledger,
     end: usize,
 }
 
-// Makes a step on lent columns and puts its lines; `y` is room for its row of outflows.
+// Makes step `k` on lent columns and puts its lines; `y` is room for its row of outflows. A fault puts nothing.
 fn step_lines<'a>(
+    bytes: &[u8],
+    k: usize,
     n: usize,
     gate_capacity: u32,
     speed: &'a [u16; 64],
+    wave: &'a [u16; 64],
     share: &'a [u16; 64],
+    jam: &'a [u32; 64],
     capacity: &'a [u32; 64],
+    ramps: usize,
+    cell: &[usize; 64],
     l: Ledger,
     held: &mut [u32; 64],
     queue: &mut [u32; 64],
     cumulative: &mut [u32; 64],
-    row: &[u32],
-    room: &[u32; 64],
+    rest: &mut [u32; 64],
+    room: &mut [u32; 65],
+    release: &mut [u32; 64],
+    waiting: &mut [u32; 64],
+    demand: &mut [u32; 64],
     y: &mut [u32],
-    k: usize,
     buffer: &mut [u8],
     at: usize,
 ) -> Put
-    requires { ⌜ (Nexts n «gate_capacity» (now speed) (now share) (now capacity) (stateOf l (now held) (now queue) (now cumulative)) (now row) (now room) (now y))
-        × (at + mostLine * (n + 1) ≤ length (now buffer)) ⌝ }
-    ensures { λ p. ⌜ ((r : Road) → Rooms (sending r n «gate_capacity» (now (speed .entry)) (now (share .entry)) (now (capacity .entry)))
-        (stateOf l (now (held .entry)) (now (queue .entry)) (now (cumulative .entry))) (now (row .entry)) (now (room .entry))
-        → PutStep (sending r n «gate_capacity» (now (speed .entry)) (now (share .entry)) (now (capacity .entry)))
-        (stateOf l (now (held .entry)) (now (queue .entry)) (now (cumulative .entry))) (now (row .entry)) k (now (buffer .entry)) at
-        (stateOf (p .ledger) (now (held .exit)) (now (queue .exit)) (now (cumulative .exit))) (now (buffer .exit)) (p .end)) ⌝ }
+    requires { ⌜ (StepAsks (now bytes) k n «gate_capacity» (now speed) (now wave) (now share) (now jam) (now capacity) (stateOf l (now held) (now queue) (now cumulative))
+        ramps (now cell) (now rest) (now room) (now release) (now waiting) (now demand) (now y)) × (at + mostLine * (n + 1) ≤ length (now buffer)) ⌝ }
+    ensures { λ p. ⌜ ((r : Road)
+        → Asks (now (bytes .entry)) k (roadOf r n «gate_capacity» (now (speed .entry)) (now (wave .entry)) (now (share .entry)) (now (jam .entry)) (now (capacity .entry)))
+        (stateOf l (now (held .entry)) (now (queue .entry)) (now (cumulative .entry))) ramps (now (cell .entry))
+        (now (rest .entry)) (now (room .entry)) (now (release .entry)) (now (waiting .entry)) (now (demand .entry)) (now (y .entry))
+        → PutStep (now (bytes .entry)) k
+        (roadOf r n «gate_capacity» (now (speed .entry)) (now (wave .entry)) (now (share .entry)) (now (jam .entry)) (now (capacity .entry)))
+        (stateOf l (now (held .entry)) (now (queue .entry)) (now (cumulative .entry))) ramps (now (cell .entry)) (now (buffer .entry)) at (faultAnswer (p .fault))
+        (stateOf (p .ledger) (now (held .exit)) (now (queue .exit)) (now (cumulative .exit)))
+        (now (rest .exit)) (now (room .exit)) (now (release .exit)) (now (waiting .exit)) (now (demand .exit)) (now (buffer .exit)) (p .end)) ⌝ }
 {
-    let ledger = stepping::lent::next(
+    let made = passes::step(
+        bytes,
+        k,
         n,
         gate_capacity,
         speed,
+        wave,
         share,
+        jam,
         capacity,
+        ramps,
+        cell,
         l,
         held,
         queue,
         cumulative,
-        row,
+        rest,
         room,
+        release,
+        waiting,
+        demand,
         y,
     );
+    let fault = made.fault;
+    let refusal = fault.refusal;
+    let ledger = made.ledger;
+    if refusal.number() != 0 {
+        return Put {
+            fault: fault,
+            ledger: ledger,
+            end: at,
+        };
+    }
     let end = listing::lines(buffer, at, k, n, y, ledger.gate_queue, held, queue);
     Put {
+        fault: fault,
         ledger: ledger,
         end: end,
     }
@@ -101,61 +135,56 @@ fn last_lines(buffer: &mut [u8], at: usize, r: Road, u: State) -> usize
 // The header, the lines of each step as it is made, and the last lines; a fault leaves a refusal's line instead.
 fn run_lines(bytes: &[u8], r: Road, s: State, steps: usize, buffer: &mut [u8]) -> usize
     requires { ⌜ Printable (now bytes) (studyBy (now bytes) [] r s steps) (now buffer) ⌝ }
-    ensures { λ e. ⌜ Holds (now (buffer .entry)) (printedRun (studyBy (now (bytes .entry)) [] r s steps)) (now (buffer .exit)) e ⌝ }
+    ensures { λ e. ⌜ Printed (now (buffer .entry)) (printedRun (studyBy (now (bytes .entry)) [] r s steps)) (now (buffer .exit)) e ⌝ }
 {
     let n = r.n;
-    let numbers = 1 + 2 * n;
     let places = n + 1;
+    let mut cell = [0usize; 64];
+    let ramps = passes::ramp_cells(n, &r.ramp, &mut cell);
     let mut held = s.held;
     let mut queue = s.queue;
     let mut cumulative = s.cumulative;
-    let mut l = Ledger {
-        done: s.done,
-        gate_time: s.gate_time,
-        road_time: s.road_time,
-        ramp_time: s.ramp_time,
-        gate_queue: s.gate_queue,
-        gate_cumulative: s.gate_cumulative,
-    };
-    let mut row = [0u32; 129];
-    let mut room = [0u32; 64];
+    let mut l = Ledger::of(s);
+    let mut rest = [0u32; 64];
+    let mut room = [0u32; 65];
+    let mut release = [0u32; 64];
+    let mut waiting = [0u32; 64];
+    let mut demand = [0u32; 64];
     let mut end = listing::header(buffer, 0);
     let mut k = 0;
     while k < steps {
-        fields::read_row(bytes, n, k, &mut row);
-        let q = releases::lent::releases(
-            n,
-            &r.wave,
-            &r.jam,
-            &r.capacity,
-            &held,
-            &queue,
-            &row[..numbers],
-            &mut room,
-        );
-        let refusal = q.refusal;
-        let number = refusal.number();
-        if number != 0 {
-            return listing::refused(buffer, 0, number, k, q.place);
-        }
         let mut y = [0u32; 65];
         let put = step_lines(
+            bytes,
+            k,
             n,
             r.gate_capacity,
             &r.speed,
+            &r.wave,
             &r.share,
+            &r.jam,
             &r.capacity,
+            ramps,
+            &cell,
             l,
             &mut held,
             &mut queue,
             &mut cumulative,
-            &row[..numbers],
-            &room,
+            &mut rest,
+            &mut room,
+            &mut release,
+            &mut waiting,
+            &mut demand,
             &mut y[..places],
-            k,
             buffer,
             end,
         );
+        let fault = put.fault;
+        let refusal = fault.refusal;
+        let number = refusal.number();
+        if number != 0 {
+            return listing::refused(buffer, 0, number, k, fault.place);
+        }
         l = put.ledger;
         end = put.end;
         k += 1;
@@ -166,7 +195,7 @@ fn run_lines(bytes: &[u8], r: Road, s: State, steps: usize, buffer: &mut [u8]) -
 // Puts all that is printed of a record at the start of the buffer, for a caller that takes at most `cells` cells and `most` bytes, and gives its length.
 pub fn printed_within(bytes: &[u8], cells: usize, most: usize, buffer: &mut [u8]) -> usize
     requires { ⌜ mostText ≤ length (now buffer) ⌝ }
-    ensures { λ e. ⌜ Holds (now (buffer .entry)) (printedWithin cells most (now (bytes .entry))) (now (buffer .exit)) e ⌝ }
+    ensures { λ e. ⌜ Printed (now (buffer .entry)) (printedWithin cells most (now (bytes .entry))) (now (buffer .exit)) e ⌝ }
 {
     let a = reading::read_within(bytes, cells, most);
     let refusal = a.refusal;

@@ -25,7 +25,7 @@ use Rattle.patching.specs.Bytes.{compare}
 use Rattle.patching.specs.ReleasesLaws.{Put, put-entry}
 use Rattle.patching.specs.Same.{rows-replaced}
 use Rattle.put.specs.Put.{rampOk, ratesOk, releasedAt, puttingOf, releasedRecord}
-use Rattle.put.specs.PutLaws.{Ramp, ramp-facts, facts-ramp, rates-facts, facts-rates}
+use Rattle.put.specs.PutLaws.{Ramp, ramp-facts, facts-ramp, rates-facts, facts-rates, Left}
 
 -- what no refusal asks: the record reads, the cell is on the road and has a ramp, the step is one of its T, and the release is a rate
 pub record Asked (bytes : List ℕ) (step cell release : ℕ) : Type 0 where
@@ -134,6 +134,11 @@ module _ (bytes : List ℕ) (step cell release : ℕ) where
       let rates = rates-facts step T release g in
       let asked : Asked bytes step cell release = record { reads = reads; ramp = ramp; before = rates .0; rate = rates .1 } in
       put asked (stands bytes step cell release asked))))
+
+-- an answer and a record that are those of the definitions are one of them; so a contract may promise all three
+pub ended : (bytes : List ℕ) (step cell release : ℕ) {a : FaultAnswer} {left : List ℕ} → Left bytes step cell release a left
+    → (a ≡ puttingOf bytes step cell release) × ((left ≡ releasedRecord bytes step cell release) × Ends bytes step cell release a left)
+ended bytes step cell release h = (h .says, (h .leaves, rw (h .says, h .leaves) (ends bytes step cell release)))
 
 -- 2: with no refusal the release stands there and nothing else is changed
 put-stands : {bytes : List ℕ} {step cell release : ℕ} {a : FaultAnswer} {after : List ℕ} → Ends bytes step cell release a after → a .number ≡ 0

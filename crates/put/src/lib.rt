@@ -7,6 +7,7 @@ ghost use Prim.Native.Nat.{_≤_};
 ghost use Rattle.road.specs.Road.{mostCells};
 ghost use Rattle.road.specs.Refusals.{faultAnswer};
 ghost use Rattle.put.specs.Put.{Place, rampOk, ratesOk, puttingOf, releasedAt, releasedRecord};
+ghost use Rattle.put.specs.Theorems.{Ends};
 
 // Whether a cell is on a road of n cells and has a ramp.
 fn has_ramp(ramp: [u16; 64], n: usize, cell: usize) -> bool
@@ -42,6 +43,7 @@ fn put_release(bytes: &mut [u8], n: usize, step: usize, cell: usize, release: u3
 pub fn put(bytes: &mut [u8], step: usize, cell: usize, release: u32) -> Fault
     ensures answer { λ r. ⌜ faultAnswer r ≡ puttingOf (now (bytes .entry)) step cell release ⌝ }
     ensures bytes { λ r. ⌜ now (bytes .exit) ≡ releasedRecord (now (bytes .entry)) step cell release ⌝ }
+    ensures ends { λ r. ⌜ Ends (now (bytes .entry)) step cell release (faultAnswer r) (now (bytes .exit)) ⌝ }
 {
     let a = reading::read(bytes);
     let refusal = a.refusal;

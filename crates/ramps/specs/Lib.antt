@@ -1,5 +1,3 @@
 pub mod Ramps
 pub mod RampsLaws
-pub mod Granting
-pub mod LentRamps
-pub mod Entries
+pub mod Grants

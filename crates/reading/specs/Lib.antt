@@ -1,5 +1,6 @@
 pub mod Reading
 pub mod Headers
+pub mod Greatest
 pub mod ReadingLaws
 pub mod Found
 pub mod Caller

@@ -9,13 +9,14 @@ use borrow.Author.Tests.{eq-eqb, ne-eqb}
 use Rattle.road.specs.declared.Road.{Road}
 use Rattle.road.specs.declared.State.{State}
 use Rattle.road.specs.Road.{mostCells, mostSteps, mostBytes}
-use Rattle.fields.specs.Fields.{versionOf, secondsOf, numberSize, rowSize, rowStart, numberOf, recordRow, HoldsRow}
-use Rattle.fields.specs.FieldsLaws.{holds-row, row-at}
+use Rattle.fields.specs.Fields.{versionOf, secondsOf, numberSize, rowNumbers, rowSize, rowStart, numberOf, HoldsRow}
+use Rattle.fields.specs.FieldsLaws.{holds-row}
 use Rattle.numbers.specs.Lists.{at}
 use Rattle.numbers.specs.First.{oneOf, firstOf}
 use Rattle.limits.specs.Limits.{placeOk, ratesOk, ratesAt}
 use Rattle.numbers.specs.First.{unlessFirst}
 use Rattle.reading.specs.Headers.{Cells, Steps, Header}
+use Rattle.reading.specs.Greatest.{rowAt, row-number}
 use Rattle.header.specs.Header.{cellsOf, stepsOf, sizeOf, bothVersions, lengthOk, cellsAndStepsOk, secondsOk, callerOk}
 use Rattle.header.specs.HeaderLaws.{Counts, length-facts, counts-facts, caller-passes}
 use Rattle.reading.specs.Reading.{roadOf, startOf, stepOk, ReadAnswer, refusedOf, acceptedOf, readingBy, readingWithin, readingOf}
@@ -148,11 +149,10 @@ module _ {s : List ℕ} {n T : ℕ} {r : Road} {q : State} {p : ℕ} (b : Body s
 pub steps-row : {s : List ℕ} {n T t : ℕ} → Steps s n T → t < T → HoldsRow s n t
 steps-row {s} {n} {T} {t} h l = holds-row s n t T (h .most) (h .held) l
 
--- number k of a row, as the code reads it at its place in the bytes
-pub entry-read : (s : List ℕ) (n t k : ℕ) {start place x : ℕ} → start ≡ rowStart (versionOf s) n t → place ≡ start + numberSize * k
-    → x ≡ numberOf s place numberSize → k < 1 + 2 * n → x ≡ at (recordRow s n t) k
-entry-read s n t k e p ex l =
-    ex ∙ ap (λ (i : ℕ). numberOf s i numberSize) (p ∙ ap (λ (i : ℕ). i + numberSize * k) e) ∙ sym (row-at s n t k l)
+-- number k of a row that starts at a byte, as the code reads it
+pub entry-read : (s : List ℕ) (n start k : ℕ) {place x : ℕ} → place ≡ start + numberSize * k → x ≡ numberOf s place numberSize
+    → k < rowNumbers n → x ≡ at (rowAt s n start) k
+entry-read s n start k p ex l = ex ∙ ap (λ (i : ℕ). numberOf s i numberSize) p ∙ sym (row-number s n start k l)
 
 -- and what it finds of a cell's rates
 pub rates-read : (ramp row : List ℕ) (i : ℕ) {arrivals release : ℕ} {b : Bool} → b ≡ ratesOk (at ramp i) arrivals release

@@ -4,12 +4,20 @@ use road::Refusal;
 use road::Road;
 use road::State;
 ghost use mathlib.Core.Path.{_≡_};
+ghost use mathlib.Core.Bool.{true};
+ghost use Prim.Native.Nat.{ℕ, _+_, _*_, _≤_, _<_};
+ghost use lib.ListN.{length};
 ghost use Rattle.road.specs.Refusals.{refusalNumber};
 ghost use Rattle.numbers.specs.First.{firstOf};
+ghost use Rattle.road.specs.Road.{mostCells};
 ghost use Rattle.limits.specs.Limits.{rowOk};
-ghost use Rattle.fields.specs.Fields.{recordRow, HoldsRow};
+ghost use Rattle.fields.specs.Fields.{rowSize, recordRow, HoldsRow};
 ghost use Rattle.reading.specs.Reading.{roadOf, startOf, stepOk, refusedOf, readAnswer, readingWithin, readingOf};
 ghost use Rattle.reading.specs.Headers.{Cells, Steps, Header};
+ghost use Rattle.reading.specs.Greatest.{rowAt, Raisable, AbovePart, AboveParts};
+
+// The bytes of a row of 64 cells, the longest.
+const ROW_BYTES: usize = 516;
 
 // The road of a record of n cells.
 fn road_of(bytes: &[u8], n: usize) -> Road
@@ -51,12 +59,11 @@ fn start_of(bytes: &[u8], n: usize) -> State
     }
 }
 
-// Whether the row of step t is within its limits, number after number as the bytes have them.
-fn row_within(bytes: &[u8], ramp: &[u16; 64], n: usize, t: usize) -> bool
-    requires { ⌜ HoldsRow (now bytes) n t ⌝ }
-    ensures { λ r. ⌜ r ≡ rowOk (now (ramp .entry)) n (recordRow (now (bytes .entry)) n t) ⌝ }
+// Whether the numbers of a row that starts at byte `start` are within their limits, one after the other.
+fn numbers_within(bytes: &[u8], ramp: &[u16; 64], n: usize, start: usize) -> bool
+    requires { ⌜ (n ≤ mostCells) × (start + rowSize n ≤ length (now bytes)) ⌝ }
+    ensures { λ r. ⌜ r ≡ rowOk (now (ramp .entry)) n (rowAt (now (bytes .entry)) n start) ⌝ }
 {
-    let start = fields::row_start(fields::version(bytes), n, t);
     if Road::RATE < fields::number(bytes, start, fields::NUMBER_SIZE) {
         return false;
     }
@@ -73,6 +80,69 @@ fn row_within(bytes: &[u8], ramp: &[u16; 64], n: usize, t: usize) -> bool
     true
 }
 
+// Whether the row of step t is within its limits.
+fn row_within(bytes: &[u8], ramp: &[u16; 64], n: usize, t: usize) -> bool
+    requires { ⌜ HoldsRow (now bytes) n t ⌝ }
+    ensures { λ r. ⌜ r ≡ rowOk (now (ramp .entry)) n (recordRow (now (bytes .entry)) n t) ⌝ }
+{
+    let start = fields::row_start(fields::version(bytes), n, t);
+    numbers_within(bytes, ramp, n, start)
+}
+
+// The greater of two bytes; a caller only needs that it is below neither.
+fn greater(a: u8, b: u8) -> u8
+    ensures { λ r. ⌜ (a ≤ r) × (b ≤ r) ⌝ }
+{
+    if a < b {
+        return b;
+    }
+    a
+}
+
+// Raises the greatest bytes to the `size` bytes from `start` on. The loop has no early exit and carries nothing, so it becomes vector code.
+fn raise_to_part(bytes: &[u8], start: usize, size: usize, greatest: &mut [u8; 516])
+    requires { ⌜ Raisable (now bytes) start size 1 (now greatest) ⌝ }
+    ensures { λ _. ⌜ AbovePart (now (bytes .entry)) start size (now (greatest .entry)) (now (greatest .exit)) ⌝ }
+{
+    let mut j = 0;
+    while j < size {
+        greatest[j] = greater(greatest[j], bytes[start + j]);
+        j += 1;
+    }
+}
+
+// Raises the greatest bytes to each of `count` parts of `size` bytes, one after the other from `start` on.
+fn raise_to_parts(bytes: &[u8], start: usize, size: usize, count: usize, greatest: &mut [u8; 516])
+    requires { ⌜ Raisable (now bytes) start size count (now greatest) ⌝ }
+    ensures { λ _. ⌜ AboveParts (now (bytes .entry)) start size count (now (greatest .entry)) (now (greatest .exit)) ⌝ }
+{
+    let mut k = 0;
+    while k < count {
+        raise_to_part(bytes, start + k * size, size, greatest);
+        k += 1;
+    }
+}
+
+// Whether the greatest bytes of all rows make a row within its limits; then every row is. Short rows are looked at side by side, in blocks.
+fn all_rows_within(bytes: &[u8], ramp: &[u16; 64], n: usize, steps: usize) -> bool
+    requires { ⌜ Steps (now bytes) n steps ⌝ }
+    ensures { λ r. ⌜ (r ≡ true → (t : ℕ) → t < steps → rowOk (now (ramp .entry)) n (recordRow (now (bytes .entry)) n t) ≡ true) ⌝ }
+{
+    let version = fields::version(bytes);
+    let size = fields::NUMBER_SIZE + fields::RATES_SIZE * n;
+    let beside = ROW_BYTES / size;
+    let blocks = steps / beside;
+    let blocked = blocks * beside;
+    let start = fields::row_start(version, n, 0);
+    let left = fields::row_start(version, n, blocked);
+    let mut block = [0u8; 516];
+    raise_to_parts(bytes, start, beside * size, blocks, &mut block);
+    let mut row = [0u8; 516];
+    raise_to_parts(&block, 0, size, beside, &mut row);
+    raise_to_parts(bytes, left, size, steps - blocked, &mut row);
+    numbers_within(&row, ramp, n, 0)
+}
+
 // The first step whose row is out of its limits, or `steps`.
 fn first_row(bytes: &[u8], road: Road, steps: usize) -> usize
     requires { ⌜ Steps (now bytes) (road .n) steps ⌝ }
@@ -80,6 +150,9 @@ fn first_row(bytes: &[u8], road: Road, steps: usize) -> usize
 {
     let n = road.n;
     let ramp = road.ramp;
+    if all_rows_within(bytes, &ramp, n, steps) {
+        return steps;
+    }
     let mut t = 0;
     while t < steps {
         if !row_within(bytes, &ramp, n, t) {

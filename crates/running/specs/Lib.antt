@@ -1,4 +1,5 @@
-pub mod Ran
-pub mod Made
-pub mod Totalled
+pub mod Steps
+pub mod LentList
+pub mod WeightedTotal
 pub mod Promise
+pub mod Arrays

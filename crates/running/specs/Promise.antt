@@ -13,7 +13,7 @@ use Rattle.schedules.specs.Demand.{Taken, Promised, WeightedDemand}
 use Rattle.schedules.specs.Whole.{promised}
 use Rattle.schedules.specs.Weighing.{weighingOf}
 use Rattle.schedules.specs.Weighted.{weighted-demand, weighs-unopened, weighs-short, weighs-long}
-use Rattle.running.specs.Totalled.{weighedEnd}
+use Rattle.running.specs.WeightedTotal.{weighedEnd}
 
 -- the answer, the list at exit and what they are worth
 abbrev pub Promise : List ℕ → List ℕ → List ℕ → EndAnswer → List ℕ → Type 0

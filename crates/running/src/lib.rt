@@ -14,8 +14,8 @@ ghost use Rattle.reading.specs.Reading.{studyBy};
 ghost use Rattle.schedules.specs.Schedules.{endAnswer, runEnd, runTable, runningOf, listAfter};
 ghost use Rattle.schedules.specs.Demand.{Taken, Promised, WeightedDemand};
 ghost use Rattle.schedules.specs.Weighing.{weighingOf};
-ghost use Rattle.running.specs.Made.{Runnable};
-ghost use Rattle.running.specs.Totalled.{weighedEnd};
+ghost use Rattle.running.specs.LentList.{Runnable};
+ghost use Rattle.running.specs.WeightedTotal.{weighedEnd};
 
 // Writes the rows of the steps before the first fault, 9 or 10.
 fn run_rows(
@@ -34,23 +34,20 @@ fn run_rows(
     ensures weighted { λ e. ⌜ e .weighted ≡ weighedEnd weighs (at (weights .places)) (at (weights .ramps)) (studyBy (now (bytes .entry)) (now (table .entry)) r s steps) ⌝ }
 {
     let n = r.n;
-    let numbers = 1 + 2 * n;
     let places = n + 1;
     let capacity = r.capacity;
     let mut road = r;
+    let mut cell = [0usize; 64];
+    let ramps = passes::ramp_cells(n, &road.ramp, &mut cell);
     let mut held = s.held;
     let mut queue = s.queue;
     let mut cumulative = s.cumulative;
-    let mut l = Ledger {
-        done: s.done,
-        gate_time: s.gate_time,
-        road_time: s.road_time,
-        ramp_time: s.ramp_time,
-        gate_queue: s.gate_queue,
-        gate_cumulative: s.gate_cumulative,
-    };
-    let mut row = [0u32; 129];
-    let mut room = [0u32; 64];
+    let mut l = Ledger::of(s);
+    let mut rest = [0u32; 64];
+    let mut room = [0u32; 65];
+    let mut release = [0u32; 64];
+    let mut waiting = [0u32; 64];
+    let mut demand = [0u32; 64];
     let mut weighted: u64 = 0;
     let mut k = 0;
     let mut to = 0;
@@ -59,40 +56,41 @@ fn run_rows(
             let left = lanes::step_capacities(capacity, table, n, k);
             road.capacity = left;
         }
-        fields::read_row(bytes, n, k, &mut row);
-        let q = releases::lent::releases(
+        let end = to + places;
+        let step = passes::step(
+            bytes,
+            k,
             road.n,
+            road.gate_capacity,
+            &road.speed,
             &road.wave,
+            &road.share,
             &road.jam,
             &road.capacity,
-            &held,
-            &queue,
-            &row[..numbers],
+            ramps,
+            &cell,
+            l,
+            &mut held,
+            &mut queue,
+            &mut cumulative,
+            &mut rest,
             &mut room,
+            &mut release,
+            &mut waiting,
+            &mut demand,
+            &mut out[to..end],
         );
-        let refusal = q.refusal;
+        let fault = step.fault;
+        let refusal = fault.refusal;
         if refusal.number() != 0 {
-            let ended = Ended::at_step(refusal, k, q.place, r, l.state(held, queue, cumulative));
+            let state = l.state(held, queue, cumulative);
+            let ended = Ended::at_step(refusal, k, fault.place, r, state);
             return Weighed {
                 ended: ended,
                 weighted: weighted,
             };
         }
-        let end = to + places;
-        l = stepping::lent::next(
-            road.n,
-            road.gate_capacity,
-            &road.speed,
-            &road.share,
-            &road.capacity,
-            l,
-            &mut held,
-            &mut queue,
-            &mut cumulative,
-            &row[..numbers],
-            &room,
-            &mut out[to..end],
-        );
+        l = step.ledger;
         weighted = weighing::added(
             weighted,
             weighs,

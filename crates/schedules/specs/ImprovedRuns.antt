@@ -9,6 +9,7 @@ use native.Mathlib.Nat.{le-refl}
 use native.Mathlib.Omega.{arith}
 use lib.ListN.{length}
 use Rattle.numbers.specs.Tests.{order}
+use Rattle.road.specs.Road.{totalOf}
 use Rattle.studies.specs.Study.{Study, tableSize}
 use Rattle.model.specs.Runs.{engineAfter, Fitting}
 use Rattle.model.specs.RunsLaws.{StudyOk}
@@ -21,6 +22,7 @@ use Rattle.schedules.specs.Ends.{runs-short, runs-long}
 use Rattle.schedules.specs.Readable.{readable}
 use Rattle.schedules.specs.Demand.{Ahead, Taken}
 use Rattle.schedules.specs.DemandLaws.{behind-ahead}
+use Rattle.schedules.specs.Whole.{promised}
 
 -- a record that is taken
 module _ (bytes lanes : List ℕ) (taken : Taken bytes lanes) where
@@ -51,6 +53,18 @@ module _ (bytes lanes : List ℕ) (taken : Taken bytes lanes) where
         let e = runs-long bytes lanes taken list l in
         rw e (end-state a (runSays a) (engineAfter a) ∙ ap (engineAfter a) (sym (end-made a (runSays a) (engineAfter a))))
 
+    -- a run that is not refused has a list that is long enough, and makes all steps
+    long : runningOf bytes lanes list .number ≡ 0 → tableSize (studyOf bytes lanes) ≤ length list
+    long h = ⊎-elim
+        (λ (l : tableSize a ≤ length list). l)
+        (λ (l : length list < tableSize a).
+        let e : runningOf bytes lanes list .number ≡ 11 = rw (runs-short bytes lanes taken list l) refl in
+        absurd (omega (arith, h, e)))
+        (order (tableSize a) (length list))
+
+    all : runningOf bytes lanes list .number ≡ 0 → stepsMade (studyOf bytes lanes) (runningOf bytes lanes list) ≡ studyOf bytes lanes .steps
+    all h = promised bytes lanes taken list .grounds .allRows h
+
 -- two records under one table of lanes, the second improved, each run into a list
 module _ (s t lanes : List ℕ) (first : Taken s lanes) (other : Taken t lanes) (h : Improved (studyOf s lanes) (studyOf t lanes)) (list out : List ℕ) where
   -- after every step that both runs reach
@@ -70,3 +84,10 @@ module _ (s t lanes : List ℕ) (first : Taken s lanes) (other : Taken t lanes) 
   improved-returned l m e =
       let K = stepsMade (studyOf s lanes) (runningOf s lanes list) in
       rw (final s lanes first list l, final t lanes other out m, ← e) (improved-steps K (le-refl K) (omega (arith, e)))
+
+  -- 'when both roads accept the same releases, start, arrivals and closures': where neither run is refused, the total returned is not larger
+  pub improved-accepted : runningOf s lanes list .number ≡ 0 → runningOf t lanes out .number ≡ 0
+      → totalOf (runningOf t lanes out .state) ≤ totalOf (runningOf s lanes list .state)
+  improved-accepted a b =
+      improved-returned (long s lanes first list a) (long t lanes other out b)
+      (all s lanes first list a ∙ sym (h .steps) ∙ sym (all t lanes other out b)) .total

@@ -20,3 +20,5 @@ pub mod ImprovedRuns
 pub mod NotEmpty
 pub mod Rising
 pub mod Raised
+pub mod RaisedNotEmpty
+pub mod WeightsUnread

@@ -110,6 +110,13 @@ module _ (limit : ℕ) (guarantees wishes grants : List ℕ) where
           granted (asked .0) (asked .1) (fair limit guarantees wishes (asked .0))
       go false e = refused (λ asked same. never (limits-asked limit guarantees wishes (length grants) asked same) e)
 
+-- an answer and grants that are those of the definitions are one of them; so a contract may promise all three
+pub ended : (limit : ℕ) (guarantees wishes grants : List ℕ) {number : ℕ} {left : List ℕ}
+    → number ≡ grantingOf limit guarantees wishes (length grants) → left ≡ grantsAfter limit guarantees wishes grants
+    → (number ≡ grantingOf limit guarantees wishes (length grants)) × ((left ≡ grantsAfter limit guarantees wishes grants)
+    × Ends limit guarantees wishes grants number left)
+ended limit guarantees wishes grants e f = (e, (f, rw (e, f) (ends limit guarantees wishes grants)))
+
 -- 5: 24 exactly where a limit is passed; it leaves the lent grants unchanged
 module _ {limit : ℕ} {guarantees wishes grants : List ℕ} where
   refused-not : {number : ℕ} {left : List ℕ} → Ends limit guarantees wishes grants number left → number ≡ 24

@@ -6,6 +6,7 @@ ghost use Prim.Native.Nat.{min};
 ghost use lib.ListN.{length};
 ghost use Rattle.road.specs.Refusals.{refusalNumber};
 ghost use Rattle.street.specs.Street.{Asked, frameOk, askedOk, restBefore, grantsOf, grantingOf, grantsAfter};
+ghost use Rattle.street.specs.Theorems.{Ends};
 
 fn smaller(a: u32, b: u32) -> u32
     ensures { λ r. ⌜ r ≡ min a b ⌝ }
@@ -69,10 +70,11 @@ fn share(limit: u32, guarantees: &[u32], wishes: &[u32], grants: &mut [u32])
     }
 }
 
-// Grants the releases of a step to the ramps of a street; 24 leaves the grants as they were lent.
+// Grants the releases of a step to the ramps of a street; 24 leaves the grants unchanged.
 pub fn grant(limit: u32, guarantees: &[u32], wishes: &[u32], grants: &mut [u32]) -> Refusal
     ensures answer { λ r. ⌜ refusalNumber r ≡ grantingOf limit (now (guarantees .entry)) (now (wishes .entry)) (length (now (grants .entry))) ⌝ }
     ensures grants { λ r. ⌜ now (grants .exit) ≡ grantsAfter limit (now (guarantees .entry)) (now (wishes .entry)) (now (grants .entry)) ⌝ }
+    ensures ends { λ r. ⌜ Ends limit (now (guarantees .entry)) (now (wishes .entry)) (now (grants .entry)) (refusalNumber r) (now (grants .exit)) ⌝ }
 {
     if !asked_within(limit, guarantees, wishes, grants.len()) {
         return Refusal::StreetInput;

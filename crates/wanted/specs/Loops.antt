@@ -160,23 +160,23 @@ module _ {start ceiling rate : ℕ} {arrivals : List ℕ} where
 -- how the search ends
 module _ (start ceiling rate : ℕ) (arrivals table : List ℕ) where
   -- a test of 23 fails
-  refused : askedOk start ceiling rate arrivals (length table) ≡ false → Left start ceiling rate arrivals table (answer 23 false) table
+  refused : askedOk start ceiling rate arrivals (length table) ≡ false → Left start ceiling rate arrivals table (answer 23 false false) table
   unfolding wantedOf tableAfter
   refused n = record { says = rw n; leaves = rw n }
 
-  pub ends-frame : frameOk start ceiling rate (length arrivals) (length table) ≡ false → Left start ceiling rate arrivals table (answer 23 false) table
+  pub ends-frame : frameOk start ceiling rate (length arrivals) (length table) ≡ false → Left start ceiling rate arrivals table (answer 23 false false) table
   ends-frame n = refused (rw n)
 
   module _ (f : frameOk start ceiling rate (length arrivals) (length table) ≡ true) where
-    pub ends-arrivals : allWithin arrivals mostRate ≡ false → Left start ceiling rate arrivals table (answer 23 false) table
+    pub ends-arrivals : allWithin arrivals mostRate ≡ false → Left start ceiling rate arrivals table (answer 23 false false) table
     ends-arrivals n = refused (rw (f, n))
 
     module _ (w : allWithin arrivals mostRate ≡ true) where
-      pub ends-none : possibleOf start ceiling rate arrivals ≡ false → Left start ceiling rate arrivals table (answer 0 false) table
+      pub ends-none : possibleOf start ceiling rate arrivals ≡ false → Left start ceiling rate arrivals table (answer 0 true false) table
       unfolding wantedOf tableAfter
       ends-none n = record { says = rw (f, w, n); leaves = rw (f, w, n) }
 
       pub ends-found : possibleOf start ceiling rate arrivals ≡ true
-          → Left start ceiling rate arrivals table (answer 0 true) (tableOf start ceiling rate arrivals)
+          → Left start ceiling rate arrivals table (answer 0 true true) (tableOf start ceiling rate arrivals)
       unfolding wantedOf tableAfter
       ends-found n = record { says = rw (f, w, n); leaves = rw (f, w, n) }

@@ -1,6 +1,6 @@
 -- Small cases, worked out on paper: a start queue of 4, a ceiling of 3, a rate of 2 and three steps. Assumes nothing.
 use mathlib.Core.Path.{_≡_, refl}
-use mathlib.Core.Bool.{false}
+use mathlib.Core.Bool.{true, false}
 use mathlib.Core.List.{[], _∷_}
 use Rattle.numbers.specs.First.{firstOf, firstFrom}
 use Rattle.rows.specs.Sum.{sumOf}
@@ -14,7 +14,7 @@ unfolding tableAfter wantedOf possibleOf lowestQueue tableOf releaseOf leastFrom
 early = refl
 
 -- six are too many: the queue would be 4 at least
-pub too-late : wantedOf 4 3 2 (0 ∷ 0 ∷ 6 ∷ []) 3 ≡ answer 0 false
+pub too-late : wantedOf 4 3 2 (0 ∷ 0 ∷ 6 ∷ []) 3 ≡ answer 0 true false
 unfolding wantedOf possibleOf lowestQueue allWithin firstOf firstFrom
 too-late = refl
 
@@ -24,10 +24,10 @@ unfolding tableAfter wantedOf possibleOf lowestQueue tableOf releaseOf leastFrom
 just-in-time = refl
 
 -- no step, and a table of another length
-pub no-step : wantedOf 4 3 2 [] 0 ≡ answer 23 false
+pub no-step : wantedOf 4 3 2 [] 0 ≡ answer 23 false false
 unfolding wantedOf possibleOf lowestQueue allWithin firstOf firstFrom
 no-step = refl
 
-pub other-length : wantedOf 4 3 2 (0 ∷ []) 2 ≡ answer 23 false
+pub other-length : wantedOf 4 3 2 (0 ∷ []) 2 ≡ answer 23 false false
 unfolding wantedOf possibleOf lowestQueue allWithin firstOf firstFrom
 other-length = refl

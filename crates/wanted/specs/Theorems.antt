@@ -40,11 +40,11 @@ module _ (start ceiling rate : ℕ) (arrivals : List ℕ) {one other : List ℕ}
 
 -- the three ends, with what each leaves of the lent table
 pub data Ends (start ceiling rate : ℕ) (arrivals table : List ℕ) : WantedAnswer → List ℕ → Type 0 where
-  refused : (Asked start ceiling rate arrivals (length table) → ⊥) → Ends start ceiling rate arrivals table (answer 23 false) table
+  refused : (Asked start ceiling rate arrivals (length table) → ⊥) → Ends start ceiling rate arrivals table (answer 23 false false) table
   none : Asked start ceiling rate arrivals (length table) → ((other : List ℕ) → Obeys start ceiling rate arrivals other → ⊥)
-      → Ends start ceiling rate arrivals table (answer 0 false) table
+      → Ends start ceiling rate arrivals table (answer 0 true false) table
   found : Asked start ceiling rate arrivals (length table) → {filled : List ℕ} → Least start ceiling rate arrivals filled
-      → Ends start ceiling rate arrivals table (answer 0 true) filled
+      → Ends start ceiling rate arrivals table (answer 0 true true) filled
 
 -- 2: every answer is one of them
 module _ (start ceiling rate : ℕ) (arrivals table : List ℕ) where
@@ -61,6 +61,13 @@ module _ (start ceiling rate : ℕ) (arrivals table : List ℕ) where
       unless-elim End (possibleOf start ceiling rate arrivals) (λ f. none asked (λ other o. never (obeyed-possible start ceiling rate arrivals other o) f)) (λ f.
       found asked (record { obeys = table-obeys start ceiling rate arrivals f; least = table-least start ceiling rate arrivals })))
 
+-- an answer and a table that are those of the definitions are one of them; so a contract may promise all three
+pub ended : (start ceiling rate : ℕ) (arrivals table : List ℕ) {a : WantedAnswer} {left : List ℕ}
+    → a ≡ wantedOf start ceiling rate arrivals (length table) → left ≡ tableAfter start ceiling rate arrivals table
+    → (a ≡ wantedOf start ceiling rate arrivals (length table)) × ((left ≡ tableAfter start ceiling rate arrivals table)
+    × Ends start ceiling rate arrivals table a left)
+ended start ceiling rate arrivals table e f = (e, (f, rw (e, f) (ends start ceiling rate arrivals table)))
+
 -- so each comes exactly where it should
 module _ {start ceiling rate : ℕ} {arrivals table : List ℕ} where
   refused-not : {a : WantedAnswer} {left : List ℕ} → Ends start ceiling rate arrivals table a left → a .number ≡ 23
@@ -70,19 +77,19 @@ module _ {start ceiling rate : ℕ} {arrivals table : List ℕ} where
   refused-not (Ends.found q h) e asked = omega arith
 
   not-refused : {a : WantedAnswer} {left : List ℕ} → Ends start ceiling rate arrivals table a left
-      → (Asked start ceiling rate arrivals (length table) → ⊥) → (a ≡ answer 23 false) × (left ≡ table)
+      → (Asked start ceiling rate arrivals (length table) → ⊥) → (a ≡ answer 23 false false) × (left ≡ table)
   not-refused (Ends.refused h) n = (refl, refl)
   not-refused (Ends.none q h) n = absurd (n q)
   not-refused (Ends.found q h) n = absurd (n q)
 
-  none-not : {a : WantedAnswer} {left : List ℕ} → Ends start ceiling rate arrivals table a left → a ≡ answer 0 false
+  none-not : {a : WantedAnswer} {left : List ℕ} → Ends start ceiling rate arrivals table a left → a ≡ answer 0 true false
       → (other : List ℕ) → Obeys start ceiling rate arrivals other → ⊥
   none-not (Ends.refused h) e other o = let z = ap (λ (x : WantedAnswer). x .number) e in omega arith
   none-not (Ends.none q h) e other o = h other o
   none-not (Ends.found q h) e other o = never {t = true} refl (ap (λ (x : WantedAnswer). x .found) e)
 
   not-none : {a : WantedAnswer} {left : List ℕ} → Ends start ceiling rate arrivals table a left → Asked start ceiling rate arrivals (length table)
-      → ((other : List ℕ) → Obeys start ceiling rate arrivals other → ⊥) → (a ≡ answer 0 false) × (left ≡ table)
+      → ((other : List ℕ) → Obeys start ceiling rate arrivals other → ⊥) → (a ≡ answer 0 true false) × (left ≡ table)
   not-none (Ends.refused h) q n = absurd (h q)
   not-none (Ends.none p h) q n = (refl, refl)
   not-none (Ends.found p h) q n = absurd (n _ (h .obeys))
@@ -91,6 +98,12 @@ module _ {start ceiling rate : ℕ} {arrivals table : List ℕ} where
   found-is (Ends.refused h) e = absurd (never e refl)
   found-is (Ends.none q h) e = absurd (never e refl)
   found-is (Ends.found q h) e = h
+
+  found-in : {a : WantedAnswer} {left : List ℕ} → Ends start ceiling rate arrivals table a left → a .found ≡ true
+      → Asked start ceiling rate arrivals (length table)
+  found-in (Ends.refused h) e = absurd (never e refl)
+  found-in (Ends.none q h) e = absurd (never e refl)
+  found-in (Ends.found q h) e = q
 
 module _ (start ceiling rate : ℕ) (arrivals table : List ℕ) where
   abbrev says : WantedAnswer
@@ -103,17 +116,21 @@ module _ (start ceiling rate : ℕ) (arrivals table : List ℕ) where
   pub found-least : says .found ≡ true → Least start ceiling rate arrivals left
   found-least = found-is (ends start ceiling rate arrivals table)
 
+  -- and all that was asked is within 23's limits
+  pub found-asked : says .found ≡ true → Asked start ceiling rate arrivals (length table)
+  found-asked = found-in (ends start ceiling rate arrivals table)
+
   -- 4: none exactly where, within the limits, no table obeys; the lent table is unchanged
-  pub none-only : says ≡ answer 0 false → (other : List ℕ) → Obeys start ceiling rate arrivals other → ⊥
+  pub none-only : says ≡ answer 0 true false → (other : List ℕ) → Obeys start ceiling rate arrivals other → ⊥
   none-only = none-not (ends start ceiling rate arrivals table)
 
   pub none-if : Asked start ceiling rate arrivals (length table) → ((other : List ℕ) → Obeys start ceiling rate arrivals other → ⊥)
-      → (says ≡ answer 0 false) × (left ≡ table)
+      → (says ≡ answer 0 true false) × (left ≡ table)
   none-if = not-none (ends start ceiling rate arrivals table)
 
   -- 5: 23 exactly where a limit is passed; the lent table is unchanged
   pub refused-only : says .number ≡ 23 → Asked start ceiling rate arrivals (length table) → ⊥
   refused-only = refused-not (ends start ceiling rate arrivals table)
 
-  pub refused-if : (Asked start ceiling rate arrivals (length table) → ⊥) → (says ≡ answer 23 false) × (left ≡ table)
+  pub refused-if : (Asked start ceiling rate arrivals (length table) → ⊥) → (says ≡ answer 23 false false) × (left ≡ table)
   refused-if = not-refused (ends start ceiling rate arrivals table)

@@ -86,26 +86,27 @@ releaseOf start ceiling rate arrivals (suc k) = leastAt start ceiling rate arriv
 unfoldable pub tableOf : ℕ → ℕ → ℕ → List ℕ → List ℕ
 tableOf start ceiling rate arrivals = listOf (releaseOf start ceiling rate arrivals) (length arrivals)
 
--- what the search answers: the refusal's number, and whether a table was found
+-- what the search answers: the refusal's number, whether there was a search, and whether it found a table
 pub record WantedAnswer : Type 0 where
   pub number : ℕ
+  pub searched : Bool
   pub found : Bool
 
-abbrev pub answer : ℕ → Bool → WantedAnswer
-answer number found = record { number = number; found = found }
+abbrev pub answer : ℕ → Bool → Bool → WantedAnswer
+answer number searched found = record { number = number; searched = searched; found = found }
 
--- the number and the values of each case of the code's answer
+-- the number and the values of each case of the code's answer; no two cases have the same
 abbrev pub wantedAnswer : Wanted → WantedAnswer
-wantedAnswer (Refused refusal) = answer (refusalNumber refusal) false
-wantedAnswer None = answer 0 false
-wantedAnswer Found = answer 0 true
+wantedAnswer (Refused refusal) = answer (refusalNumber refusal) false false
+wantedAnswer None = answer 0 true false
+wantedAnswer Found = answer 0 true true
 
 -- 23 precedes any search; if no table does it, the result is none
 unfoldable pub wantedOf : ℕ → ℕ → ℕ → List ℕ → ℕ → WantedAnswer
 wantedOf start ceiling rate arrivals places =
-    unless (askedOk start ceiling rate arrivals places) (answer 23 false)
-    (unless (possibleOf start ceiling rate arrivals) (answer 0 false)
-    (answer 0 true))
+    unless (askedOk start ceiling rate arrivals places) (answer 23 false false)
+    (unless (possibleOf start ceiling rate arrivals) (answer 0 true false)
+    (answer 0 true true))
 
 -- the lent table then: the table found, and unchanged after none as after a refusal
 unfoldable pub tableAfter : ℕ → ℕ → ℕ → List ℕ → List ℕ → List ℕ

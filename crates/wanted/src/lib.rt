@@ -6,6 +6,7 @@ ghost use mathlib.Core.Path.{_≡_};
 ghost use Prim.Native.Nat.{_-_, max};
 ghost use lib.ListN.{length};
 ghost use Rattle.wanted.specs.Wanted.{Comes, Limits, frameOk, possibleOf, inflowOf, tableOf, wantedAnswer, wantedOf, tableAfter};
+ghost use Rattle.wanted.specs.Theorems.{Ends};
 
 // What `most` leaves after `used`, 0 where `used` is more.
 fn less(most: u32, used: u32) -> u32
@@ -79,10 +80,11 @@ fn fill(start: u32, ceiling: u32, rate: u32, arrivals: &[u32], table: &mut [u32]
     table[0] = after;
 }
 
-// Gives the releases whose running sum is least after every step, where any table keeps the queue; else the table is as it was lent.
+// Gives the releases whose running sum is least after every step, where any table keeps the queue; otherwise the table is unchanged.
 pub fn wanted(start: u32, ceiling: u32, rate: u32, arrivals: &[u32], table: &mut [u32]) -> Wanted
     ensures answer { λ r. ⌜ wantedAnswer r ≡ wantedOf start ceiling rate (now (arrivals .entry)) (length (now (table .entry))) ⌝ }
     ensures table { λ r. ⌜ now (table .exit) ≡ tableAfter start ceiling rate (now (arrivals .entry)) (now (table .entry)) ⌝ }
+    ensures ends { λ r. ⌜ Ends start ceiling rate (now (arrivals .entry)) (now (table .entry)) (wantedAnswer r) (now (table .exit)) ⌝ }
 {
     if !frame_within(start, ceiling, rate, arrivals.len(), table.len()) {
         return Wanted::Refused(Refusal::WantedInput);

@@ -126,7 +126,7 @@ module _ (a : Study) (numbers room : ℕ) where
         (unlessFirst (givenOk a) (a .steps) (unwritten 6)
         (unless (leb (recordSize a) room) (unwritten 15 0) (written (recordSize a))))
         ≡ writingBy a numbers room
-    body = rw (eq-eqb (frameOf a numbers) 0 (faultless a numbers ok))
+    body = rw (eq-eqb (frameOf a numbers) 0 (faultless a numbers ok)) refl
 
     pub answer-place : (p : ℕ) → p ≡ place → (p ≡ a .road .n + 1 → ⊥) → unwritten 5 p ≡ writingBy a numbers room
     answer-place p e h = rw (← body, ← e, ne-eqb p (a .road .n + 1) h)

@@ -1,13 +1,15 @@
 -- `exports::nobyaluk_join` meets its contract. Assumes nothing.
-use mathlib.Core.Path.{refl}
+use mathlib.Core.Path.{sym, _∙_}
+use Rattle.exports.specs.AnswersLaws.{written-is}
 use borrow.Author.Needs.{needs}
 use Rattle.exports.proofs.nobyaluk_join.Statement.{statement}
 use Rattle.exports.proofs.nobyaluk_join.Tie as tie
 
 returns : tie.Need-returns
 returns c =
-    let e = c .before .before .before .join .ensures in
-    (rw (← e .0, c .number .ensures) refl, e .1 .0)
+    let a = c .before .before .before .join in
+    let e = a .ensures in
+    (written-is (a .result) (c .number .ensures) (e .0), (e .1 .0, λ h. e .1 .1 (sym (c .number .ensures) ∙ h)))
 
 pub nobyaluk-join-spec : {M : Type 1} → statement M
 nobyaluk-join-spec =

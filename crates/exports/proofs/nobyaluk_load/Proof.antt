@@ -1,5 +1,5 @@
 -- `exports::nobyaluk_load` meets its contract. Assumes nothing.
-use mathlib.Core.Path.{refl}
+use Rattle.exports.specs.AnswersLaws.{loaded-is}
 use borrow.Author.Needs.{needs}
 use Rattle.exports.proofs.nobyaluk_load.Statement.{statement}
 use Rattle.exports.proofs.nobyaluk_load.Tie as tie
@@ -7,8 +7,9 @@ use Rattle.exports.proofs.nobyaluk_load.Tie as tie
 returns : tie.Need-returns
 returns c =
     let n = c .before in
-    let e = n .before .before .before .load .ensures in
-    (rw (← e .0, n .number .ensures) refl, e .1)
+    let a = n .before .before .before .load in
+    let e = a .ensures in
+    (loaded-is (a .result) (n .number .ensures) (e .0), (e .1 .0, rw (e .0) at (e .1 .1)))
 
 pub nobyaluk-load-spec : {M : Type 1} → statement M
 nobyaluk-load-spec =

@@ -1,13 +1,14 @@
 -- `exports::nobyaluk_put` meets its contract. Assumes nothing.
-use mathlib.Core.Path.{refl}
+use Rattle.exports.specs.AnswersLaws.{released-is}
 use borrow.Author.Needs.{needs}
 use Rattle.exports.proofs.nobyaluk_put.Statement.{statement}
 use Rattle.exports.proofs.nobyaluk_put.Tie as tie
 
 returns : tie.Need-returns
 returns c =
-    let e = c .before .before .before .put .ensures in
-    (rw (← e .0, c .number .ensures) refl, e .1)
+    let a = c .before .before .before .put in
+    let e = a .ensures in
+    (released-is (a .result) (c .number .ensures) (e .0), (e .1 .0, rw (e .0) at (e .1 .1)))
 
 pub nobyaluk-put-spec : {M : Type 1} → statement M
 nobyaluk-put-spec = tie.close (tie.spec (λ c κs. search needs) (λ c κs. search needs) (λ c. search needs) (λ c. search needs) returns)

@@ -25,17 +25,17 @@ returns : tie.Need-returns
 returns c =
     let m = to-case c in
     let e = to-wanted (m .before .before) .wanted .ensures in
-    (rw (c .number .ensures) (case (m .a .given .1) (e .0)), e .1)
+    (rw (c .number .ensures) (case (m .a .given .1) (e .0)), (e .1 .0, rw (e .0) at (e .1 .1)))
 
 returns-2 : tie.Need-returns-2
 returns-2 c =
     let e = to-wanted (c .before .before) .wanted .ensures in
-    (case (c .enum-told .given .1) (e .0), e .1)
+    (case (c .enum-told .given .1) (e .0), (e .1 .0, rw (e .0) at (e .1 .1)))
 
 returns-3 : tie.Need-returns-3
 returns-3 c =
     let e = to-wanted (c .before .before) .wanted .ensures in
-    (case (c .enum-told2 .given .1) (e .0), e .1)
+    (case (c .enum-told2 .given .1) (e .0), (e .1 .0, rw (e .0) at (e .1 .1)))
 
 pub nobyaluk-wanted-spec : {M : Type 1} → statement M
 nobyaluk-wanted-spec =

@@ -1,126 +1,115 @@
--- `filling::fill_row` meets its contract: the row read again is the filled one. Assumes nothing.
-use mathlib.Core.Path.{_≡_, sym, ap, _∙_}
-use mathlib.Core.List.{List}
-use Prim.Native.Nat.{ℕ, _+_, _*_, _≤_}
-use lib.ListN.{length, take, length-take}
+-- `filling::fill_row` meets its contract: the releases that are granted make the step ready. Assumes nothing.
+use mathlib.Core.Path.{_≡_, ap, _∙_}
+use Prim.Native.Nat.{ℕ}
 use Rattle.road.specs.declared.Road.{Road}
-use Rattle.fields.specs.FieldsLaws.{length-row}
-use Rattle.columns.specs.Columns.{roadOf, stateOf}
-use Rattle.ramps.specs.Ramps.{Metered, metered}
-use Rattle.ramps.specs.LentRamps.{ramped}
-use Rattle.filling.specs.Turn.{Given, given-held, given-steps, given-filled}
+use Rattle.fields.specs.Fields.{versionOf, rowStart}
+use Rattle.columns.specs.Columns.{roadOf}
+use Rattle.ramps.specs.Grants.{ramped}
+use Rattle.filling.specs.Turn.{supplies-ask, grants-ask, gate-there, step-ready, row-filled}
 use borrow.Author.Needs.{needs}
 use native.Mathlib.Omega.{arith}
 use Rattle.filling.proofs.fill_row.Statement.{statement}
 use Rattle.filling.proofs.fill_row.Tie as tie
 
--- the places: the arguments from the row read, that from the releases granted, these from their put, that from the row read again, and this
--- from the step's arguments
-abbrev A : tie.After-row → tie.Start
-A c = c .before .before .before .before
+-- places of the code: the arguments from the supplies, and each call from the next
+abbrev A : tie.After-supplies → tie.Start
+A c = c .before .before .before .before .before
 
-abbrev to-read : tie.After-row2 → tie.After-row
-to-read c = c .before .before .before
+abbrev Supplied : tie.After-row-start → tie.After-supplies
+Supplied c = c .before .before .before
 
-abbrev to-row : tie.After-releases → tie.After-row
-to-row c = to-read (c .before .before .before)
+abbrev to-start : tie.After-grant-arg8 → tie.After-row-start
+to-start c = let a = c .before .before .before .before in a .before .before .before .before
 
-abbrev to-granted : tie.After-put-releases → tie.After-releases
-to-granted c = c .before .before .before
+abbrev Started : tie.After-grant → tie.After-row-start
+Started c = to-start (c .before)
 
-abbrev when-put : tie.After-slice-known3 → tie.After-put-releases
-when-put c = c .before .before
+abbrev Granted : tie.After-number → tie.After-grant
+Granted c = c .before .before .before .before
 
-abbrev to-put : tie.After-row3 → tie.After-put-releases
-to-put c = when-put (c .before .before)
+abbrev to-number : tie.After-next-arg9 → tie.After-number
+to-number c = let a = c .before .before .before .before .before in a .before .before .before .before
 
-abbrev to-again : tie.After-next-arg3 → tie.After-row3
-to-again c = c .before .before .before
-
-abbrev Args : tie.After-row3 → tie.Start
-Args c = A (to-row (to-granted (to-put c)))
-
--- any road with the columns that were lent, what the wishes go by, and the releases granted
+-- any road with the columns that were lent
 abbrev On : tie.Start → Road → Road
 On c r =
     let a = c .args in
     roadOf (ramped r (a .ramp .now)) (a .n) (a .gate-capacity) (a .speed .now) (a .wave .now) (a .share .now) (a .jam .now) (a .capacity .now)
 
-abbrev From : tie.Start → Metered
-From c = let a = c .args in metered (stateOf (a .l) (a .held .now) (a .queue .now) (a .cumulative .now)) (a .released .now) (a .entered .now)
+-- where the row starts
+starts : (c : tie.After-row-start) → let a = A (Supplied c) .args in c .row-start .result ≡ rowStart (versionOf (a .bytes .now)) (a .n) (a .k)
+starts c = let a = A (Supplied c) .args in c .row-start .ensures ∙ ap (λ (v : ℕ). rowStart v (a .n) (a .k)) (c .before .version .ensures)
 
-abbrev Granted : tie.After-releases → List ℕ
-Granted c = c .releases .last .1 .1 .1 .1 .1 .1 .1 .1 .1 .1 .0
+supplies-requires : tie.Need-supplies-requires
+supplies-requires c κs = supplies-ask (c .before .before .before .before .pre .fills)
 
-cells : (c : tie.Start) → c .args .n ≤ 64
-cells c = c .pre .fills .held .cells
+version-requires : tie.Need-version-requires
+version-requires c κs = omega (arith, A (c .before) .pre .fills .held .row)
 
-numbers : (c : tie.After-row) → length (take (1 + 2 * A c .args .n) (c .row .result)) ≡ 1 + 2 * A c .args .n
-numbers c = let a = A c .args in ap length (c .row .ensures) ∙ length-row (a .bytes .now) (a .n) (a .k)
+row-start-requires : tie.Need-row-start-requires
+row-start-requires c κs =
+    let s = A (c .before .before) in
+    let a = s .args in
+    omega (arith, ap (λ (v : ℕ). rowStart v (a .n) (a .k)) (c .version .ensures), s .pre .fills .held .row)
 
-again : (c : tie.After-row3) → length (take (1 + 2 * Args c .args .n) (c .row3 .result)) ≡ 1 + 2 * Args c .args .n
-again c = let a = Args c .args in ap length (c .row3 .ensures) ∙ length-row _ (a .n) (a .k)
-
--- what was granted and put, in the definition's terms, on any road
-given : (c : tie.After-put-releases) (r : Road) →
-    let s = A (to-row (to-granted c)) in
-    Given (s .args .bytes .now) (s .args .laws) (On s r) (From s) (s .args .k) (Granted (to-granted c)) (c .put-releases .last .0)
-given c r =
-    let g = to-granted c in
-    let s = A (to-row g) in
+grant-requires : tie.Need-grant-requires
+grant-requires c κs =
+    let t = to-start c in
+    let s = A (Supplied t) in
+    let p = s .pre in
     record {
-      held = s .pre .fills .held;
-      cells = omega (arith, cells s, s .pre .released);
-      grants = rw (to-row g .row .ensures) at (g .releases .ensures .0 (On s r) (s .args .l) (s .args .cumulative .now));
-      puts = c .put-releases .ensures;
+      laws = p .laws;
+      road = On s (p .road);
+      ledger = s .args .l;
+      releases = p .releases;
+      entries = p .entries;
+      step = s .args .k;
+      grants = grants-ask (p .fills) (Supplied t .supplies .ensures) (starts t);
     }
 
-slice-aggregate-releases : tie.Need-slice-aggregate-releases
-slice-aggregate-releases c = sym (numbers (to-read c))
-
-releases-requires : tie.Need-releases-requires
-releases-requires c κs = let r = to-read (c .before .before) in (cells (A r), (numbers r, A r .pre .released))
-
-row-requires-2 : tie.Need-row-requires-2
-row-requires-2 c κs = let p = when-put (c .before) in given-held (given p (A (to-row (to-granted p)) .pre .road))
-
-array-share-prefix-filled : tie.Need-array-share-prefix-filled
-array-share-prefix-filled c =
-    let d = to-again c in
-    omega (arith, again d, length-take (1 + 2 * Args d .args .n) (d .row3 .result))
-
-slice-aggregate-next : tie.Need-slice-aggregate-next
-slice-aggregate-next c = sym (again (to-again (c .before)))
+number-requires : tie.Need-number-requires
+number-requires c κs =
+    let g = c .before .before .before in
+    let t = Started g in
+    let s = A (Supplied t) in
+    let p = s .pre in
+    let e = Supplied t .supplies .ensures in (
+      omega arith,
+      gate-there (p .fills) e (starts t)
+          (g .grant .ensures (p .laws) (On s (p .road)) (s .args .l) (p .releases) (p .entries) (s .args .k) (grants-ask (p .fills) e (starts t))),
+    )
 
 next-requires : tie.Need-next-requires
 next-requires c κs =
-    let d = to-again (c .before .before .before) in
-    let s = Args d in
+    let m = to-number c in
+    let g = Granted m in
+    let t = Started g in
+    let s = A (Supplied t) in
     let p = s .pre in
+    let e = Supplied t .supplies .ensures in
     record {
-      road = ramped (p .road) (s .args .ramp .now);
-      steppable = given-steps (given (to-put d) (p .road)) (d .row3 .ensures) (p .fills .step);
-      entries = p .entered;
+      road = On s (p .road);
+      row = _;
+      ready = step-ready (p .fills) e (starts t)
+          (g .grant .ensures (p .laws) (On s (p .road)) (s .args .l) (p .releases) (p .entries) (s .args .k) (grants-ask (p .fills) e (starts t)))
+          (m .number .ensures .0);
       places = p .fills .places;
+      longDemand = p .fills .kept .longDemand;
     }
 
 returns : tie.Need-returns
-returns c =
+returns c laws r releases entries f =
     let n = c .before .before in
-    let f = n .before .before .before in
-    let d = to-again (f .before) in
-    let s = Args d in
-    let g = to-granted (to-put d) in
-    let ramps = s .args .ramp .now in (
-      λ r. given-filled (given (to-put d) r) (d .row3 .ensures) (n .next .ensures .0 (ramped r ramps) (s .args .released .now) (Granted g))
-          (n .next .ensures .1 .0 (ramped r ramps)),
-      (g .releases .ensures .1, n .next .ensures .1 .1),
-    )
+    let m = to-number (n .before) in
+    let g = Granted m in
+    let t = Started g in
+    let s = A (Supplied t) in
+    let e = Supplied t .supplies .ensures in
+    let given = g .grant .ensures laws (On s r) (s .args .l) releases entries (s .args .k) (grants-ask f e (starts t)) in
+    row-filled f e (starts t) given (n .next .ensures .0 (On s r) _ (step-ready f e (starts t) given (m .number .ensures .0))) (n .next .ensures .1)
 
 pub fill-row-spec : {M : Type 1} → statement M
 fill-row-spec =
     tie.close
     (tie.spec
-    (λ c. search needs) (λ c. search needs) (λ c κs. search needs) (λ c. search needs) slice-aggregate-releases releases-requires
-    (λ c κs. search needs) row-requires-2 array-share-prefix-filled slice-aggregate-next next-requires (λ c. search needs) (λ c. search needs)
-    returns)
+    supplies-requires version-requires row-start-requires grant-requires number-requires next-requires (λ c. search needs) (λ c. search needs) returns)

@@ -1,48 +1,59 @@
--- `filling::fill_rows` meets its contract. The invariant: k steps are filled, their outflows written, the columns are what the next goes by,
--- the road is the record's but for its capacities, and there is a release and an entry of each cell. Assumes nothing.
-use mathlib.Core.Path.{_≡_, refl, ap, _∙_}
+-- `filling::fill_rows` meets its contract. The invariant: k steps are filled by any laws that the columns have, their outflows are written, and the
+-- road is the record's but for its capacities. Assumes nothing.
+use mathlib.Core.Path.{_≡_, refl, sym, ap, subst, _∙_}
 use mathlib.Core.Logic.{inl, inr}
+use mathlib.Core.List.{List}
 use Prim.Native.Nat.{ℕ, _+_, _-_, _≤_}
 use lib.ListN.{length, length-replicate}
+use Rattle.numbers.specs.Lists.{zero-at}
 use Rattle.rows.specs.TablesLaws.{part-length}
 use Rattle.studies.specs.Study.{Study, places, withCapacity}
 use Rattle.lanes.specs.LanesLaws.{rows-within}
+use Rattle.meter.specs.declared.Law.{Law}
+use Rattle.meter.specs.LawColumns.{InColumns}
 use Rattle.model.specs.Opened.{OnRoad, Turned, on-road, turned-road, turned-on}
+use Rattle.columns.specs.declared.Ledger.{Ledger}
 use Rattle.columns.specs.Columns.{stateOf}
 use Rattle.reading.specs.Reading.{studyBy}
 use Rattle.reading.specs.Table.{mostOutflows}
-use Rattle.ramps.specs.Ramps.{metered}
-use Rattle.filling.specs.Filled.{Filled, filled-none, same-bytes, same-list, row-ends-by, row-fits, fills, filled-more, filled-bytes, filled-list, filled-state}
+use Rattle.patching.specs.Releases.{putTable}
+use Rattle.schedules.specs.Schedules.{tableOf}
+use Rattle.filling.specs.Filling.{meteredAfter, grantedIn, filledStudy}
+use Rattle.filling.specs.Turn.{arrays}
+use Rattle.filling.specs.Filled.{Fillable, Filled, filled-none, goes-by, same-bytes, same-list, row-ends-by, row-fits, fills, filled-more, filled-bytes}
+use Rattle.filling.specs.Filled.{filled-list, filled-state}
 use borrow.Author.Needs.{needs}
 use native.Mathlib.Omega.{arith}
 use Rattle.filling.proofs.fill_rows.Statement.{statement}
 use Rattle.filling.proofs.fill_rows.Tie as tie
 
 abbrev Inv-loop : tie.InvT-loop
-Inv-loop bytes₀ laws table steps out₀ n places capacity road₀ held₀ queue₀ sent₀ l₀ released₀ entered₀ k₀ to₀
-    bytes out road held queue sent l released entered k to =
+Inv-loop bytes₀ table steps out₀ _ _ _ columns road₀ cell ramps held₀ queue₀ sent₀ _ l₀ _ _ _ _ _ _ _
+    bytes out road held queue sent came l rest room release waiting demand k to =
     let a = studyBy bytes₀ table road₀ (stateOf l₀ held₀ queue₀ sent₀) steps in
-    Filled laws bytes₀ a out₀ bytes out (metered (stateOf l held queue sent) released entered) k to
-    × (OnRoad a road × ((length released ≡ 64) × (length entered ≡ 64)))
+    OnRoad a road × ((laws : List Law) → InColumns laws (columns .kinds) (columns .numbers)
+    → Filled laws bytes₀ a out₀ bytes out (stateOf l held queue sent) ramps (arrays cell rest room release waiting came demand) k to)
 
 abbrev μ-loop : tie.MeasureT-loop
-μ-loop bytes₀ laws table steps out₀ n places capacity road₀ held₀ queue₀ sent₀ l₀ released₀ entered₀ k₀ to₀
-    bytes out road held queue sent l released entered k to =
+μ-loop bytes₀ table steps out₀ _ _ _ columns road₀ cell ramps held₀ queue₀ sent₀ _ l₀ _ _ _ _ _ _ _
+    bytes out road held queue sent came l rest room release waiting demand k to =
     steps - k
 
--- places of the code: the arguments from the loop's place, a turn's road from the places after it, and the row filled from the turn's end
-abbrev Begun : tie.After-cumulative Inv-loop μ-loop → tie.Start Inv-loop μ-loop
-Begun c = let h = c .before .before .before in h .before .before .before .before
+-- places of the code: the listing and the columns from the ledger, the arguments from the columns, and a turn's road from the places after it
+abbrev Listing : tie.After-of Inv-loop μ-loop → tie.After-ramp-cells Inv-loop μ-loop
+Listing c = c .before .before .before .before .before
 
-abbrev A : tie.At-loop Inv-loop μ-loop → tie.Start Inv-loop μ-loop
-A c = Begun (c .before)
+abbrev Split : tie.After-of Inv-loop μ-loop → tie.After-columns Inv-loop μ-loop
+Split c = Listing c .before .before .before .before
 
-abbrev to-road : tie.After-entered Inv-loop μ-loop → tie.Joined1 Inv-loop μ-loop
+abbrev A : tie.After-of Inv-loop μ-loop → tie.Start Inv-loop μ-loop
+A c = Split c .before .before .before .before .before
+
+abbrev to-road : tie.After-demand Inv-loop μ-loop → tie.Joined1 Inv-loop μ-loop
 to-road c =
-    let h = c .before .before .before .before in
-    let a = h .before .before .before .before in
-    let b = a .before .before in
-    b .before .before .before
+    let d = c .before .before .before .before .before .before .before in
+    let e = d .before .before .before .before .before .before .before in
+    e .before .before .before .before .before .before .before
 
 abbrev to-filled : tie.After-slice-known4 Inv-loop μ-loop → tie.After-fill-row Inv-loop μ-loop
 to-filled c = c .before .before .before .before
@@ -50,18 +61,37 @@ to-filled c = c .before .before .before .before
 abbrev to-turn : tie.After-slice-known4 Inv-loop μ-loop → tie.Joined1 Inv-loop μ-loop
 to-turn c = to-road (to-filled c .before .before)
 
--- the study
-abbrev Of : tie.Start Inv-loop μ-loop → Study
-Of c = studyBy (c .args .bytes .now) (c .args .table .now) (c .args .r) (c .args .s) (c .args .steps)
+-- the study, from the ledger that the loop starts with, which is the arguments'
+abbrev Of : tie.After-of Inv-loop μ-loop → Study
+Of c =
+    let a = A c .args in
+    studyBy (a .bytes .now) (a .table .now) (a .r) (stateOf (c .of .result) (a .s .held) (a .s .queue) (a .s .cumulative)) (a .steps)
+
+begins : (c : tie.After-of Inv-loop μ-loop) → let a = A c .args in Of c ≡ studyBy (a .bytes .now) (a .table .now) (a .r) (a .s) (a .steps)
+begins c =
+    let a = A c .args in
+    ap (λ (l : Ledger). studyBy (a .bytes .now) (a .table .now) (a .r) (stateOf l (a .s .held) (a .s .queue) (a .s .cumulative)) (a .steps)) (c .of .ensures)
+
+fillable : (c : tie.After-of Inv-loop μ-loop) → Fillable (A c .args .bytes .now) (Of c) (A c .args .out .now)
+fillable c = let s = A c in subst (λ (a : Study). Fillable (s .args .bytes .now) a (s .args .out .now)) (sym (begins c)) (s .pre)
+
+-- what the steps before have filled by the laws of the arguments
+so-far : (c : tie.At-loop Inv-loop μ-loop) →
+    let b = c .before in
+    let a = A b .args in
+    let l = c .loop in
+    Filled (a .laws) (a .bytes .now) (Of b) (a .out .now) (l .bytes) (l .out) (stateOf (l .l) (l .held) (l .queue) (l .cumulative)) (Listing b .ramp-cells .result)
+    (arrays (Listing b .ramp-cells .last .1 .1 .0) (l .rest) (l .room) (l .release) (l .waiting) (l .came) (l .demand)) (l .k) (l .to)
+so-far c = c .loop .inv .1 (A (c .before) .args .laws) (Split (c .before) .columns .ensures)
 
 -- the road of the turn, with the capacities of its step or, with an empty table, as it was
 turned : (c : tie.Joined1 Inv-loop μ-loop) →
     let l = c .before .before in
-    Turned (Of (A l)) (l .loop .road) (l .loop .k) (c .if1 .road)
+    Turned (Of (l .before)) (l .loop .road) (l .loop .k) (c .if1 .road)
 turned c =
     let l = c .before .before in
     record {
-      before = l .loop .inv .1 .0;
+      before = l .loop .inv .0;
       came = elim (c .if1 .came) [
         | inl p ↦ inl (p .0 .taken, p .2 ∙ ap (withCapacity (l .loop .road)) (p .1 .ensures))
         | inr p ↦ inr (p .0 .left, p .1)
@@ -69,19 +99,39 @@ turned c =
     }
 
 -- the part of the list that a turn lends
-part : (c : tie.In-loop Inv-loop μ-loop) → c .before .loop .to + places (Of (A (c .before))) ≤ length (c .before .loop .out)
-part c = row-fits (A (c .before) .pre) (c .before .loop .inv .0) (c .loop-test .taken)
+part : (c : tie.In-loop Inv-loop μ-loop) → c .before .loop .to + places (Of (c .before .before)) ≤ length (c .before .loop .out)
+part c = row-fits (fillable (c .before .before)) (so-far (c .before)) (c .loop-test .taken)
 
-small : (c : tie.In-loop Inv-loop μ-loop) → c .before .loop .to + places (Of (A (c .before))) ≤ mostOutflows
-small c = let s = A (c .before) in row-ends-by (s .pre) (c .before .loop .inv .0) mostOutflows (s .pre .readable .outflows) (c .loop-test .taken)
+small : (c : tie.In-loop Inv-loop μ-loop) → c .before .loop .to + places (Of (c .before .before)) ≤ mostOutflows
+small c =
+    let p = fillable (c .before .before) in
+    row-ends-by p (so-far (c .before)) mostOutflows (p .readable .outflows) (c .loop-test .taken)
+
+ramp-cells-requires : tie.Need-ramp-cells-requires Inv-loop μ-loop
+ramp-cells-requires c κs = let d = c .before .before .before in (d .before .before .before .before .before .pre .readable .ok .road .cells, refl)
 
 loop-holds : tie.Need-loop-holds Inv-loop μ-loop
-loop-holds c = (filled-none refl, (on-road, (length-replicate {A = ℕ} 64 0, length-replicate {A = ℕ} 64 0)))
+loop-holds c =
+    let ok = fillable c .readable .ok in
+    let cells = ok .road .cells in (
+      on-road,
+      λ laws columns. filled-none ok (record {
+        listed = Listing c .ramp-cells .ensures .0;
+        rest = zero-at 64;
+        release = zero-at 64;
+        came = refl;
+        longRest = omega (arith, length-replicate {A = ℕ} 64 0);
+        longRoom = omega (arith, length-replicate {A = ℕ} 65 0);
+        longRelease = omega (arith, length-replicate {A = ℕ} 64 0);
+        longWaits = omega (arith, length-replicate {A = ℕ} 64 0);
+        longDemand = omega (arith, length-replicate {A = ℕ} 64 0);
+      }),
+    )
 
 step-capacities-requires : tie.Need-step-capacities-requires Inv-loop μ-loop
 step-capacities-requires c κs =
     let i = c .before in
-    let a = A (i .before) in
+    let a = A (i .before .before) in
     let t = a .pre .readable in (
       t .ok .road .cells,
       (
@@ -103,19 +153,23 @@ fill-row-requires : tie.Need-fill-row-requires Inv-loop μ-loop
 fill-row-requires c κs =
     let j = to-road (c .before) in
     let t = j .before in
-    let s = A (t .before) in
-    let l = t .before .loop in
+    let l = t .before in
+    let b = l .before in
+    let laws = A b .args .laws in
+    let h = so-far l in
     record {
+      laws = laws;
       road = j .if1 .road;
-      fills = fills (s .pre) (l .inv .0) (t .loop-test .taken) (turned-road (turned j)) (part-length (l .out) (l .to) (places (Of s)) (part t));
-      released = l .inv .1 .1 .0;
-      entered = l .inv .1 .1 .1;
+      releases = meteredAfter laws (Of b) (l .loop .k) .releases;
+      entries = meteredAfter laws (Of b) (l .loop .k) .entries;
+      fills = fills (fillable b) h (t .loop-test .taken) (turned-road (turned j)) (goes-by (fillable b) h) (Split b .columns .ensures)
+          (part-length (l .loop .out) (l .loop .to) (places (Of b)) (part t));
     }
 
 add-k : tie.Need-add-k Inv-loop μ-loop
 add-k c =
     let i = to-turn c .before in
-    omega (arith, i .loop-test .taken, A (i .before) .pre .readable .ok .steps)
+    omega (arith, i .loop-test .taken, A (i .before .before) .pre .readable .ok .steps)
 
 loop-less : tie.Need-loop-less Inv-loop μ-loop
 loop-less c = omega (arith, to-turn c .before .loop-test .taken)
@@ -124,28 +178,45 @@ loop-again : tie.Need-loop-again Inv-loop μ-loop
 loop-again c =
     let j = to-turn c in
     let t = j .before in
-    let e = to-filled c .fill-row .ensures in (
-      filled-more (A (t .before) .pre) (t .before .loop .inv .0) (t .loop-test .taken) (turned-road (turned j)) (e .0 (j .if1 .road)),
-      (turned-on (turned j), e .1),
+    let l = t .before in
+    let b = l .before in
+    let p = fillable b in
+    let road = turned-road (turned j) in (
+      turned-on (turned j),
+      λ laws columns.
+          let h = l .loop .inv .1 laws columns in
+          let by = goes-by p h in
+          let asks = fills p h (t .loop-test .taken) road by columns (part-length (l .loop .out) (l .loop .to) (places (Of b)) (part t)) in
+          filled-more p h (t .loop-test .taken) road by
+          (to-filled c .fill-row .ensures laws (j .if1 .road) (meteredAfter laws (Of b) (l .loop .k) .releases) (meteredAfter laws (Of b) (l .loop .k) .entries) asks),
     )
 
 same-length : tie.Need-same-length Inv-loop μ-loop
-same-length c = let l = c .before .before in same-bytes (A l .pre) (l .loop .inv .0)
+same-length c = let l = c .before .before in same-bytes (fillable (l .before)) (so-far l)
 
 same-length-2 : tie.Need-same-length-2 Inv-loop μ-loop
-same-length-2 c = let l = c .before .before in same-list (A l .pre) (l .loop .inv .0)
+same-length-2 c = let l = c .before .before in same-list (fillable (l .before)) (so-far l)
 
 returns : tie.Need-returns Inv-loop μ-loop
 returns c =
     let l = c .before .before in
-    let p = A l .pre in
-    let h = l .loop .inv .0 in
+    let b = l .before in
+    let a = A b .args in
+    let p = fillable b in
+    let h = so-far l in
     let end = c .before .loop-test .left in
-    (filled-bytes p h end, (filled-list p h end, filled-state p h end (c .state .ensures)))
+    let e = begins b in (
+      filled-bytes p h end ∙ ap (λ (x : Study). putTable (a .bytes .now) (a .r .n) (grantedIn (a .laws) x) (a .steps)) e,
+      (
+        filled-list p h end ∙ ap (λ (x : Study). tableOf (filledStudy (a .laws) x) (a .out .now) (a .steps)) e,
+        filled-state p h end (c .state .ensures) ∙ ap (λ (x : Study). meteredAfter (a .laws) x (a .steps) .state) e,
+      ),
+    )
 
 pub fill-rows-spec : {M : Type 1} → statement M
 fill-rows-spec =
     tie.close
     (tie.spec
-    Inv-loop μ-loop (λ c. search needs) loop-holds step-capacities-requires add-end mul-fill-row (λ c. search needs) (λ c. search needs)
-    part-fill-row-end fill-row-requires add-k loop-less loop-again (λ c κs. search needs) same-length same-length-2 returns)
+    Inv-loop μ-loop (λ c. search needs) (λ c κs. search needs) ramp-cells-requires (λ c κs. search needs) loop-holds step-capacities-requires add-end
+    mul-fill-row (λ c. search needs) (λ c. search needs) part-fill-row-end fill-row-requires add-k loop-less loop-again (λ c κs. search needs) same-length
+    same-length-2 returns)

@@ -1,5 +1,6 @@
 -- `judging::judge` meets its contract. Each return, by the tests on the way to it. Assumes nothing.
-use mathlib.Core.Path.{_≡_, sym, ap, _∙_}
+use mathlib.Core.Path.{_≡_, refl, sym, ap, _∙_}
+use Rattle.numbers.specs.Tests.{never}
 use Rattle.road.specs.Refusals.{refusalNumber}
 use Rattle.reading.specs.Reading.{studyBy, readAnswer}
 use Rattle.schedules.specs.Schedules.{endAnswer}
@@ -32,15 +33,6 @@ held : (c : tie.Else1) →
     Readable (a .bytes .now) (studyBy (a .bytes .now) (a .table .now) (x .road) (x .state) (x .steps))
 held c = let a = A (to-opened c) .args in opened-readable (a .bytes .now) (a .table .now) (to-opened c .opened .ensures) (opens c)
 
-opened-requires : tie.Need-opened-requires
-opened-requires c κs = search needs
-
-number-requires : tie.Need-number-requires
-number-requires c κs = search needs
-
-without-state-requires : tie.Need-without-state-requires
-without-state-requires c κs = search needs
-
 returns : tie.Need-returns
 returns c =
     let t = c .before in
@@ -55,9 +47,6 @@ add-if2 c = omega (arith, held (to-passed c) .ok .road .cells)
 mul-if2 : tie.Need-mul-if2
 mul-if2 c = omega (arith, held (to-passed c) .outflows)
 
-without-state-requires-2 : tie.Need-without-state-requires-2
-without-state-requires-2 c κs = search needs
-
 returns-2 : tie.Need-returns-2
 returns-2 c =
     let k = to-passed (c .before .before) in
@@ -66,25 +55,19 @@ returns-2 c =
     (ap endAnswer (c .without-state2 .ensures))
 
 judge-rows-requires : tie.Need-judge-rows-requires
-judge-rows-requires c κs = record { readable = held (to-passed (c .before)); right = omega arith }
+judge-rows-requires c κs =
+    record { readable = held (to-passed (c .before .before .before)); right = omega arith; long = λ e. absurd (never e refl) }
 
 returns-3 : tie.Need-returns-3
 returns-3 c =
-    let k = to-passed (c .before .before) in
+    let j = c .before .before in
+    let k = to-passed (j .before .before .before .before) in
     let a = A (to-opened k) .args in
-    answer-rows (a .bytes .now) (a .table .now) (a .schedule .now) (to-opened k .opened .ensures) (opens k) (search needs) (c .judge-rows .ensures)
+    answer-rows (a .bytes .now) (a .table .now) (a .schedule .now) (to-opened k .opened .ensures) (opens k) (search needs) (j .judge-rows .ensures .0)
 
 pub judge-spec : {M : Type 1} → statement M
 judge-spec =
     tie.close
     (tie.spec
-    opened-requires
-    number-requires
-    without-state-requires
-    returns
-    add-if2
-    mul-if2
-    without-state-requires-2
-    returns-2
-    judge-rows-requires
-    returns-3)
+    (λ c κs. search needs) (λ c κs. search needs) (λ c κs. search needs) returns add-if2 mul-if2 (λ c κs. search needs) returns-2
+    (λ c. search needs) (λ c. search needs) judge-rows-requires returns-3)

@@ -1,4 +1,5 @@
 -- `load::arrival` meets its contract. Assumes nothing.
+use mathlib.Core.Path.{refl}
 use native.Mathlib.Omega.{arith}
 use Rattle.load.specs.LoadLaws.{dividend-most}
 use borrow.Author.Needs.{needs}
@@ -11,9 +12,12 @@ mul-result c = omega (arith, dividend-most (c .args .number) (c .args .peak) (se
 cast-result-4 : tie.Need-cast-result-4
 cast-result-4 c = omega (arith, dividend-most (c .args .number) (c .args .peak) (search needs) (search needs))
 
+returns : tie.Need-returns
+returns c = refl
+
 pub arrival-spec : {M : Type 1} → statement M
 arrival-spec =
     tie.close
     (tie.spec
     (λ c. search needs) (λ c. search needs) (λ c. search needs) mul-result (λ c. search needs) (λ c. search needs) cast-result-4
-    (λ c. search needs))
+    returns)

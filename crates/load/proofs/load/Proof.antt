@@ -2,6 +2,7 @@
 use mathlib.Core.Path.{sym, ap, _∙_}
 use Rattle.load.specs.Load.{loaded}
 use Rattle.load.specs.LoadLaws.{refused-answer, refused-list, loaded-answer, loaded-list}
+use Rattle.load.specs.Theorems.{ended}
 use borrow.Author.Needs.{needs}
 use Rattle.load.proofs.load.Statement.{statement}
 use Rattle.load.proofs.load.Tie as tie
@@ -16,14 +17,17 @@ A c = c .before .before
 returns : tie.Need-returns
 returns c =
     let a = Refused c .args in
-    (sym (refused-answer (a .seed) (a .peak) (c .if1 .taken) _), sym (refused-list (a .seed) (a .peak) (c .if1 .taken) (a .list .now)))
+    ended (a .seed) (a .peak) (a .list .now)
+    (sym (refused-answer (a .seed) (a .peak) (c .if1 .taken) _)) (sym (refused-list (a .seed) (a .peak) (c .if1 .taken) (a .list .now)))
 
 returns-2 : tie.Need-returns-2
 returns-2 c =
     let e = c .before .before .before .before in
     let a = A e .args in
     let filled = c .before .before .fill .ensures in
-    (ap (loaded 0) (filled .0) ∙ sym (loaded-answer (a .seed) (a .peak) (e .if1 .left) _), filled .1 ∙ sym (loaded-list (a .seed) (a .peak) (e .if1 .left) (a .list .now)))
+    ended (a .seed) (a .peak) (a .list .now)
+    (ap (loaded 0) (filled .0) ∙ sym (loaded-answer (a .seed) (a .peak) (e .if1 .left) _))
+    (filled .1 ∙ sym (loaded-list (a .seed) (a .peak) (e .if1 .left) (a .list .now)))
 
 pub load-spec : {M : Type 1} → statement M
 load-spec = tie.close (tie.spec returns (λ c κs. search needs) (λ c. search needs) returns-2)

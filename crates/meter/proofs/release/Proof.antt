@@ -1,59 +1,32 @@
--- `meter::release` meets its contract. The invariant: the release lies between low and high. Assumes nothing.
-use Prim.Native.Nat.{_-_}
-use Rattle.numbers.specs.Halves.{Between, between-none, between-fits, between-above, between-end}
-use Rattle.meter.specs.Meter.{wholeBelow}
-use Rattle.meter.specs.MeterLaws.{whole-most, whole-greatest, whole-under}
+-- `meter::release` meets its contract. Assumes nothing.
+use mathlib.Core.Path.{_≡_, _∙_}
 use native.Mathlib.Omega.{arith}
 use borrow.Author.Needs.{needs}
+use Rattle.meter.specs.Meter.{wholeBelow}
+use Rattle.meter.specs.MeterLaws.{whole-most, whole-all, whole-none, whole-between, above-minus-one, below-cast}
 use Rattle.meter.proofs.release.Statement.{statement}
 use Rattle.meter.proofs.release.Tie as tie
 
-abbrev Inv-loop : tie.InvT-loop
-Inv-loop wish cap low₀ high₀ low high = Between (wholeBelow wish cap) cap low high
+returns : tie.Need-returns
+returns c = whole-all _ _ (omega arith) (c .if1 .taken)
 
-abbrev μ-loop : tie.MeasureT-loop
-μ-loop wish cap low₀ high₀ low high = high - low
+asked : tie.Need-truncating-f64-to-u64-requires
+asked c = λ _. (above-minus-one _ (c .if2 .taken), below-cast _ _ (omega arith) (c .before .if1 .left) (c .if2 .taken))
 
--- the loop's place, from where a turn's test has come out
-abbrev Fits : tie.Then1 Inv-loop μ-loop → tie.At-loop Inv-loop μ-loop
-Fits c = c .before .before .before
+-- the wish without its fraction is the release
+is : (c : tie.After-truncating-f64-to-u64) →
+    let a = c .before .before .before .before .args in
+    c .truncating-f64-to-u64 .result ≡ wholeBelow (a .wish) (a .cap)
+is c = c .truncating-f64-to-u64 .ensures ∙ whole-between _ _ (omega arith) (c .before .before .if1 .left) (c .before .if2 .taken)
 
-abbrev Above : tie.Else1 Inv-loop μ-loop → tie.At-loop Inv-loop μ-loop
-Above c = c .before .before .before
+cast-result : tie.Need-cast-result
+cast-result c = omega (arith, is c, whole-most (c .before .before .before .before .args .wish) (c .before .before .before .before .args .cap))
 
-loop-holds : tie.Need-loop-holds Inv-loop μ-loop
-loop-holds c = between-none (whole-most _ _)
+returns-2 : tie.Need-returns-2
+returns-2 c = is c
 
-sub-middle : tie.Need-sub-middle Inv-loop μ-loop
-sub-middle c = omega arith
-
-sub-middle-2 : tie.Need-sub-middle-2 Inv-loop μ-loop
-sub-middle-2 c = omega arith
-
-loop-less : tie.Need-loop-less Inv-loop μ-loop
-loop-less c = omega arith
-
-loop-again : tie.Need-loop-again Inv-loop μ-loop
-loop-again c =
-    let h = Fits c .loop .inv in
-    between-fits h (whole-greatest _ _ _ (omega arith) (omega (arith, h .within)) (omega arith) (c .if1 .taken))
-
-sub-high : tie.Need-sub-high Inv-loop μ-loop
-sub-high c = omega arith
-
-loop-less-2 : tie.Need-loop-less-2 Inv-loop μ-loop
-loop-less-2 c = omega arith
-
-loop-again-2 : tie.Need-loop-again-2 Inv-loop μ-loop
-loop-again-2 c =
-    let h = Above c .loop .inv in
-    between-above h (omega arith) (whole-under _ _ _ (omega arith) (omega (arith, h .within)) (omega arith) (c .if1 .left))
-
-returns : tie.Need-returns Inv-loop μ-loop
-returns c = between-end (c .before .loop .inv) (c .loop-test .left)
+returns-3 : tie.Need-returns-3
+returns-3 c = whole-none _ _ (c .if2 .left)
 
 pub release-spec : {M : Type 1} → statement M
-release-spec =
-    tie.close
-    (tie.spec
-    Inv-loop μ-loop loop-holds sub-middle sub-middle-2 (λ c. search needs) loop-less loop-again sub-high loop-less-2 loop-again-2 returns)
+release-spec = tie.close (tie.spec (λ c. search needs) returns asked cast-result returns-2 returns-3)

@@ -1,5 +1,5 @@
 -- `printing::last_lines` meets its contract. Each return, by the version's test. Assumes nothing.
-use Rattle.printing.specs.Lined.{time-fits, ends-timed, ends-untimed}
+use Rattle.printing.specs.Lines.{time-fits, ends-timed, ends-untimed}
 use borrow.Author.Needs.{needs}
 use Rattle.printing.proofs.last_lines.Statement.{statement}
 use Rattle.printing.proofs.last_lines.Tie as tie

@@ -4,7 +4,7 @@ use mathlib.Core.List.{[]}
 use Rattle.road.specs.Refusals.{refusalNumber}
 use Rattle.reading.specs.Reading.{studyBy, readAnswer}
 use Rattle.schedules.specs.Readable.{Readable, readable-open}
-use Rattle.printing.specs.Lined.{holds-refused, read-same, holds-read}
+use Rattle.printing.specs.Lines.{holds-refused, read-same, holds-read}
 use borrow.Author.Needs.{needs}
 use Rattle.printing.proofs.printed_within.Statement.{statement}
 use Rattle.printing.proofs.printed_within.Tie as tie

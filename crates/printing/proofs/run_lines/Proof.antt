@@ -1,225 +1,221 @@
--- `printing::run_lines` meets its contract. The invariant: k steps are made without a fault, their lines stand after the header, and the
--- arrays for a row and for rooms are long enough. Assumes nothing.
-use mathlib.Core.Path.{_≡_, refl, sym, ap, _∙_}
+-- `printing::run_lines` meets its contract. The invariant: k steps are made without a fault, their lines are after the header, and the
+-- arrays of the passes are kept. Assumes nothing.
+use mathlib.Core.Path.{_≡_, refl, sym, ap, subst, _∙_}
 use mathlib.Core.List.{List, []}
-use Prim.Native.Nat.{ℕ, _-_, _≤_}
-use lib.ListN.{length, take, length-take, length-replicate}
+use Prim.Native.Nat.{ℕ, _+_, _-_}
+use lib.ListN.{length}
 use lib.Seq.{length-take-le}
 use Rattle.road.specs.declared.Road.{Road}
 use Rattle.road.specs.declared.State.{State}
-use Rattle.road.specs.Refusals.{refusalNumber, faultAnswer}
+use Rattle.road.specs.Refusals.{refusalNumber}
 use Rattle.studies.specs.Study.{Study}
-use Rattle.fields.specs.Fields.{rowNumbers}
-use Rattle.fields.specs.FieldsLaws.{length-row}
+use Rattle.fields.specs.Fields.{recordRow}
 use Rattle.model.specs.Opened.{same-road}
-use Rattle.model.specs.Step.{releasesOf}
+use Rattle.columns.specs.declared.Ledger.{Ledger}
 use Rattle.columns.specs.Columns.{stateOf}
 use Rattle.reading.specs.Reading.{studyBy}
-use Rattle.running.specs.Ran.{RanTurn, releasable, ends-fault, steps-on}
+use Rattle.passes.specs.Step.{Arrays, Asks}
+use Rattle.running.specs.Arrays.{arrays-none}
+use Rattle.running.specs.Steps.{RanTurn, passes-ask, ends-fault}
 use Rattle.listing.specs.ListingLaws.{header-room}
-use Rattle.printing.specs.Lined.{Lined, lined-none, lined-more, lines-fit, line-fits, lines-end, holds-fault, holds-run}
+use Rattle.printing.specs.Printed.{printedRun}
+use Rattle.printing.specs.Lines.{Printable, Printed, Lined, lined-same, lined-none, lined-more, lines-fit, line-fits, lines-end, holds-fault, holds-run}
 use borrow.Author.Needs.{needs}
 use native.Mathlib.Omega.{arith}
 use Rattle.printing.proofs.run_lines.Statement.{statement}
 use Rattle.printing.proofs.run_lines.Tie as tie
 
 abbrev Inv-loop : tie.InvT-loop
-Inv-loop bytes steps buffer₀ r n numbers places held₀ queue₀ sent₀ l₀ row₀ room₀ end₀ k₀ buffer held queue sent l row room end k =
+Inv-loop bytes steps buffer₀ r _ _ cell ramps held₀ queue₀ sent₀ l₀ _ _ _ _ _ end₀ _
+    buffer held queue sent l rest room release waiting demand end k =
     Lined (studyBy bytes [] r (stateOf l₀ held₀ queue₀ sent₀) steps) buffer₀ end₀ buffer (stateOf l held queue sent) end k
-    × ((rowNumbers (r .n) ≤ length row) × (length room ≡ 64))
+    × Arrays r ramps cell sent rest room release waiting demand
 
 abbrev μ-loop : tie.MeasureT-loop
-μ-loop bytes steps buffer₀ r n numbers places held₀ queue₀ sent₀ l₀ row₀ room₀ end₀ k₀ buffer held queue sent l row room end k = steps - k
+μ-loop bytes steps buffer₀ r _ _ cell ramps held₀ queue₀ sent₀ l₀ _ _ _ _ _ end₀ _
+    buffer held queue sent l rest room release waiting demand end k =
+    steps - k
 
--- places of the code: the arguments from the header, that from the loop's place, the turn's start from its row, the row from the places
--- after it, the fault from the step's arguments, and the step made from the turn's end
-abbrev Begun : tie.After-header Inv-loop μ-loop → tie.Start Inv-loop μ-loop
-Begun c = let h = c .before .before .before .before in h .before .before .before
+-- places of the code: the arguments from the loop's place, a turn's start from its step, and the step from its test
+abbrev Header : tie.At-loop Inv-loop μ-loop → tie.After-header Inv-loop μ-loop
+Header c = c .before .before .before
 
-abbrev to-header : tie.At-loop Inv-loop μ-loop → tie.After-header Inv-loop μ-loop
-to-header c = c .before .before .before
+abbrev Opened : tie.After-header Inv-loop μ-loop → tie.After-of Inv-loop μ-loop
+Opened c = c .before .before
+
+abbrev Listing : tie.After-of Inv-loop μ-loop → tie.After-ramp-cells Inv-loop μ-loop
+Listing c = c .before .before .before .before
+
+abbrev Begun : tie.After-ramp-cells Inv-loop μ-loop → tie.Start Inv-loop μ-loop
+Begun c = c .before .before .before .before .before .before
 
 abbrev A : tie.At-loop Inv-loop μ-loop → tie.Start Inv-loop μ-loop
-A c = Begun (to-header c)
+A c = Begun (Listing (Opened (Header c)))
 
-abbrev In : tie.After-read-row Inv-loop μ-loop → tie.In-loop Inv-loop μ-loop
-In c = c .before .before
+abbrev Lent : tie.After-demand Inv-loop μ-loop → tie.In-loop Inv-loop μ-loop
+Lent c = let a = c .before .before .before .before .before in let b = a .before .before .before .before .before in b .before .before .before .before .before
 
-abbrev to-row : tie.After-queue2 Inv-loop μ-loop → tie.After-read-row Inv-loop μ-loop
-to-row c = let a = c .before .before .before in a .before .before .before
+abbrev Step : tie.After-step-lines Inv-loop μ-loop → tie.In-loop Inv-loop μ-loop
+Step c = Lent (c .before .before .before)
 
-abbrev Read : tie.After-number Inv-loop μ-loop → tie.After-read-row Inv-loop μ-loop
-Read c = to-row (c .before .before .before .before)
-
-abbrev to-passed : tie.After-cumulative2 Inv-loop μ-loop → tie.Else1 Inv-loop μ-loop
-to-passed c = let a = c .before .before .before in a .before .before .before .before
-
-abbrev to-lent : tie.After-step-lines Inv-loop μ-loop → tie.After-cumulative2 Inv-loop μ-loop
-to-lent c = let a = c .before .before in a .before .before .before
-
-abbrev Made : tie.After-l Inv-loop μ-loop → tie.After-step-lines Inv-loop μ-loop
-Made c = c .before .before .before .before
-
-abbrev to-turn : tie.After-l Inv-loop μ-loop → tie.After-number Inv-loop μ-loop
-to-turn c = to-passed (to-lent (Made c)) .before
+abbrev Made : tie.After-number Inv-loop μ-loop → tie.After-step-lines Inv-loop μ-loop
+Made c = c .before .before .before .before .before
 
 abbrev to-loop : tie.After-state Inv-loop μ-loop → tie.At-loop Inv-loop μ-loop
 to-loop c = c .before .before .before
 
--- the road, the study, the state that the columns are of, and the numbers of the row as they are lent
+-- the road; the study from the ledger that the loop starts with, which is the arguments'; and the state that the columns are of
 abbrev On : tie.Start Inv-loop μ-loop → Road
 On c = c .args .t2
 
-abbrev Of : tie.Start Inv-loop μ-loop → Study
-Of c = studyBy (c .args .bytes .now) [] (On c) (c .args .s) (c .args .steps)
+abbrev Of : tie.After-of Inv-loop μ-loop → Study
+Of c =
+    let b = Begun (Listing c) in
+    let s = b .args .s in
+    studyBy (b .args .bytes .now) [] (On b) (stateOf (c .of .result) (s .held) (s .queue) (s .cumulative)) (b .args .steps)
+
+begins : (c : tie.After-of Inv-loop μ-loop) →
+    let b = Begun (Listing c) in
+    Of c ≡ studyBy (b .args .bytes .now) [] (On b) (b .args .s) (b .args .steps)
+begins c =
+    let b = Begun (Listing c) in
+    let s = b .args .s in
+    ap (λ (l : Ledger). studyBy (b .args .bytes .now) [] (On b) (stateOf l (s .held) (s .queue) (s .cumulative)) (b .args .steps)) (c .of .ensures)
+
+printable : (c : tie.After-of Inv-loop μ-loop) → Printable (Begun (Listing c) .args .bytes .now) (Of c) (Begun (Listing c) .args .buffer .now)
+printable c =
+    let b = Begun (Listing c) in
+    subst (λ (a : Study). Printable (b .args .bytes .now) a (b .args .buffer .now)) (sym (begins c)) (b .pre)
+
+ends : (c : tie.After-of Inv-loop μ-loop) {after : List ℕ} {m : ℕ} →
+    let b = Begun (Listing c) in
+    Printed (b .args .buffer .now) (printedRun (Of c)) after m
+    → Printed (b .args .buffer .now) (printedRun (studyBy (b .args .bytes .now) [] (On b) (b .args .s) (b .args .steps))) after m
+ends c {after} {m} h = subst (λ (a : Study). Printed (Begun (Listing c) .args .buffer .now) (printedRun a) after m) (begins c) h
 
 abbrev Now : tie.At-loop Inv-loop μ-loop → State
 Now c = let p = c .loop in stateOf (p .l) (p .held) (p .queue) (p .cumulative)
 
-abbrev Row : tie.After-read-row Inv-loop μ-loop → List ℕ
-Row c = take (rowNumbers (On (A (In c .before)) .n)) (c .read-row .last .1 .1 .1 .0)
-
 -- what a turn knows
-turn : (c : tie.After-read-row Inv-loop μ-loop) →
-    let l = In c .before in
-    RanTurn (Of (A l)) (Now l) (l .loop .k) (On (A l)) (Row c)
+turn : (c : tie.In-loop Inv-loop μ-loop) →
+    let l = c .before in
+    RanTurn (Of (Opened (Header l))) (Now l) (l .loop .k) (On (A l)) (recordRow (A l .args .bytes .now) (On (A l) .n) (l .loop .k))
 turn c =
-    let l = In c .before in
+    let l = c .before in
+    let o = Opened (Header l) in
     record {
-      ok = A l .pre .readable .ok;
+      ok = printable o .readable .ok;
       ran = l .loop .inv .0 .ran;
-      left = In c .loop-test .taken;
-      road = same-road (Of (A l)) refl (l .loop .k);
-      numbers = c .read-row .ensures;
+      left = c .loop-test .taken;
+      road = same-road (Of o) refl (l .loop .k);
+      numbers = refl;
     }
 
-numbers : (c : tie.After-read-row Inv-loop μ-loop) → length (Row c) ≡ rowNumbers (On (A (In c .before)) .n)
-numbers c = let a = A (In c .before) in ap length (c .read-row .ensures) ∙ length-row (a .args .bytes .now) (On a .n) _
+-- what the step asks of its row
+asked : (c : tie.In-loop Inv-loop μ-loop) {y : List ℕ} →
+    let l = c .before in
+    let p = l .loop in
+    let r = Listing (Opened (Header l)) .ramp-cells in
+    length y ≡ On (A l) .n + 1
+    → Asks (A l .args .bytes .now) (p .k) (On (A l)) (Now l) (r .result) (r .last .1 .1 .0) (p .rest) (p .room) (p .release) (p .waiting) (p .demand) y
+asked c e =
+    let l = c .before in
+    passes-ask (turn c) (A l .pre .readable .row (l .loop .k) (c .loop-test .taken)) (l .loop .inv .1) e
 
-holds : (c : tie.After-read-row Inv-loop μ-loop) → rowNumbers (On (A (In c .before)) .n) ≤ length (c .read-row .last .1 .1 .1 .0)
-holds c =
-    let n = On (A (In c .before)) .n in
-    omega (arith, numbers c, length-take (rowNumbers n) (c .read-row .last .1 .1 .1 .0))
+-- what the test of its fault says
+faulty : (c : tie.Then1 Inv-loop μ-loop) → refusalNumber (Made (c .before) .step-lines .result .fault .refusal) ≡ 0 → ⊥
+faulty c z = c .if1 .taken (c .before .number .ensures ∙ z)
 
--- what the code finds of the releases, and that it finds no fault
-found : (c : tie.After-number Inv-loop μ-loop) →
-    let r = Read c in
-    faultAnswer (c .before .releases .result) ≡ releasesOf (On (A (In r .before))) (Now (In r .before)) (Row r)
-found c =
-    let l = In (Read c) .before in
-    c .before .releases .ensures .0 (On (A l)) (l .loop .l) (l .loop .cumulative)
+faultless : (c : tie.Else1 Inv-loop μ-loop) → refusalNumber (Made (c .before) .step-lines .result .fault .refusal) ≡ 0
+faultless c = sym (c .before .number .ensures) ∙ c .if1 .left
 
-passes : (c : tie.Else1 Inv-loop μ-loop) → refusalNumber (c .before .before .releases .result .refusal) ≡ 0
-passes c = sym (c .before .number .ensures) ∙ c .if1 .left
+ramp-cells-requires : tie.Need-ramp-cells-requires Inv-loop μ-loop
+ramp-cells-requires c κs = let b = c .before .before .before .before .before in (b .pre .readable .ok .road .cells, refl)
 
 loop-holds : tie.Need-loop-holds Inv-loop μ-loop
 loop-holds c =
     let h = c .before .before in
-    let p = Begun h .pre in
-    let z = header-room (Begun h .args .buffer .now) 0 _ _ (h .header .ensures) in (
-      lined-none (omega (arith, z .end)) (omega (arith, z .same, p .enough)),
-      (omega (arith, length-replicate {A = ℕ} 129 0, p .readable .ok .road .cells), length-replicate {A = ℕ} 64 0),
+    let o = Opened h in
+    let p = printable o in
+    let z = header-room (Begun (Listing o) .args .buffer .now) 0 _ _ (h .header .ensures) in
+    (lined-none (omega (arith, z .end)) (omega (arith, z .same, p .enough)), arrays-none (p .readable .ok) (Listing o .ramp-cells .ensures .0))
+
+array-borrow-prefix-y : tie.Need-array-borrow-prefix-y Inv-loop μ-loop
+array-borrow-prefix-y c = omega (arith, A (Lent c .before) .pre .readable .ok .road .cells)
+
+slice-aggregate-step-lines : tie.Need-slice-aggregate-step-lines Inv-loop μ-loop
+slice-aggregate-step-lines c = sym (length-take-le _ _ (omega (arith, A (Lent (c .before) .before) .pre .readable .ok .road .cells)))
+
+step-lines-requires : tie.Need-step-lines-requires Inv-loop μ-loop
+step-lines-requires c κs =
+    let i = Lent (c .before .before) in
+    let l = i .before in
+    let h = A l .pre .readable in (
+      record { road = On (A l); asks = asked i (length-take-le _ _ (omega (arith, h .ok .road .cells))) },
+      lines-fit (l .loop .inv .0) (h .outflows) (i .loop-test .taken),
     )
 
-read-row-requires : tie.Need-read-row-requires Inv-loop μ-loop
-read-row-requires c κs =
-    let i = c .before in
-    (A (i .before) .pre .readable .row (i .before .loop .k) (i .loop-test .taken), i .before .loop .inv .1 .0)
-
-array-share-prefix-row : tie.Need-array-share-prefix-row Inv-loop μ-loop
-array-share-prefix-row c = omega (arith, holds (to-row c))
-
-slice-aggregate-releases : tie.Need-slice-aggregate-releases Inv-loop μ-loop
-slice-aggregate-releases c = sym (numbers (to-row (c .before)))
-
-releases-requires : tie.Need-releases-requires Inv-loop μ-loop
-releases-requires c κs =
-    let r = to-row (c .before .before) in
-    let asked = releasable (turn r) in
-    (asked .0, (asked .1, In r .before .loop .inv .1 .1))
-
 refused-requires : tie.Need-refused-requires Inv-loop μ-loop
-refused-requires c κs = line-fits (In (Read (c .before .before)) .before .loop .inv .0)
+refused-requires c κs =
+    let d = c .before in
+    let m = Made (d .before) in
+    let i = Step m in
+    let l = i .before in
+    let put = m .step-lines .ensures (On (A l)) (asked i (length-take-le _ _ (omega (arith, A l .pre .readable .ok .road .cells)))) in
+    line-fits (lined-same (put .same (faulty d)) (l .loop .inv .0))
 
 returns : tie.Need-returns Inv-loop μ-loop
 returns c =
     let x = c .before .before in
-    let f = x .before .before .before in
-    let l = In (Read f) .before in
-    let h = header-room (A l .args .buffer .now) 0 _ _ (to-header l .header .ensures) in
-    holds-fault (l .loop .inv .0) (h .same) (ends-fault (turn (Read f)) (found f) (search needs) refl) (search needs)
-    (rw (f .number .ensures) at (x .refused .ensures))
-
-array-share-prefix-row-2 : tie.Need-array-share-prefix-row-2 Inv-loop μ-loop
-array-share-prefix-row-2 c = omega (arith, holds (Read (to-passed c .before)))
-
-slice-aggregate-step-lines : tie.Need-slice-aggregate-step-lines Inv-loop μ-loop
-slice-aggregate-step-lines c = sym (numbers (Read (to-passed (c .before) .before)))
-
-array-borrow-prefix-y : tie.Need-array-borrow-prefix-y Inv-loop μ-loop
-array-borrow-prefix-y c =
-    let l = In (Read (to-passed (c .before .before) .before)) .before in
-    omega (arith, A l .pre .readable .ok .road .cells)
-
-slice-aggregate-step-lines-2 : tie.Need-slice-aggregate-step-lines-2 Inv-loop μ-loop
-slice-aggregate-step-lines-2 c =
-    let l = In (Read (to-passed (c .before .before .before) .before)) .before in
-    sym (length-take-le _ _ (omega (arith, A l .pre .readable .ok .road .cells)))
-
-step-lines-requires : tie.Need-step-lines-requires Inv-loop μ-loop
-step-lines-requires c κs =
-    let b = c .before .before .before in
-    let p = to-passed (b .before) in
-    let f = p .before in
-    let i = In (Read f) in
+    let d = x .before .before in
+    let m = Made (d .before) in
+    let i = Step m in
     let l = i .before in
-    let a = A l in (
-      record {
-        road = On a;
-        steppable = steps-on (turn (Read f)) (found f) (passes p);
-        rooms = f .before .releases .ensures .1 .0 (On a) (l .loop .l) (l .loop .cumulative) (passes p);
-        places = length-take-le _ _ (omega (arith, a .pre .readable .ok .road .cells));
-      },
-      lines-fit (l .loop .inv .0) (a .pre .readable .outflows) (i .loop-test .taken),
-    )
+    let put = m .step-lines .ensures (On (A l)) (asked i (length-take-le _ _ (omega (arith, A l .pre .readable .ok .road .cells)))) in
+    let n = faulty d in
+    ends (Opened (Header l))
+    (holds-fault (Header l .header .ensures) (lined-same (put .same n) (l .loop .inv .0)) (A l .pre .readable .outflows) (i .loop-test .taken)
+    (ends-fault (turn i) (put .says) n refl) n
+    (rw (d .before .number .ensures) at (x .refused .ensures)))
+
+same-length : tie.Need-same-length Inv-loop μ-loop
+same-length c = returns c .holds .same
 
 add-k : tie.Need-add-k Inv-loop μ-loop
 add-k c =
-    let i = In (Read (to-turn c)) in
+    let i = Step (Made (c .before .before)) in
     omega (arith, i .loop-test .taken, A (i .before) .pre .readable .ok .steps)
 
 loop-less : tie.Need-loop-less Inv-loop μ-loop
-loop-less c = omega (arith, In (Read (to-turn c)) .loop-test .taken)
+loop-less c = omega (arith, Step (Made (c .before .before)) .loop-test .taken)
 
 loop-again : tie.Need-loop-again Inv-loop μ-loop
 loop-again c =
-    let m = Made c in
-    let p = to-passed (to-lent m) in
-    let f = p .before in
-    let r = Read f in
-    let l = In r .before in
-    let q = On (A l) in
-    let put = m .step-lines .ensures q (f .before .releases .ensures .1 .0 q (l .loop .l) (l .loop .cumulative) (passes p)) in
-    (lined-more (l .loop .inv .0) (turn r) (found f) (passes p) (put .state) refl (put .lines), (omega (arith, holds r), f .before .releases .ensures .1 .1))
+    let d = c .before in
+    let m = Made (d .before) in
+    let i = Step m in
+    let l = i .before in
+    let put = m .step-lines .ensures (On (A l)) (asked i (length-take-le _ _ (omega (arith, A l .pre .readable .ok .road .cells)))) in
+    let z = faultless d in
+    (lined-more (l .loop .inv .0) (turn i) (put .says) z (put .state z) refl (put .lines z), put .arrays z)
 
 last-lines-requires : tie.Need-last-lines-requires Inv-loop μ-loop
 last-lines-requires c κs =
     let l = to-loop c in
-    let h = A l .pre .readable in
+    let h = printable (Opened (Header l)) .readable in
     lines-end (l .loop .inv .0) (h .ok) (h .outflows) (h .seconds) (search needs) (c .state .ensures)
 
 returns-2 : tie.Need-returns-2 Inv-loop μ-loop
 returns-2 c =
     let x = c .before .before in
     let l = to-loop (x .before) in
-    holds-run (to-header l .header .ensures) (l .loop .inv .0) (search needs) (A l .pre .readable .outflows) (x .before .state .ensures)
-    (x .last-lines .ensures)
+    ends (Opened (Header l))
+    (holds-run (Header l .header .ensures) (l .loop .inv .0) (A l .pre .readable .outflows) (search needs) (x .before .state .ensures) (x .last-lines .ensures))
 
 pub run-lines-spec : {M : Type 1} → statement M
 run-lines-spec =
     tie.close
     (tie.spec
-    Inv-loop μ-loop (λ c. search needs) (λ c. search needs) (λ c. search needs) (λ c κs. search needs) loop-holds read-row-requires
-    array-share-prefix-row slice-aggregate-releases releases-requires (λ c κs. search needs) refused-requires (λ c. search needs) returns
-    array-share-prefix-row-2 slice-aggregate-step-lines array-borrow-prefix-y slice-aggregate-step-lines-2 step-lines-requires add-k loop-less
-    loop-again (λ c κs. search needs) last-lines-requires (λ c. search needs) returns-2)
+    Inv-loop μ-loop (λ c. search needs) ramp-cells-requires (λ c κs. search needs) (λ c κs. search needs) loop-holds array-borrow-prefix-y
+    slice-aggregate-step-lines step-lines-requires (λ c κs. search needs) refused-requires same-length returns add-k loop-less loop-again
+    (λ c κs. search needs) last-lines-requires (λ c. search needs) returns-2)

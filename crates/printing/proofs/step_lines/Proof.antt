@@ -1,40 +1,59 @@
 -- `printing::step_lines` meets its contract: the lines are those of the row that the step wrote. Assumes nothing.
-use mathlib.Core.Path.{ap, _∙_}
+use mathlib.Core.Path.{_≡_, sym, ap, _∙_}
 use native.Mathlib.Omega.{arith}
 use lib.ListN.{length}
 use Rattle.road.specs.declared.State.{State}
+use Rattle.road.specs.Refusals.{refusalNumber}
 use Rattle.model.specs.RulesLaws.{length-outflows}
 use Rattle.columns.specs.Columns.{stateOf}
-use Rattle.printing.specs.Lined.{step-put}
+use Rattle.printing.specs.Lines.{put-none, put-lines}
 use borrow.Author.Needs.{needs}
 use Rattle.printing.proofs.step_lines.Statement.{statement}
 use Rattle.printing.proofs.step_lines.Tie as tie
 
--- places of the code: the step from where its lines are asked for, and the arguments from the step
-abbrev Made : tie.After-lines-arg4 → tie.After-next
-Made c = c .before .before .before .before .before .before
+-- places of the code: the arguments from where the step is asked for, and the step from its test
+abbrev A : tie.After-step-arg9 → tie.Start
+A c = let a = c .before .before .before .before .before .before in a .before .before .before .before .before .before
 
-abbrev A : tie.After-next → tie.Start
-A c = let a = c .before .before .before .before in a .before .before .before .before
+abbrev Made : tie.After-number → tie.After-step
+Made c = c .before .before .before .before .before
 
 -- the state after the step, as the code has it
-abbrev After : tie.After-next → State
-After c = let p = c .next .last .1 .1 .1 .1 .1 .1 in stateOf (c .next .result) (p .0) (p .1 .0) (p .1 .1 .0)
+abbrev After : tie.After-step → State
+After c =
+    let p = c .step .last .1 .1 .1 .1 .1 .1 .1 .1 .1 .1 .1 .1 in
+    stateOf (c .step .result .ledger) (p .0) (p .1 .0) (p .1 .1 .0)
+
+faultless : (c : tie.Else1) → refusalNumber (Made (c .before) .step .result .fault .refusal) ≡ 0
+faultless c = sym (c .before .number .ensures) ∙ c .if1 .left
+
+step-requires : tie.Need-step-requires
+step-requires c κs = A c .pre .0
+
+returns : tie.Need-returns
+returns c r h =
+    let m = Made (c .before) in
+    let a = A (m .before) .args in
+    put-none (m .step .ensures r h) (λ z. c .if1 .taken (c .before .number .ensures ∙ z)) (a .buffer .now) (a .at)
 
 lines-requires : tie.Need-lines-requires
 lines-requires c κs =
-    let m = Made c in
-    let a = A m in
+    let d = c .before .before .before .before in
+    let m = Made (d .before) in
+    let a = A (m .before) in
     let p = a .pre .0 in
-    let e = m .next .ensures .1 (p .road) (p .rooms) in
-    (p .steppable .input .road .cells, (omega (arith, ap length e ∙ length-outflows _ _ _), a .pre .1))
+    let e = m .step .ensures (p .road) (p .asks) .outflows (faultless d) in
+    (p .asks .input .road .cells, (omega (arith, ap length e ∙ length-outflows _ _ _), a .pre .1))
 
-returns : tie.Need-returns
-returns c =
+returns-2 : tie.Need-returns-2
+returns-2 c r h =
     let l = c .before .before in
-    let m = Made (l .before) in
-    λ r rooms. step-put (m .next .ensures .0 r rooms) (m .next .ensures .1 r rooms) (l .lines .ensures (After m))
+    let d = l .before .before .before .before .before in
+    let m = Made (d .before) in
+    put-lines (m .step .ensures r h) (faultless d) (l .lines .ensures (After m))
 
 pub step-lines-spec : {M : Type 1} → statement M
 step-lines-spec =
-    tie.close (tie.spec (λ c κs. search needs) lines-requires (λ c. search needs) (λ c. search needs) returns)
+    tie.close
+    (tie.spec
+    step-requires (λ c κs. search needs) (λ c. search needs) returns lines-requires (λ c. search needs) (λ c. search needs) returns-2)

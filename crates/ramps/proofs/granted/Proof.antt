@@ -2,7 +2,7 @@
 use mathlib.Core.Path.{ap, _∙_}
 use lib.Ieee.{Float}
 use Rattle.meter.specs.Meter.{wholeBelow}
-use Rattle.ramps.specs.Granting.{no-ramp, with-ramp}
+use Rattle.ramps.specs.Grants.{no-ramp, with-ramp}
 use borrow.Author.Needs.{needs}
 use native.Mathlib.Omega.{arith}
 use Rattle.ramps.proofs.granted.Statement.{statement}

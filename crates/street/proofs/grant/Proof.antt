@@ -5,6 +5,7 @@ use lib.ListN.{length}
 use borrow.Author.Tests.{not-true, not-false}
 use Rattle.street.specs.Street.{askedOk}
 use Rattle.street.specs.StreetLaws.{asked-limits, refused-answer, refused-grants, granted-answer, granted-grants}
+use Rattle.street.specs.Theorems.{ended}
 use borrow.Author.Needs.{needs}
 use Rattle.street.proofs.grant.Statement.{statement}
 use Rattle.street.proofs.grant.Tie as tie
@@ -23,7 +24,8 @@ returns c =
     let a = A (c .before) .args in
     let n = sym (c .before .asked-within .ensures) ∙ not-true _ (c .if1 .taken) in
     let e = refused-answer (a .limit) (a .guarantees .now) (a .wishes .now) (a .grants .now) n in
-    (sym e, sym (refused-grants (a .limit) (a .guarantees .now) (a .wishes .now) (a .grants .now) n))
+    ended (a .limit) (a .guarantees .now) (a .wishes .now) (a .grants .now) (sym e)
+    (sym (refused-grants (a .limit) (a .guarantees .now) (a .wishes .now) (a .grants .now) n))
 
 share-requires : tie.Need-share-requires
 share-requires c κs =
@@ -34,10 +36,10 @@ share-requires c κs =
 returns-2 : tie.Need-returns-2
 returns-2 c =
     let e = c .before .before .before .before in
-    let a = A (e .before) .args in (
-      sym (granted-answer (a .limit) (a .guarantees .now) (a .wishes .now) (a .grants .now) (accepted e)),
-      c .before .before .share .ensures ∙ sym (granted-grants (a .limit) (a .guarantees .now) (a .wishes .now) (a .grants .now) (accepted e)),
-    )
+    let a = A (e .before) .args in
+    ended (a .limit) (a .guarantees .now) (a .wishes .now) (a .grants .now)
+    (sym (granted-answer (a .limit) (a .guarantees .now) (a .wishes .now) (a .grants .now) (accepted e)))
+    (c .before .before .share .ensures ∙ sym (granted-grants (a .limit) (a .guarantees .now) (a .wishes .now) (a .grants .now) (accepted e)))
 
 pub grant-spec : {M : Type 1} → statement M
 grant-spec =

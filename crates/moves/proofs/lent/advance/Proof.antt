@@ -1,52 +1,47 @@
--- `moves::lent::advance` meets its contract. The invariant: the gate and the first i cells are moved. Assumes nothing.
+-- `moves::lent::advance` meets its contract. The invariant: the gate and the first i cells are moved, and what these then hold and what
+-- waits at their ramps is added. Assumes nothing.
 use mathlib.Core.Path.{_≡_}
-use Prim.Native.Nat.{_+_, _-_}
+use Prim.Native.Nat.{_+_, _-_, _≤_, _<_}
+use lib.ListN.{length}
+use Rattle.rows.specs.SumLaws.{Summed, summed-none, summed-more}
 use Rattle.road.specs.declared.Road.{Road}
+use Rattle.road.specs.Road.{mostCells}
 use Rattle.numbers.specs.Lists.{at}
 use Rattle.moves.specs.Asked.{Moved, moved-none, moved-end, Gate, gate, Turn, turn, Countable}
 use Rattle.columns.specs.Columns.{sharing, gated, stateOf}
-use Rattle.moves.specs.Lent.{held-there, queue-there, cumulative-there, moved-there, counted-there, countable}
+use Rattle.moves.specs.Lent.{held-there, queue-there, cumulative-there, long-there, moved-there, counted-there, countable}
 use borrow.Author.Needs.{needs}
 use native.Mathlib.Omega.{arith}
 use Rattle.moves.proofs.lent.advance.Statement.{statement}
 use Rattle.moves.proofs.lent.advance.Tie as tie
 
 abbrev Inv-loop : tie.InvT-loop
-Inv-loop n share l held₀ queue₀ cumulative₀ row y first waiting entering₀ i₀ held queue cumulative entering i =
-    (r : Road) → Moved (sharing r n share) (stateOf l held₀ queue₀ cumulative₀) row y
-    (stateOf (gated l waiting (l .«gate_cumulative» + first)) held queue cumulative) entering i
+Inv-loop n share l held₀ queue₀ cumulative₀ row y first waiting entering₀ on-road₀ at-ramps₀ i₀ held queue cumulative entering on-road at-ramps i =
+    ((r : Road) → Moved (sharing r n share) (stateOf l held₀ queue₀ cumulative₀) row y
+    (stateOf (gated l waiting (l .«gate_cumulative» + first)) held queue cumulative) entering i)
+    × (Summed held on-road i × Summed queue at-ramps i)
 
 abbrev μ-loop : tie.MeasureT-loop
-μ-loop n share l held₀ queue₀ cumulative₀ row y first waiting entering₀ i₀ held queue cumulative entering i = n - i
+μ-loop n share l held₀ queue₀ cumulative₀ row y first waiting entering₀ on-road₀ at-ramps₀ i₀ held queue cumulative entering on-road at-ramps i = n - i
 
--- the arguments, from the gate's move and from the loop's place, and a turn's start from its stores: of held, of the queue, of F
+-- the arguments, from the gate's move and from the loop's place; a turn's start from what the cell holds, from what waits, from both and from the sums
 abbrev A-gate : tie.After-struct-known Inv-loop μ-loop → tie.Start Inv-loop μ-loop
 A-gate c = c .before .before .before .before .before
 
 abbrev A : tie.At-loop Inv-loop μ-loop → tie.Start Inv-loop μ-loop
 A c = A-gate (c .before .before)
 
-abbrev Held : tie.After-held Inv-loop μ-loop → tie.In-loop Inv-loop μ-loop
-Held c = c .before .before .before .before
+abbrev Holds : tie.After-holds Inv-loop μ-loop → tie.In-loop Inv-loop μ-loop
+Holds c = c .before .before .before .before
 
-abbrev Queue : tie.After-queue Inv-loop μ-loop → tie.In-loop Inv-loop μ-loop
-Queue c = Held (c .before)
+abbrev Waits : tie.After-waits Inv-loop μ-loop → tie.In-loop Inv-loop μ-loop
+Waits c = Holds (c .before)
 
-abbrev Cumulative : tie.After-shared-slice-known7 Inv-loop μ-loop → tie.In-loop Inv-loop μ-loop
-Cumulative c = Queue (c .before)
+abbrev Both : tie.After-shared-slice-known7 Inv-loop μ-loop → tie.In-loop Inv-loop μ-loop
+Both c = Waits (c .before)
 
-abbrev Turn-end : tie.After-entering2 Inv-loop μ-loop → tie.In-loop Inv-loop μ-loop
-Turn-end c = Cumulative (c .before .before)
-
--- the loop's end and the two sums, from the second sum and from what waits at the gate
-abbrev End : tie.After-first-sum2 Inv-loop μ-loop → tie.After-loop Inv-loop μ-loop
-End c = c .before .before .before .before .before .before
-
-abbrev On-road : tie.After-first-sum2 Inv-loop μ-loop → tie.After-first-sum Inv-loop μ-loop
-On-road c = c .before .before .before
-
-abbrev Sums : tie.After-wide Inv-loop μ-loop → tie.After-first-sum2 Inv-loop μ-loop
-Sums c = c .before .before
+abbrev Sums : tie.After-wide2 Inv-loop μ-loop → tie.In-loop Inv-loop μ-loop
+Sums c = Both (c .before .before)
 
 -- what the gate's move and a turn of the loop know of their numbers
 known-gate : (c : tie.After-struct-known Inv-loop μ-loop) →
@@ -59,19 +54,19 @@ known : (c : tie.In-loop Inv-loop μ-loop) →
     let a = A p .args in
     Turn (sharing (A p .pre .road) (a .n) (a .share .now)) (stateOf (a .l) (a .held .now) (a .queue .now) (a .cumulative .now)) (a .row .now) (a .y .now)
     (p .loop .i) (p .loop .entering)
-known c = let p = c .before in turn (A p .pre .movable) (p .loop .inv (A p .pre .road)) (c .loop-test .taken)
+known c = let p = c .before in turn (A p .pre .movable) (p .loop .inv .0 (A p .pre .road)) (c .loop-test .taken)
 
 -- the cell at i is not yet moved
 held-here : (c : tie.In-loop Inv-loop μ-loop) → let p = c .before in at (p .loop .held) (p .loop .i) ≡ at (A p .args .held .now) (p .loop .i)
-held-here c = let p = c .before in held-there (p .loop .inv (A p .pre .road))
+held-here c = let p = c .before in held-there (p .loop .inv .0 (A p .pre .road))
 
 queue-here : (c : tie.In-loop Inv-loop μ-loop) → let p = c .before in at (p .loop .queue) (p .loop .i) ≡ at (A p .args .queue .now) (p .loop .i)
-queue-here c = let p = c .before in queue-there (p .loop .inv (A p .pre .road))
+queue-here c = let p = c .before in queue-there (p .loop .inv .0 (A p .pre .road))
 
 cumulative-here : (c : tie.In-loop Inv-loop μ-loop) →
     let p = c .before in
     at (p .loop .cumulative) (p .loop .i) ≡ at (A p .args .cumulative .now) (p .loop .i)
-cumulative-here c = let p = c .before in cumulative-there (p .loop .inv (A p .pre .road))
+cumulative-here c = let p = c .before in cumulative-there (p .loop .inv .0 (A p .pre .road))
 
 -- counting asks nothing more when all cells are moved
 counts : (c : tie.After-loop Inv-loop μ-loop) →
@@ -83,7 +78,14 @@ counts : (c : tie.After-loop Inv-loop μ-loop) →
 counts c =
     let p = c .before in
     let k = A p .pre in
-    countable (k .movable) (k .left) (moved-end (p .loop .inv (k .road)) (c .loop-test .left))
+    countable (k .movable) (k .left) (moved-end (p .loop .inv .0 (k .road)) (c .loop-test .left))
+
+-- the columns have an entry for the cell at i
+long : (c : tie.In-loop Inv-loop μ-loop) → let p = c .before .loop in (p .i < length (p .held)) × (p .i < length (p .queue))
+long c = let k = A (c .before) .pre in long-there (c .before .loop .inv .0 (k .road)) (k .movable .sized) (c .loop-test .taken)
+
+cells : (c : tie.After-loop Inv-loop μ-loop) → c .before .loop .i ≤ mostCells
+cells c = let k = A (c .before) .pre in omega (arith, c .before .loop .inv .0 (k .road) .within, k .movable .input .road .cells)
 
 add-waiting : tie.Need-add-waiting Inv-loop μ-loop
 add-waiting c = omega (arith, known-gate c)
@@ -92,55 +94,75 @@ sub-waiting : tie.Need-sub-waiting Inv-loop μ-loop
 sub-waiting c = omega (arith, known-gate c)
 
 loop-holds : tie.Need-loop-holds Inv-loop μ-loop
-loop-holds c = λ r. moved-none (c .entering .ensures)
+loop-holds c = (λ r. moved-none (c .entering .ensures), (summed-none, summed-none))
 
-cast-held : tie.Need-cast-held Inv-loop μ-loop
-cast-held c = omega (arith, known (Held c))
+cast-holds : tie.Need-cast-holds Inv-loop μ-loop
+cast-holds c = omega (arith, known (Holds c))
 
-add-held : tie.Need-add-held Inv-loop μ-loop
-add-held c = omega (arith, known (Held c), held-here (Held c))
+add-holds : tie.Need-add-holds Inv-loop μ-loop
+add-holds c = omega (arith, known (Holds c), held-here (Holds c))
 
-add-held-2 : tie.Need-add-held-2 Inv-loop μ-loop
-add-held-2 c = omega (arith, known (Held c), held-here (Held c))
+add-holds-2 : tie.Need-add-holds-2 Inv-loop μ-loop
+add-holds-2 c = omega (arith, known (Holds c), held-here (Holds c))
 
-sub-held : tie.Need-sub-held Inv-loop μ-loop
-sub-held c = omega (arith, known (Held c), held-here (Held c))
+sub-holds : tie.Need-sub-holds Inv-loop μ-loop
+sub-holds c = omega (arith, known (Holds c), held-here (Holds c))
 
-add-queue : tie.Need-add-queue Inv-loop μ-loop
-add-queue c = omega (arith, known (Queue c))
+add-waits : tie.Need-add-waits Inv-loop μ-loop
+add-waits c = omega (arith, known (Waits c))
 
-add-queue-2 : tie.Need-add-queue-2 Inv-loop μ-loop
-add-queue-2 c = omega (arith, known (Cumulative c), queue-here (Cumulative c))
+add-waits-2 : tie.Need-add-waits-2 Inv-loop μ-loop
+add-waits-2 c = omega (arith, known (Both c), queue-here (Both c))
 
-sub-queue : tie.Need-sub-queue Inv-loop μ-loop
-sub-queue c = omega (arith, known (Cumulative c), queue-here (Cumulative c))
+sub-waits : tie.Need-sub-waits Inv-loop μ-loop
+sub-waits c = omega (arith, known (Both c), queue-here (Both c))
 
 add-cumulative : tie.Need-add-cumulative Inv-loop μ-loop
-add-cumulative c = omega (arith, known (Cumulative c), cumulative-here (Cumulative c))
+add-cumulative c = omega (arith, known (Both c), cumulative-here (Both c))
+
+add-on-road : tie.Need-add-on-road Inv-loop μ-loop
+add-on-road c =
+    let t = Both (c .before) in
+    omega (arith, known t, held-here t, t .before .loop .inv .1 .0 .fits, c .wide .ensures)
+
+add-at-ramps : tie.Need-add-at-ramps Inv-loop μ-loop
+add-at-ramps c =
+    let t = Sums c in
+    omega (arith, known t, queue-here t, t .before .loop .inv .1 .1 .fits, c .wide2 .ensures)
 
 loop-again : tie.Need-loop-again Inv-loop μ-loop
-loop-again c = let t = Turn-end c in λ r. moved-there (t .before .loop .inv r) (t .loop-test .taken) (c .entering2 .ensures)
+loop-again c =
+    let w = c .before .before in
+    let t = Sums w in
+    let p = t .before .loop .inv in (
+      λ r. moved-there (p .0 r) (t .loop-test .taken) (c .entering2 .ensures),
+      (
+        summed-more (p .1 .0) (long t .0) (w .before .wide .ensures) (omega (arith, known t, held-here t)),
+        summed-more (p .1 .1) (long t .1) (w .wide2 .ensures) (omega (arith, known t, queue-here t)),
+      ),
+    )
+
+add-t52 : tie.Need-add-t52 Inv-loop μ-loop
+add-t52 c = omega (arith, counts (c .before))
+
+add-t54 : tie.Need-add-t54 Inv-loop μ-loop
+add-t54 c = let w = c .before in omega (arith, counts (w .before .before), w .wide3 .ensures)
 
 add-t55 : tie.Need-add-t55 Inv-loop μ-loop
-add-t55 c = omega (arith, counts (End (c .before)))
+add-t55 c = let e = c .before .before .before .before in omega (arith, counts e, cells e, e .before .loop .inv .1 .0 .fits)
 
-add-t57 : tie.Need-add-t57 Inv-loop μ-loop
-add-t57 c = let w = c .before in omega (arith, counts (End (Sums w)), w .wide .ensures)
+add-t56 : tie.Need-add-t56 Inv-loop μ-loop
+add-t56 c = let e = c .before .before .before .before .before in omega (arith, counts e, cells e, e .before .loop .inv .1 .1 .fits)
 
-add-t58 : tie.Need-add-t58 Inv-loop μ-loop
-add-t58 c = let w = Sums (c .before .before) in omega (arith, counts (End w), On-road w .first-sum .ensures .0)
-
-add-t59 : tie.Need-add-t59 Inv-loop μ-loop
-add-t59 c = let w = Sums (c .before .before .before) in omega (arith, counts (End w), w .first-sum2 .ensures .0)
-
-add-t19 : tie.Need-add-t19 Inv-loop μ-loop
-add-t19 c = let w = Sums (c .before .before .before .before) in omega (arith, known-gate (End w .before .before .before))
+add-t21 : tie.Need-add-t21 Inv-loop μ-loop
+add-t21 c = let e = c .before .before .before .before .before .before in omega (arith, known-gate (e .before .before .before))
 
 returns : tie.Need-returns Inv-loop μ-loop
 returns c =
     let w = c .before .before .before .before in
-    let s = Sums w in
-    λ r. counted-there (End s .before .loop .inv r) (End s .loop-test .left) (w .wide .ensures) (On-road s .first-sum .ensures .0) (s .first-sum2 .ensures .0)
+    let e = w .before .before in
+    let p = e .before .loop .inv in
+    λ r. counted-there (p .0 r) (e .loop-test .left) (w .wide3 .ensures) (p .1 .0) (p .1 .1)
 
 pub advance-spec : {M : Type 1} → statement M
 advance-spec =
@@ -148,8 +170,8 @@ advance-spec =
     (tie.spec
     Inv-loop μ-loop (λ c. search needs) (λ c. search needs) add-waiting sub-waiting (λ c κs. search needs) loop-holds (λ c. search needs)
     (λ c. search needs) (λ c. search needs) (λ c. search needs) (λ c. search needs) (λ c. search needs) (λ c. search needs) (λ c. search needs)
-    (λ c. search needs) (λ c. search needs) (λ c. search needs) cast-held add-held add-held-2 sub-held (λ c. search needs) (λ c. search needs)
-    (λ c. search needs) (λ c. search needs) (λ c. search needs) add-queue (λ c. search needs) (λ c. search needs) add-queue-2 sub-queue
-    (λ c. search needs) (λ c. search needs) add-cumulative (λ c. search needs) (λ c. search needs) (λ c. search needs) (λ c. search needs)
-    (λ c κs. search needs) (λ c. search needs) (λ c. search needs) loop-again (λ c κs. search needs) (λ c κs. search needs) add-t55
-    (λ c κs. search needs) add-t57 add-t58 add-t59 add-t19 returns)
+    (λ c. search needs) (λ c. search needs) (λ c. search needs) cast-holds add-holds add-holds-2 sub-holds (λ c. search needs) (λ c. search needs)
+    (λ c. search needs) add-waits (λ c. search needs) (λ c. search needs) add-waits-2 sub-waits (λ c. search needs) (λ c. search needs)
+    (λ c. search needs) (λ c. search needs) add-cumulative (λ c. search needs) (λ c. search needs) (λ c κs. search needs) add-on-road
+    (λ c κs. search needs) add-at-ramps (λ c. search needs) (λ c. search needs) (λ c κs. search needs) (λ c. search needs) (λ c. search needs)
+    loop-again add-t52 (λ c κs. search needs) add-t54 add-t55 add-t56 add-t21 returns)

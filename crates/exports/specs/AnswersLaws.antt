@@ -1,0 +1,55 @@
+-- Laws of what C is answered: a struct that the code makes of a refusal's number and an answer's other parts, and that it settles the answer.
+-- Assumes nothing.
+use mathlib.Core.Path.{_≡_, refl, ap, _∙_}
+use mathlib.Core.List.{List}
+use Prim.Native.Nat.{ℕ}
+use native.Mathlib.Omega.{arith}
+use Rattle.road.specs.declared.Fault.{Fault}
+use Rattle.road.specs.declared.Stepped.{Stepped}
+use Rattle.road.specs.declared.Written.{Written}
+use Rattle.road.specs.declared.Loaded.{Loaded}
+use Rattle.road.specs.Refusals.{refusalNumber, FaultAnswer, faultAnswer}
+use Rattle.load.specs.Load.{LoadAnswer, loadAnswer}
+use Rattle.wanted.specs.Wanted.{WantedAnswer}
+use Rattle.wanted.specs.Theorems.{Ends}
+use Rattle.model.specs.Step.{Answer}
+use Rattle.stepping.specs.StepAnswers.{stepAnswer}
+use Rattle.writing.specs.Writing.{WriteAnswer, writeAnswer}
+use Rattle.exports.specs.declared.NobyalukStepped.{NobyalukStepped}
+use Rattle.exports.specs.declared.NobyalukWritten.{NobyalukWritten}
+use Rattle.exports.specs.declared.NobyalukLoaded.{NobyalukLoaded}
+use Rattle.exports.specs.declared.NobyalukWanted.{NobyalukWanted}
+use Rattle.exports.specs.declared.NobyalukReleased.{NobyalukReleased}
+use Rattle.exports.specs.Answers.{steppedFor, writtenFor, loadedFor, wantedFor, releasedFor}
+
+-- of writing and joining
+pub written-is : (w : Written) {number : ℕ} {a : WriteAnswer} → number ≡ refusalNumber (w .refusal) → writeAnswer w ≡ a
+    → _≡_ {A = NobyalukWritten} (record { number = number; place = w .place; count = w .count }) (writtenFor a)
+written-is w n e = ap (λ (k : ℕ). record { number = k; place = w .place; count = w .count }) n ∙ ap writtenFor e
+
+pub released-is : (q : Fault) {number : ℕ} {a : FaultAnswer} → number ≡ refusalNumber (q .refusal) → faultAnswer q ≡ a
+    → _≡_ {A = NobyalukReleased} (record { number = number; place = q .place }) (releasedFor a)
+released-is q n e = ap (λ (k : ℕ). record { number = k; place = q .place }) n ∙ ap releasedFor e
+
+pub loaded-is : (x : Loaded) {number : ℕ} {a : LoadAnswer} → number ≡ refusalNumber (x .refusal) → loadAnswer x ≡ a
+    → _≡_ {A = NobyalukLoaded} (record { number = number; last = x .last }) (loadedFor a)
+loaded-is x n e = ap (λ (k : ℕ). record { number = k; last = x .last }) n ∙ ap loadedFor e
+
+pub stepped-is : (x : Stepped) {number : ℕ} {a : Answer} → number ≡ refusalNumber (x .refusal) → stepAnswer x ≡ a
+    → _≡_ {A = NobyalukStepped} (record { number = number; place = x .place; state = x .state }) (steppedFor a)
+stepped-is x n e = ap (λ (k : ℕ). record { number = k; place = x .place; state = x .state }) n ∙ ap steppedFor e
+
+-- What C is answered settles the operation's answer: `readingFor`, `endedFor`, `writtenFor`, `loadedFor` and `releasedFor` keep every part of it, and
+-- `steppedFor` leaves out the step, which is always 0. `wantedFor` leaves out whether there was a search, which the other parts settle:
+-- of two searches, whatever was asked of each, none, a table found and 23 differ
+pub wanted-apart : {s c r z d q : ℕ} {arrivals table comes lent : List ℕ} {a b : WantedAnswer} {left kept : List ℕ} → Ends s c r arrivals table a left
+    → Ends z d q comes lent b kept → wantedFor a ≡ wantedFor b → a ≡ b
+wanted-apart (Ends.refused h) (Ends.refused k) e = refl
+wanted-apart (Ends.refused h) (Ends.none q k) e = absurd (let n = ap (λ (x : NobyalukWanted). x .number) e in omega arith)
+wanted-apart (Ends.refused h) (Ends.found q k) e = absurd (let n = ap (λ (x : NobyalukWanted). x .number) e in omega arith)
+wanted-apart (Ends.none p h) (Ends.refused k) e = absurd (let n = ap (λ (x : NobyalukWanted). x .number) e in omega arith)
+wanted-apart (Ends.none p h) (Ends.none q k) e = refl
+wanted-apart (Ends.none p h) (Ends.found q k) e = absurd (let n = ap (λ (x : NobyalukWanted). x .found) e in omega arith)
+wanted-apart (Ends.found p h) (Ends.refused k) e = absurd (let n = ap (λ (x : NobyalukWanted). x .number) e in omega arith)
+wanted-apart (Ends.found p h) (Ends.none q k) e = absurd (let n = ap (λ (x : NobyalukWanted). x .found) e in omega arith)
+wanted-apart (Ends.found p h) (Ends.found q k) e = refl

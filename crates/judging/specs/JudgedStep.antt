@@ -1,0 +1,48 @@
+-- One step of a schedule, judged and made: what it asks, and what holds after it. Assumes nothing.
+use mathlib.Core.Path.{_≡_, sym, _∙_}
+use mathlib.Core.List.{List}
+use Prim.Native.Nat.{ℕ, _+_, _<_}
+use lib.ListN.{length}
+use Rattle.road.specs.Refusals.{FaultAnswer}
+use Rattle.road.specs.Road.{mostCells, mostSteps}
+use Rattle.road.specs.declared.Road.{Road}
+use Rattle.road.specs.declared.State.{State}
+use Rattle.limits.specs.LimitsLaws.{InputOk}
+use Rattle.model.specs.Move.{nextOf}
+use Rattle.model.specs.Rules.{Sized}
+use Rattle.model.specs.StepLaws.{number-of}
+use Rattle.model.specs.Verdict.{verdictOf}
+use Rattle.model.specs.VerdictLaws.{verdict-obeys}
+use Rattle.columns.specs.Columns.{roadOf}
+use Rattle.moves.specs.Asked.{Movable}
+use Rattle.verdict.specs.Proposed.{Proposed}
+
+-- it asks that on some road with these columns all is within the limits, that steps are left, and that the rows are whole
+pub record Judges (n gate : ℕ) (speed wave share jam capacity : List ℕ) (s : State) (row room y : List ℕ) : Type 0 where
+  pub road : Road
+  pub input : InputOk (roadOf road n gate speed wave share jam capacity) s row
+  pub sized : Sized (roadOf road n gate speed wave share jam capacity) s
+  pub left : s .done < mostSteps
+  pub places : length y ≡ n + 1
+  pub rooms : length room ≡ mostCells
+
+module _ {n gate : ℕ} {speed wave share jam capacity : List ℕ} {s : State} {row room y : List ℕ}
+    (h : Judges n gate speed wave share jam capacity s row room y) where
+  pub proposed : Proposed n row y
+  proposed = record { cells = h .input .road .cells; numbers = h .input .row .numbers; places = h .places }
+
+  -- a row without a fault may be moved by
+  pub movable : {f : FaultAnswer} → f ≡ verdictOf (roadOf (h .road) n gate speed wave share jam capacity) s row y → f .number ≡ 0
+      → Movable (roadOf (h .road) n gate speed wave share jam capacity) s row y
+  movable e z = record {
+    input = h .input;
+    sized = h .sized;
+    places = h .places;
+    obeys = verdict-obeys (roadOf (h .road) n gate speed wave share jam capacity) s row y (sym (number-of e) ∙ z);
+  }
+
+-- what is found of it, and the state t after it: the one before it where there is a fault
+pub record JudgedStep (q : Road) (s : State) (row y : List ℕ) (f : FaultAnswer) (t : State) : Type 0 where
+  pub found : f ≡ verdictOf q s row y
+  pub moved : f .number ≡ 0 → t ≡ nextOf q s row y
+  pub kept : (f .number ≡ 0 → ⊥) → t ≡ s

@@ -1,0 +1,215 @@
+-- What the loop over the steps knows of the lent lists, and how history ends. Assumes nothing.
+use mathlib.Core.Path.{_≡_, refl, sym, ap, _∙_}
+use mathlib.Core.Bool.{Bool, true, false, cond}
+use mathlib.Core.List.{List, _++_, append-assoc}
+use Prim.Native.Nat.{ℕ, suc, _+_, _-_, _*_, _≤_, _<_}
+use native.Mathlib.Numerals.{add-one}
+use native.Mathlib.Omega.{arith}
+use lib.Dec.{eqb}
+use lib.ListN.{length, take, drop}
+use lib.Seq.{drop-drop}
+use borrow.Author.Tests.{eq-eqb, ne-eqb, le-leb, lt-leb}
+use Rattle.numbers.specs.FirstLaws.{faultless-stop, faultless-end}
+use Rattle.rows.specs.RowsLaws.{length-list}
+use Rattle.rows.specs.Placed.{placed, placed-there, length-placed}
+use Rattle.rows.specs.Tables.{frontOf}
+use Rattle.rows.specs.TablesLaws.{row-ends, front-more, front-none}
+use Rattle.road.specs.Refusals.{FaultAnswer}
+use Rattle.road.specs.declared.Road.{Road}
+use Rattle.road.specs.declared.State.{State}
+use Rattle.studies.specs.Study.{Study, places, tableSize}
+use Rattle.model.specs.StepLaws.{number-of}
+use Rattle.reading.specs.Reading.{ReadAnswer, readingOf, studyBy, studyOf}
+use Rattle.schedules.specs.Schedules.{scheduledAt, judgeSays, EndAnswer, ended, noState, stepsMade, openingOf, judgeEnd}
+use Rattle.schedules.specs.SchedulesLaws.{end-made}
+use Rattle.schedules.specs.Opening.{opened-reads}
+use Rattle.schedules.specs.Readable.{Readable}
+use Rattle.judging.specs.JudgedStep.{JudgedStep}
+use Rattle.judging.specs.Obeyed.{Obeyed, JudgeTurn, obeyed-none, obeyed-end, obeyed-more, says, ends-fault}
+use Rattle.judging.specs.History.{placesOf, heldRow, queueRow, heldTable, queueTable, passedSteps, heldEnd, queueEnd, historyOf, heldAfter, queueAfter}
+
+-- what judging step by step asks: a record that reads, a schedule of the right length and, where it writes states, lists long enough
+pub record Judgeable (bytes : List ℕ) (a : Study) (zs : List ℕ) (writes : Bool) (held queue : List ℕ) : Type 0 where
+  pub readable : Readable bytes a
+  pub right : length zs ≡ tableSize a
+  pub long : writes ≡ true → (tableSize a ≤ length held) × (tableSize a ≤ length queue)
+
+-- row k of a table lies within what bounds the table
+pub row-ends-by : (a : Study) (k most : ℕ) → tableSize a ≤ most → k < a .steps → k * places a + places a ≤ most
+row-ends-by a k most m l = omega (arith, row-ends k (a .steps) (places a) l)
+
+-- a lent list with k rows of w numbers in front, where states are written, and as long as before
+pub record Written (writes : Bool) (rows : ℕ → List ℕ) (w : ℕ) (list₀ list : List ℕ) (k : ℕ) : Type 0 where
+  pub rows-there : writes ≡ true → list ≡ frontOf rows w list₀ k
+  pub same : length list ≡ length list₀
+
+pub written-none : {writes : Bool} (rows : ℕ → List ℕ) (w : ℕ) (list : List ℕ) → Written writes rows w list list 0
+written-none rows w list = record { rows-there = λ e. sym (front-none rows w list); same = refl }
+
+length-cond : (b : Bool) (x y : List ℕ) → length x ≡ length y → length (cond b x y) ≡ length y
+length-cond true x y e = e
+length-cond false x y e = refl
+
+module _ {writes : Bool} (rows : ℕ → List ℕ) (w : ℕ) (wide : (k : ℕ) → length (rows k) ≡ w) {list₀ list : List ℕ} {k : ℕ} where
+  -- one more row
+  pub written-more : Written writes rows w list₀ list k → (writes ≡ true → k * w + w ≤ length list₀) → {next row : List ℕ} → row ≡ rows k
+      → next ≡ cond writes (placed list (k * w) row) list → Written writes rows w list₀ next (k + 1)
+  written-more h fits {next} {row} er e = record {
+    rows-there = λ on.
+        let size : length row ≡ w = ap length er ∙ wide k in
+        let left : k * w + w - k * w ≡ w = omega arith in
+        e
+        ∙ ap (λ (b : Bool). cond b (placed list (k * w) row) list) on
+        ∙ placed-there list (k * w) row (omega (arith, size, h .same, fits on))
+        ∙ append-assoc (take (k * w) list) row (drop (k * w + length row) list)
+        ∙ ap (λ (x : List ℕ). take (k * w) list ++ (row ++ x))
+        (ap (λ (j : ℕ). drop (k * w + j) list) size ∙ sym (drop-drop w (k * w) list) ∙ ap (λ (j : ℕ). drop j (drop (k * w) list)) (sym left))
+        ∙ front-more rows w wide list₀ k list row (k * w) (h .rows-there on) er refl;
+    same = ap length e ∙ length-cond writes (placed list (k * w) row) list (length-placed list (k * w) row) ∙ h .same;
+  }
+
+-- each row has a number for each place
+held-wide : (a : Study) (zs : List ℕ) (k : ℕ) → length (heldRow a zs k) ≡ places a
+held-wide a zs k = length-list _ (places a)
+
+queue-wide : (a : Study) (zs : List ℕ) (k : ℕ) → length (queueRow a zs k) ≡ places a
+queue-wide a zs k = length-list _ (places a)
+
+-- a schedule judged up to step k, with its states in the lists where they are written
+pub record JudgedTo (a : Study) (zs : List ℕ) (writes : Bool) (held₀ queue₀ held queue : List ℕ) (u : State) (k : ℕ) : Type 0 where
+  pub obeyed : Obeyed a zs u k
+  pub helds : Written writes (heldRow a zs) (places a) held₀ held k
+  pub queues : Written writes (queueRow a zs) (places a) queue₀ queue k
+
+-- the answer of judging and the lists at its end
+abbrev pub Ends : Study → List ℕ → Bool → List ℕ → List ℕ → EndAnswer → List ℕ → List ℕ → Type 0
+Ends a zs writes held₀ queue₀ e held queue =
+    (e ≡ judgeEnd a zs) × ((writes ≡ true → held ≡ heldEnd a zs held₀) × (writes ≡ true → queue ≡ queueEnd a zs queue₀))
+
+module _ {a : Study} {zs : List ℕ} {writes : Bool} {held₀ queue₀ : List ℕ} where
+  pub judged-none : JudgedTo a zs writes held₀ queue₀ held₀ queue₀ (a .start) 0
+  judged-none = record {
+    obeyed = obeyed-none;
+    helds = written-none (heldRow a zs) (places a) held₀;
+    queues = written-none (queueRow a zs) (places a) queue₀;
+  }
+
+  module _ {held queue : List ℕ} {u : State} {k : ℕ} (h : JudgedTo a zs writes held₀ queue₀ held queue u k) where
+    ends : {e : EndAnswer} → e ≡ judgeEnd a zs → k ≡ passedSteps a zs → Ends a zs writes held₀ queue₀ e held queue
+    ends g s = (
+      g,
+      (λ on. h .helds .rows-there on ∙ ap (heldTable a zs held₀) s, λ on. h .queues .rows-there on ∙ ap (queueTable a zs queue₀) s),
+    )
+
+    -- all steps are passed
+    pub judged-end : {e : EndAnswer} → a .steps ≤ k → e ≡ ended 0 0 0 (a .road) u → Ends a zs writes held₀ queue₀ e held queue
+    judged-end l g = ends (obeyed-end (h .obeyed) l g) (faultless-end (h .obeyed .faultless) l)
+
+    module _ {q : Road} {row y : List ℕ} (t : JudgeTurn a zs u k q row y) {f : FaultAnswer} {v : State} (j : JudgedStep q u row y f v) where
+      -- a fault leaves the rows before it
+      pub judged-fault : {e : EndAnswer} → (f .number ≡ 0 → ⊥) → e ≡ ended (f .number) k (f .place) (a .road) v
+          → Ends a zs writes held₀ queue₀ e held queue
+      judged-fault n g = ends (ends-fault t j n g) (faultless-stop (t .obeyed .faultless) (t .left) (number-of (says t j)) n)
+
+      -- without one, the state after the step is written too
+      pub judged-more : f .number ≡ 0 → (writes ≡ true → (tableSize a ≤ length held₀) × (tableSize a ≤ length queue₀)) → {held₁ queue₁ : List ℕ}
+          → held₁ ≡ cond writes (placed held (k * places a) (placesOf (v .«gate_queue») (v .held) (a .road .n))) held
+          → queue₁ ≡ cond writes (placed queue (k * places a) (placesOf 0 (v .queue) (a .road .n))) queue
+          → JudgedTo a zs writes held₀ queue₀ held₁ queue₁ v (k + 1)
+      judged-more z long eh eq =
+          let p = obeyed-more t j z in
+          let s : v ≡ scheduledAt a zs (suc k) = p .state ∙ ap (scheduledAt a zs) (add-one k) in
+          record {
+            obeyed = p;
+            helds =
+                written-more (heldRow a zs) (places a) (held-wide a zs) (h .helds) (λ on. row-ends-by a k (length held₀) (long on .0) (t .left))
+                (ap (λ (x : State). placesOf (x .«gate_queue») (x .held) (a .road .n)) s) eh;
+            queues =
+                written-more (queueRow a zs) (places a) (queue-wide a zs) (h .queues) (λ on. row-ends-by a k (length queue₀) (long on .1) (t .left))
+                (ap (λ (x : State). placesOf 0 (x .queue) (a .road .n)) s) eq;
+          }
+
+-- the answer and the lists afterwards
+abbrev pub Answered : List ℕ → List ℕ → List ℕ → List ℕ → List ℕ → EndAnswer → List ℕ → List ℕ → Type 0
+Answered bytes lanes zs held₀ queue₀ e held queue =
+    (e ≡ historyOf bytes lanes zs held₀ queue₀)
+    × ((held ≡ heldAfter bytes lanes zs held₀ queue₀) × (queue ≡ queueAfter bytes lanes zs held₀ queue₀))
+
+module _ (bytes lanes zs held₀ queue₀ : List ℕ) where
+  -- an answer that makes this many steps leaves these lists
+  made : {e : EndAnswer} {k : ℕ} → e ≡ historyOf bytes lanes zs held₀ queue₀ → stepsMade (studyOf bytes lanes) e ≡ k → {held queue : List ℕ}
+      → held ≡ heldTable (studyOf bytes lanes) zs held₀ k → queue ≡ queueTable (studyOf bytes lanes) zs queue₀ k
+      → Answered bytes lanes zs held₀ queue₀ e held queue
+  unfolding heldAfter queueAfter
+  made {e} {k} ee ek eh eq =
+      let m : k ≡ stepsMade (studyOf bytes lanes) (historyOf bytes lanes zs held₀ queue₀) = sym ek ∙ ap (stepsMade (studyOf bytes lanes)) ee in
+      (ee, (eh ∙ ap (heldTable (studyOf bytes lanes) zs held₀) m, eq ∙ ap (queueTable (studyOf bytes lanes) zs queue₀) m))
+
+  -- none where no step is named
+  none : {e : EndAnswer} → e ≡ historyOf bytes lanes zs held₀ queue₀ → stepsMade (studyOf bytes lanes) e ≡ 0
+      → Answered bytes lanes zs held₀ queue₀ e held₀ queue₀
+  none ee ek =
+      made ee ek
+      (sym (front-none (heldRow (studyOf bytes lanes) zs) (places (studyOf bytes lanes)) held₀))
+      (sym (front-none (queueRow (studyOf bytes lanes) zs) (places (studyOf bytes lanes)) queue₀))
+
+  module _ {x : ReadAnswer} (ex : x ≡ openingOf bytes lanes) where
+    pub history-unopened : {e : EndAnswer} → (x .number ≡ 0 → ⊥) → e ≡ noState (x .number) (x .place) → Answered bytes lanes zs held₀ queue₀ e held₀ queue₀
+    unfolding historyOf
+    history-unopened h ee =
+        let n : openingOf bytes lanes .number ≡ 0 → ⊥ = rw ex at h in
+        let o = ne-eqb (openingOf bytes lanes .number) 0 n in
+        none (rw (ee, ex, o)) (rw (ee, ne-eqb (x .number) 0 h) refl)
+
+    module _ (h : x .number ≡ 0) where
+      reads : x ≡ readingOf bytes
+      reads = opened-reads bytes lanes ex h
+
+      opens : eqb (openingOf bytes lanes .number) 0 ≡ true
+      opens = eq-eqb (openingOf bytes lanes .number) 0 (rw (← ex) h)
+
+      abbrev Of : Study
+      Of = studyBy bytes lanes (x .road) (x .state) (x .steps)
+
+      same : Of ≡ studyOf bytes lanes
+      same = ap (λ (z : ReadAnswer). studyBy bytes lanes (z .road) (z .state) (z .steps)) reads
+
+      pub history-length : {e : EndAnswer} → (length zs ≡ tableSize Of → ⊥) → e ≡ noState 12 0 → Answered bytes lanes zs held₀ queue₀ e held₀ queue₀
+      unfolding historyOf
+      history-length n ee =
+          let m : length zs ≡ tableSize (studyOf bytes lanes) → ⊥ = rw reads at n in
+          none (rw (ee, opens, ne-eqb (length zs) (tableSize (studyOf bytes lanes)) m)) (rw ee refl)
+
+      module _ (right : length zs ≡ tableSize Of) where
+        right-there : eqb (length zs) (tableSize (studyOf bytes lanes)) ≡ true
+        right-there = eq-eqb (length zs) (tableSize (studyOf bytes lanes)) (rw reads at right)
+
+        pub history-short-held : {e : EndAnswer} → length held₀ < tableSize Of → e ≡ noState 11 0 → Answered bytes lanes zs held₀ queue₀ e held₀ queue₀
+        unfolding historyOf
+        history-short-held l ee =
+            let m : length held₀ < tableSize (studyOf bytes lanes) = rw reads at l in
+            none (rw (ee, opens, right-there, lt-leb (tableSize (studyOf bytes lanes)) (length held₀) m)) (rw ee refl)
+
+        module _ (long : tableSize Of ≤ length held₀) where
+          held-there : tableSize (studyOf bytes lanes) ≤ length held₀
+          held-there = rw reads at long
+
+          pub history-short-queue : {e : EndAnswer} → length queue₀ < tableSize Of → e ≡ noState 11 0 → Answered bytes lanes zs held₀ queue₀ e held₀ queue₀
+          unfolding historyOf
+          history-short-queue l ee =
+              let m : length queue₀ < tableSize (studyOf bytes lanes) = rw reads at l in
+              none
+              (rw (ee, opens, right-there, le-leb (tableSize (studyOf bytes lanes)) (length held₀) held-there, lt-leb (tableSize (studyOf bytes lanes)) (length queue₀) m))
+              (rw ee refl)
+
+          pub history-rows : tableSize Of ≤ length queue₀ → {e : EndAnswer} {held queue : List ℕ} → e ≡ judgeEnd Of zs
+              → held ≡ heldEnd Of zs held₀ → queue ≡ queueEnd Of zs queue₀ → Answered bytes lanes zs held₀ queue₀ e held queue
+          unfolding historyOf
+          history-rows roomy {e} ee eh eq =
+              let m : tableSize (studyOf bytes lanes) ≤ length queue₀ = rw reads at roomy in
+              let there : e ≡ judgeEnd (studyOf bytes lanes) zs = rw reads at ee in
+              made
+              (rw (opens, right-there, le-leb (tableSize (studyOf bytes lanes)) (length held₀) held-there, le-leb (tableSize (studyOf bytes lanes)) (length queue₀) m) there)
+              (ap (stepsMade (studyOf bytes lanes)) there ∙ end-made (studyOf bytes lanes) (judgeSays (studyOf bytes lanes) zs) (scheduledAt (studyOf bytes lanes) zs))
+              (rw reads at eh)
+              (rw reads at eq)

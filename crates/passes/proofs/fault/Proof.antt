@@ -1,0 +1,39 @@
+-- `passes::fault` meets its contract: the row is read whole, and looked through cell by cell. Assumes nothing.
+use mathlib.Core.Path.{_≡_, sym, ap, _∙_}
+use Prim.Native.Nat.{_+_, _*_}
+use lib.ListN.{length, take, length-replicate}
+use Prim.Native.Nat.{ℕ}
+use Rattle.columns.specs.Columns.{supplying, stateOf}
+use Rattle.fields.specs.FieldsLaws.{length-row}
+use Rattle.model.specs.Step.{releasesOf}
+use borrow.Author.Needs.{needs}
+use Rattle.passes.proofs.fault.Statement.{statement}
+use Rattle.passes.proofs.fault.Tie as tie
+
+-- the arguments, from the row
+abbrev A : tie.After-row → tie.Start
+A c = c .before .before
+
+numbers : (c : tie.After-row) → length (take (1 + 2 * A c .args .n) (c .row .result)) ≡ 1 + 2 * A c .args .n
+numbers c = let a = A c .args in ap length (c .row .ensures) ∙ length-row (a .bytes .now) (a .n) (a .k)
+
+slice-aggregate-releases : tie.Need-slice-aggregate-releases
+slice-aggregate-releases c = sym (numbers (c .before))
+
+releases-requires : tie.Need-releases-requires
+releases-requires c κs =
+    let r = c .before .before in
+    (A r .pre .cells, (numbers r, length-replicate {A = ℕ} 64 0))
+
+returns : tie.Need-returns
+returns c r l cumulative =
+    let w = c .before .before .before in
+    let a = A w .args in
+    c .releases .ensures .0 r l cumulative
+    ∙ ap (releasesOf (supplying r (a .n) (a .wave .now) (a .jam .now) (a .capacity .now)) (stateOf l (a .held .now) (a .queue .now) cumulative)) (w .row .ensures)
+
+pub fault-spec : {M : Type 1} → statement M
+fault-spec =
+    tie.close
+    (tie.spec
+    (λ c. search needs) (λ c. search needs) (λ c κs. search needs) (λ c. search needs) slice-aggregate-releases releases-requires returns)

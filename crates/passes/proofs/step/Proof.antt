@@ -1,0 +1,127 @@
+-- `passes::step` meets its contract: releases that fit make the engine's step, others have the model's fault. Assumes nothing.
+use mathlib.Core.Path.{_≡_, refl, ap, _∙_}
+use Prim.Native.Nat.{ℕ}
+use native.Mathlib.Omega.{arith}
+use Rattle.road.specs.declared.Road.{Road}
+use Rattle.road.specs.declared.State.{State}
+use Rattle.columns.specs.Columns.{roadOf, stateOf}
+use Rattle.fields.specs.Fields.{versionOf, rowStart, recordRow}
+use Rattle.model.specs.Places.{gateArrivals}
+use Rattle.passes.specs.ReleasesFit.{FitFound, supplies-ask, takes-ask, fit-found}
+use Rattle.passes.specs.Step.{Asks, gate-row, fittable, ready, gives-fault, gives-step}
+use borrow.Author.Needs.{needs}
+use borrow.Author.Tests.{not-true, not-false}
+use Rattle.passes.proofs.step.Statement.{statement}
+use Rattle.passes.proofs.step.Tie as tie
+
+-- places of the code: the arguments from the row's start, that from the supplies, and these from the test of the releases
+abbrev A : tie.After-row-start → tie.Start
+A c = c .before .before .before .before
+
+abbrev Start : tie.After-supplies → tie.After-row-start
+Start c = c .before .before .before
+
+abbrev Supplied : tie.After-take-releases → tie.After-supplies
+Supplied c = c .before .before .before .before .before
+
+abbrev to-number : tie.After-next-arg9 → tie.After-number
+to-number c = let a = c .before .before .before .before in a .before .before .before .before .before
+
+-- any road with the columns that were lent, and the state
+abbrev On : tie.Start → Road → Road
+On c r =
+    let a = c .args in
+    roadOf r (a .n) (a .gate-capacity) (a .speed .now) (a .wave .now) (a .share .now) (a .jam .now) (a .capacity .now)
+
+abbrev From : tie.Start → State
+From c = let a = c .args in stateOf (a .l) (a .held .now) (a .queue .now) (a .cumulative .now)
+
+abbrev Asked : tie.Start → Road → Type 0
+Asked c r =
+    let a = c .args in
+    Asks (a .bytes .now) (a .k) (On c r) (From c) (a .ramps) (a .cell .now) (a .rest .now) (a .room .now) (a .release .now) (a .waiting .now) (a .demand .now) (a .y .now)
+
+start : (c : tie.After-row-start) → let a = A c .args in c .row-start .result ≡ rowStart (versionOf (a .bytes .now)) (a .n) (a .k)
+start c = let a = A c .args in c .row-start .ensures ∙ ap (λ (v : ℕ). rowStart v (a .n) (a .k)) (c .before .version .ensures)
+
+-- what is found of the releases
+found : (c : tie.After-take-releases) (r : Road) → Asked (A (Start (Supplied c))) r →
+    let s = A (Start (Supplied c)) in
+    let a = s .args in
+    let x = c .take-releases .last .1 .1 .1 .1 .1 .1 in
+    FitFound (c .take-releases .result) (On s r) (From s) (recordRow (a .bytes .now) (a .n) (a .k)) (a .ramps) (a .cell .now)
+    (a .room .now) (a .release .now) (a .waiting .now) (x .0) (x .1 .0) (x .1 .1 .0)
+found c r h =
+    let s = Supplied c in
+    fit-found (fittable h (start (Start s))) (s .supplies .ensures) (c .take-releases .ensures)
+
+arrives : (c : tie.After-number) →
+    let a = A (Start (Supplied (c .before .before))) .args in
+    c .number .result ≡ gateArrivals (recordRow (a .bytes .now) (a .n) (a .k))
+arrives c =
+    let s = Start (Supplied (c .before .before)) in
+    let a = A s .args in
+    c .number .ensures .0 ∙ gate-row (a .bytes .now) (a .n) (a .k) (s .row-start .result) (start s)
+
+version-requires : tie.Need-version-requires
+version-requires c κs = omega (arith, c .before .before .pre .asks .holds .row)
+
+row-start-requires : tie.Need-row-start-requires
+row-start-requires c κs =
+    let s = c .before .before .before in
+    let a = s .args in
+    let e : rowStart (c .version .result) (a .n) (a .k) ≡ rowStart (versionOf (a .bytes .now)) (a .n) (a .k) =
+    ap (λ (v : ℕ). rowStart v (a .n) (a .k)) (c .version .ensures) in
+    omega (arith, e, s .pre .asks .holds .row, s .good .0)
+
+supplies-requires : tie.Need-supplies-requires
+supplies-requires c κs = let w = c .before .before in supplies-ask (fittable (A w .pre .asks) (start w))
+
+take-releases-requires : tie.Need-take-releases-requires
+take-releases-requires c κs =
+    let s = c .before .before .before .before in
+    takes-ask (fittable (A (Start s) .pre .asks) (start (Start s))) (s .supplies .ensures)
+
+fault-requires : tie.Need-fault-requires
+fault-requires c κs = A (Start (Supplied (c .before .before .before))) .pre .asks .holds
+
+returns : tie.Need-returns
+returns c r h =
+    let t = c .before .before .before in
+    let s = A (Start (Supplied (t .before))) in
+    gives-fault h (found (t .before) r h) (not-true _ (t .if1 .taken)) (c .fault .ensures (On s r) (s .args .l) (s .args .cumulative .now))
+
+number-requires : tie.Need-number-requires
+number-requires c κs =
+    let w = Start (Supplied (c .before)) in
+    (omega arith, omega (arith, start w, A w .pre .asks .holds .row))
+
+next-requires : tie.Need-next-requires
+next-requires c κs =
+    let m = to-number c in
+    let p = m .before .before in
+    let s = A (Start (Supplied p)) in
+    let k = s .pre in
+    record {
+      road = On s (k .road);
+      row = _;
+      ready = ready (k .asks) (found p (k .road) (k .asks)) (not-false _ (m .before .if1 .left)) (arrives m);
+      places = k .asks .places;
+      longDemand = k .asks .arrays .longDemand;
+    }
+
+returns-2 : tie.Need-returns-2
+returns-2 c r h =
+    let n = c .before .before in
+    let m = to-number (n .before) in
+    let p = m .before .before in
+    let s = A (Start (Supplied p)) in
+    let fits = not-false _ (m .before .if1 .left) in
+    let f = found p r h in
+    gives-step h f fits refl (n .next .ensures .0 (On s r) _ (ready h f fits (arrives m))) (n .next .ensures .1)
+
+pub step-spec : {M : Type 1} → statement M
+step-spec =
+    tie.close
+    (tie.spec
+    version-requires row-start-requires supplies-requires take-releases-requires fault-requires returns number-requires next-requires (λ c. search needs) returns-2)

@@ -1,0 +1,9 @@
+pub mod Rest
+pub mod Supplies
+pub mod Outflows
+pub mod RampList
+pub mod AddReleases
+pub mod TakeReleases
+pub mod Next
+pub mod ReleasesFit
+pub mod Step

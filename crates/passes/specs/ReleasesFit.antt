@@ -1,0 +1,112 @@
+-- The test of a row's releases is the model's: they fit where it says so, and then the rooms are the model's. Assumes nothing.
+use mathlib.Core.Path.{_≡_, ap, _∙_}
+use mathlib.Core.Bool.{Bool, true, false}
+use mathlib.Core.List.{List}
+use Prim.Native.Nat.{ℕ, _+_, _-_, _≤_, _<_}
+use native.Mathlib.Omega.{arith}
+use lib.ListN.{length}
+use Rattle.flow.specs.Flow.{roomOf}
+use Rattle.rows.specs.Rows.{fillOf}
+use Rattle.rows.specs.RowsLaws.{fill-at, length-fill}
+use Rattle.road.specs.declared.Road.{Road}
+use Rattle.road.specs.declared.State.{State}
+use Rattle.numbers.specs.Lists.{at}
+use Rattle.limits.specs.LimitsLaws.{InputOk}
+use Rattle.fields.specs.Fields.{rowSize}
+use Rattle.model.specs.Places.{arrivalsAt, releaseAt, supplyAt, mostReleaseAt}
+use Rattle.model.specs.Rules.{Released, Sized}
+use Rattle.model.specs.Move.{queueOf}
+use Rattle.outflows.specs.Rooms.{Rooms}
+use Rattle.passes.specs.Supplies.{NoRamp, supplyIn, supply-model, Supplies}
+use Rattle.passes.specs.RampList.{Listed, listed-map}
+use Rattle.passes.specs.TakeReleases.{arriveIn, giveIn, lessAt, Fits, Takes, Taken, Took}
+
+-- what the test asks: all within the limits, the bytes hold the row, and the cells with a ramp are listed
+pub record Fittable (bytes : List ℕ) (start : ℕ) (q : Road) (s : State) (row : List ℕ) (ramps : ℕ) (cell room release waiting : List ℕ) : Type 0 where
+  pub input : InputOk q s row
+  pub sized : Sized q s
+  pub listed : Listed (NoRamp (q .ramp)) (q .n) ramps cell
+  pub held : start + rowSize (q .n) ≤ length bytes
+  pub arrivals : (i : ℕ) → i < q .n → arriveIn bytes start i ≡ arrivalsAt row i
+  pub releases : (i : ℕ) → i < q .n → giveIn bytes start i ≡ releaseAt row i
+  pub longRoom : q .n ≤ length room
+  pub longRelease : q .n ≤ length release
+  pub longWaiting : q .n ≤ length waiting
+
+-- what it finds where they fit
+pub record Fitting (q : Road) (s : State) (row : List ℕ) (ramps : ℕ) (cell room₀ release₀ waiting₀ room release waiting : List ℕ) : Type 0 where
+  pub released : Released q s row
+  pub rooms : Rooms q s row room
+  pub releases : (k : ℕ) → k < ramps → at release k ≡ releaseAt row (at cell k)
+  pub waits : (k : ℕ) → k < ramps → at waiting k ≡ queueOf s row (at cell k)
+  pub sameRoom : length room ≡ length room₀
+  pub sameRelease : length release ≡ length release₀
+  pub sameWaiting : length waiting ≡ length waiting₀
+
+-- what it finds
+pub record FitFound (ok : Bool) (q : Road) (s : State) (row : List ℕ) (ramps : ℕ) (cell room₀ release₀ waiting₀ room release waiting : List ℕ) : Type 0 where
+  pub yes : ok ≡ true → Fitting q s row ramps cell room₀ release₀ waiting₀ room release waiting
+  pub no : ok ≡ false → Released q s row → ⊥
+
+module _ {bytes : List ℕ} {start : ℕ} {q : Road} {s : State} {row : List ℕ} {ramps : ℕ} {cell room₀ release₀ waiting₀ : List ℕ}
+    (k : Fittable bytes start q s row ramps cell room₀ release₀ waiting₀) where
+  pub supplies-ask : Supplies (q .n) (q .wave) (q .jam) (s .held)
+  supplies-ask = record {
+    cells = k .input .road .cells;
+    waves = k .input .road .wave;
+    jams = k .input .road .jam;
+    helds = k .input .state .held;
+  }
+
+  -- the supplies are in place
+  module _ {room₁ : List ℕ} (e : room₁ ≡ fillOf (supplyIn (q .wave) (q .jam) (q .capacity) (s .held)) (q .n) room₀) where
+    supply-is : (i : ℕ) → i < q .n → at room₁ i ≡ supplyAt q s i
+    supply-is i l =
+        ap (λ (x : List ℕ). at x i) e ∙ fill-at (supplyIn (q .wave) (q .jam) (q .capacity) (s .held)) (q .n) room₀ i l (k .longRoom) ∙ supply-model q s i
+
+    room-length : length room₁ ≡ length room₀
+    room-length = ap length e ∙ length-fill (supplyIn (q .wave) (q .jam) (q .capacity) (s .held)) (q .n) room₀
+
+    pub takes-ask : Takes bytes start (q .n) ramps cell (s .queue) room₁ release₀ waiting₀
+    takes-ask = record {
+      cells = k .input .road .cells;
+      row = k .held;
+      longRoom = omega (arith, room-length, k .longRoom);
+      longRelease = omega (arith, k .longRelease, k .listed .most);
+      longWaiting = omega (arith, k .longWaiting, k .listed .most);
+      listed = listed-map (λ i l p. k .releases i l ∙ k .input .row .noRelease i l (omega (arith, p, k .input .road .ramp i l))) (k .listed);
+      queues = λ i l. omega (arith, k .input .state .queue i l, k .input .state .done);
+      arrivals = λ i l. omega (arith, k .arrivals i l, k .input .row .arrivals i l);
+    }
+
+    module _ {ok : Bool} {room release waiting : List ℕ}
+        (h : Took ok bytes start (q .n) ramps cell (s .queue) room₁ release₀ waiting₀ room release waiting) where
+      fitting : Taken bytes start (q .n) ramps cell (s .queue) room₁ release₀ waiting₀ room release waiting
+          → Fitting q s row ramps cell room₀ release₀ waiting₀ room release waiting
+      unfolding mostReleaseAt roomOf
+      fitting t = record {
+        released = record {
+          queue = λ i l. omega (arith, t .fits i l .ramp, k .arrivals i l, k .releases i l);
+          supply = λ i l. omega (arith, t .fits i l .supply, supply-is i l, k .releases i l);
+        };
+        rooms = λ i l.
+            let there = ap (λ (x : List ℕ). at x i) (t .rooms) ∙ fill-at (lessAt bytes start room₁) (q .n) room₁ i l (omega (arith, room-length, k .longRoom)) in
+            omega (arith, there, supply-is i l, k .releases i l);
+        releases = λ j l. t .releases j l ∙ k .releases (at cell j) (k .listed .within j l);
+        waits = λ j l.
+            let inside = k .listed .within j l in
+            omega (arith, t .waits j l, k .arrivals (at cell j) inside, k .releases (at cell j) inside);
+        sameRoom = ap length (t .rooms) ∙ length-fill (lessAt bytes start room₁) (q .n) room₁ ∙ room-length;
+        sameRelease = t .sameRelease;
+        sameWaiting = t .sameWaiting;
+      }
+
+      fits-all : Released q s row → (i : ℕ) → i < q .n → Fits bytes start (s .queue) room₁ i
+      unfolding mostReleaseAt
+      fits-all r i l = record {
+        ramp = omega (arith, r .queue i l, k .arrivals i l, k .releases i l);
+        supply = omega (arith, r .supply i l, supply-is i l, k .releases i l);
+      }
+
+      pub fit-found : FitFound ok q s row ramps cell room₀ release₀ waiting₀ room release waiting
+      fit-found = record { yes = λ y. fitting (h .yes y); no = λ z r. h .no z (fits-all r) }

@@ -1,0 +1,114 @@
+-- What b × F leaves by 1,000, kept from step to step: outflow, entering and the next rest from it, in numbers below 2 ^ 32. Assumes nothing.
+use mathlib.Core.Path.{_≡_}
+use Prim.Native.Nat.{ℕ, zero, suc, _+_, _-_, _*_, _/_, _≤_, _<_, min}
+use native.Mathlib.Nat.{mul-le-mul, mul-add, mul-suc, mul-comm, zero-mul, le-div-iff-mul-le, le-refl}
+use native.Mathlib.Omega.{arith}
+use Rattle.flow.specs.Flow.{whole, thousandthsOf, onwardOf, enteringOf, outflowOf}
+use Rattle.flow.specs.FlowLaws.{outflow-le, outflow-greatest, outflow-unique, outflow-whole, entering-mono, entering-whole, onward-entering, onward-whole}
+
+-- the rest of b × F by 1,000: what the onward total leaves of it
+unfoldable pub restOf : ℕ → ℕ → ℕ
+restOf b F = b * F - whole * onwardOf b F
+
+-- the rest is below 1,000, and with the onward total it is b × F
+pub rest-small : (b F : ℕ) → restOf b F ≤ 999
+unfolding restOf onwardOf thousandthsOf
+rest-small b F = omega arith
+
+pub rest-onward : (b F : ℕ) → restOf b F + whole * onwardOf b F ≡ b * F
+unfolding restOf onwardOf thousandthsOf
+rest-onward b F = omega arith
+
+-- of a whole share nothing is left
+pub rest-whole : (F : ℕ) → restOf whole F ≡ 0
+rest-whole F = omega (arith, rest-onward whole F, onward-whole F)
+
+-- it is the one number below 1,000 that with some thousands gives b × F
+pub rest-is : (b F x k : ℕ) → x ≤ 999 → x + whole * k ≡ b * F → (x ≡ restOf b F) × (k ≡ onwardOf b F)
+unfolding restOf onwardOf thousandthsOf
+rest-is b F x k h e = (omega arith, omega arith)
+
+-- what is left and what an outflow sends, together: what enters, and the next rest
+pub rest-after : (b F y : ℕ) → restOf b F + b * y ≡ whole * enteringOf b F y + restOf b (F + y)
+rest-after b F y = omega (arith, rest-onward b F, rest-onward b (F + y), onward-entering b F y, mul-add b F y)
+
+-- so one division tells what enters
+pub entering-by-rest : (b F y : ℕ) → (restOf b F + b * y) / whole ≡ enteringOf b F y
+entering-by-rest b F y = omega (arith, rest-after b F y, rest-small b (F + y))
+
+-- the sum fits 32 bits
+pub product-most : (b y : ℕ) → b ≤ whole → y ≤ 1000000 → b * y ≤ 1000000000
+product-most b y h l = omega (arith, mul-le-mul h l)
+
+-- what a place does in a step, from its share, rest, room and demand
+pub record Sent (b F room demand outflow onward rest : ℕ) : Type 0 where
+  pub outflows : outflow ≡ outflowOf b F room demand
+  pub enters : onward ≡ enteringOf b F outflow
+  pub rests : rest ≡ restOf b (F + outflow)
+
+module _ {b F room demand r : ℕ} (er : r ≡ restOf b F) where
+  -- the demand fits the room
+  pub sent-all : {all onward : ℕ} → all ≡ r + b * demand → onward ≡ all / whole → onward ≤ room
+      → Sent b F room demand demand onward (all - whole * onward)
+  sent-all {all} {onward} ea eo l =
+      let e : onward ≡ enteringOf b F demand = omega (arith, entering-by-rest b F demand) in
+      record {
+        outflows = omega (arith, outflow-le b F room demand, outflow-greatest b F room demand demand (le-refl demand) (omega arith));
+        enters = e;
+        rests = omega (arith, rest-after b F demand);
+      }
+
+  -- it does not: exactly the room enters
+  pub sent-room : {all onward y : ℕ} → b ≤ whole → 0 < b → all ≡ r + b * demand → onward ≡ all / whole → room < onward
+      → y ≡ (whole * room + 999 - r) / b → Sent b F room demand y room (r + b * y - whole * room)
+  sent-room {all} {onward} {y} h some ea eo l ey =
+      let e : onward ≡ enteringOf b F demand = omega (arith, entering-by-rest b F demand) in
+      let top : ℕ = whole * room + 999 - r in
+      let small = rest-small b F in
+      let under : y * b ≤ top = le-div-iff-mul-le {k = b} {x = y} {y = top} some .0 (omega arith) in
+      let over : (suc y * b ≤ top) → ⊥ = λ k. omega (arith, le-div-iff-mul-le {k = b} {x = suc y} {y = top} some .1 k) in
+      let same : suc y * b ≡ b * y + b = omega (arith, mul-comm (suc y) b, mul-suc b y) in
+      let comm = mul-comm y b in
+      let fits : enteringOf b F y ≤ room = omega (arith, rest-after b F y) in
+      let full : room ≤ enteringOf b F y = omega (arith, rest-after b F y, rest-small b (F + y)) in
+      let below : demand ≤ y → ⊥ = λ k. omega (arith, entering-mono b F demand y k) in
+      record {
+        outflows = outflow-unique b F room demand y (omega arith) fits
+            (λ z above _ k. omega (arith, entering-mono b F (suc y) z above, rest-after b F (suc y), rest-small b (F + suc y), mul-suc b y));
+        enters = omega arith;
+        rests = omega (arith, rest-after b F y);
+      }
+
+-- a whole share sends the smaller of demand and room, and leaves nothing
+pub sent-whole : {F room demand y : ℕ} → y ≡ min demand room → Sent whole F room demand y y 0
+sent-whole {F} {room} {demand} {y} e = record {
+  outflows = omega (arith, outflow-whole F room demand);
+  enters = omega (arith, entering-whole F y);
+  rests = omega (arith, rest-whole (F + y));
+}
+
+-- what the code knows of its numbers: where more goes on than the room there is a share
+pub some-share : (b r demand room : ℕ) → r ≤ 999 → room < (r + b * demand) / whole → 0 < b
+some-share zero r demand room h l = absurd (omega (arith, zero-mul demand))
+some-share (suc b) r demand room h l = omega arith
+
+-- and with the rest what it sends is the room, in thousandths, and less than a whole more
+pub record Filled (b r room y : ℕ) : Type 0 where
+  pub under : r + b * y ≤ whole * room + 999
+  pub over : whole * room ≤ r + b * y
+  pub small : room ≤ 1000000
+
+pub filled : {b r demand room y : ℕ} → b ≤ whole → demand ≤ 1000000 → r ≤ 999 → room < (r + b * demand) / whole
+    → y ≡ (whole * room + 999 - r) / b → Filled b r room y
+filled {b} {r} {demand} {room} {y} h d small l e =
+    let some = some-share b r demand room small l in
+    let top : ℕ = whole * room + 999 - r in
+    let under : y * b ≤ top = le-div-iff-mul-le {k = b} {x = y} {y = top} some .0 (omega arith) in
+    let over : (suc y * b ≤ top) → ⊥ = λ k. omega (arith, le-div-iff-mul-le {k = b} {x = suc y} {y = top} some .1 k) in
+    let same : suc y * b ≡ b * y + b = omega (arith, mul-comm (suc y) b, mul-suc b y) in
+    let comm = mul-comm y b in
+    record { under = omega arith; over = omega arith; small = omega (arith, product-most b demand h d) }
+
+-- before anything was sent nothing is left
+pub rest-start : (b F : ℕ) → F ≡ 0 → restOf b F ≡ 0
+rest-start b F e = let z : b * 0 ≡ 0 = omega arith in rw e (omega (arith, rest-onward b 0))

@@ -1,0 +1,89 @@
+-- Supplies and demands of all cells in loops of their own, in 32 bits. Assumes nothing.
+use mathlib.Core.Path.{_≡_, refl}
+use mathlib.Core.List.{List}
+use Prim.Native.Nat.{ℕ, suc, _+_, _-_, _*_, _/_, _≤_, _<_, min}
+use native.Mathlib.Omega.{arith}
+use lib.ListN.{length, set, length-set}
+use Rattle.flow.specs.Flow.{whole, thousandthsOf, supplyOf, demandOf}
+use Rattle.rows.specs.Rows.{fillOf}
+use Rattle.rows.specs.RowsLaws.{fill-more}
+use Rattle.road.specs.declared.Road.{Road}
+use Rattle.road.specs.declared.State.{State}
+use Rattle.road.specs.Road.{mostCells, mostRate}
+use Rattle.numbers.specs.Lists.{at}
+use Rattle.model.specs.Places.{capacityAt, supplyAt, demandAt}
+use Rattle.passes.specs.Rest.{product-most}
+
+-- the supply and the demand of the cell at i, of columns
+unfoldable pub supplyIn : List ℕ → List ℕ → List ℕ → List ℕ → ℕ → ℕ
+supplyIn wave jam capacity held i = supplyOf (at wave i) (at capacity i) (at jam i) (at held i)
+
+unfoldable pub demandIn : List ℕ → List ℕ → List ℕ → ℕ → ℕ
+demandIn speed capacity held i = demandOf (at speed i) (at capacity i) (at held i)
+
+-- those of a road and a state are the model's
+pub supply-model : (r : Road) (s : State) (i : ℕ) → supplyIn (r .wave) (r .jam) (r .capacity) (s .held) i ≡ supplyAt r s i
+unfolding supplyIn capacityAt
+supply-model r s i = refl
+
+pub demand-model : (r : Road) (s : State) (i : ℕ) → demandIn (r .speed) (r .capacity) (s .held) i ≡ demandAt r s (suc i)
+unfolding demandIn demandAt capacityAt
+demand-model r s i = refl
+
+-- what their products ask of the first `count` entries
+pub record Supplies (count : ℕ) (wave jam held : List ℕ) : Type 0 where
+  pub cells : count ≤ mostCells
+  pub waves : (i : ℕ) → i < count → at wave i ≤ whole
+  pub jams : (i : ℕ) → i < count → at jam i ≤ mostRate
+  pub helds : (i : ℕ) → i < count → at held i ≤ at jam i
+
+pub record Demands (count : ℕ) (speed held : List ℕ) : Type 0 where
+  pub cells : count ≤ mostCells
+  pub speeds : (i : ℕ) → i < count → at speed i ≤ whole
+  pub helds : (i : ℕ) → i < count → at held i ≤ mostRate
+
+-- the first i entries of a row are filled
+pub record FilledTo (f : ℕ → ℕ) (n : ℕ) (l x : List ℕ) (i : ℕ) : Type 0 where
+  pub within : i ≤ n
+  pub filled : x ≡ fillOf f i l
+  pub same : length x ≡ length l
+
+module _ {f : ℕ → ℕ} {n : ℕ} {l : List ℕ} where
+  pub filled-none : FilledTo f n l l 0
+  unfolding fillOf
+  filled-none = record { within = omega arith; filled = refl; same = refl }
+
+  module _ {x : List ℕ} {i : ℕ} (h : FilledTo f n l x i) where
+    pub filled-more : {z : ℕ} → i < n → z ≡ f i → FilledTo f n l (set x i z) (i + 1)
+    filled-more {z} less e = record {
+      within = omega arith;
+      filled = let k = h .filled in cc (fill-more f i l);
+      same = simp length-set (h .same);
+    }
+
+    pub filled-end : n ≤ i → x ≡ fillOf f n l
+    filled-end less = let e : i ≡ n = omega (arith, h .within) in let k = h .filled in cc
+
+-- a supply and a demand as the code finds them
+pub supply-found : (wave jam capacity held : List ℕ) (i : ℕ) {z : ℕ} → z ≡ min (at capacity i) (at wave i * (at jam i - at held i) / 1000)
+    → z ≡ supplyIn wave jam capacity held i
+unfolding supplyIn supplyOf thousandthsOf
+supply-found wave jam capacity held i e = e
+
+pub demand-found : (speed capacity held : List ℕ) (i : ℕ) {z : ℕ} → z ≡ min (at capacity i) (at speed i * at held i / 1000)
+    → z ≡ demandIn speed capacity held i
+unfolding demandIn demandOf thousandthsOf
+demand-found speed capacity held i e = e
+
+-- what a turn knows
+pub supply-product : {count : ℕ} {wave jam held : List ℕ} → Supplies count wave jam held → (i : ℕ) → i < count
+    → at wave i * (at jam i - at held i) ≤ 1000000000
+supply-product {wave = wave} {jam} {held} k i l = product-most (at wave i) (at jam i - at held i) (k .waves i l) (omega (arith, k .jams i l))
+
+pub demand-product : {count : ℕ} {speed held : List ℕ} → Demands count speed held → (i : ℕ) → i < count
+    → at speed i * at held i ≤ 1000000000
+demand-product {speed = speed} {held} k i l = product-most (at speed i) (at held i) (k .speeds i l) (k .helds i l)
+
+-- no ramp stands at the cell at i
+abbrev pub NoRamp : List ℕ → ℕ → Type 0
+NoRamp ramp i = at ramp i ≡ 1 → ⊥

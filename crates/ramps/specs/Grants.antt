@@ -1,0 +1,341 @@
+-- Granting the releases of the listed cells: what it asks, what its loop carries and what it gives. Assumes nothing.
+use mathlib.Core.Path.{_≡_, refl, sym, ap, subst, _∙_}
+use mathlib.Core.Logic.{⊎-elim}
+use mathlib.Core.List.{List}
+use Prim.Native.Nat.{ℕ, zero, suc, _+_, _-_, _*_, _^_, min, _≤_, _<_}
+use native.Mathlib.Nat.{eq-or-lt-of-le, le-of-suc-le-suc, le-refl}
+use native.Mathlib.Numerals.{add-one}
+use native.Mathlib.Omega.{arith}
+use lib.Ieee.{Float}
+use lib.ListN.{length, set, length-set}
+use lib.Seq.{getD-set-same, getD-set-other}
+use borrow.Author.Tests.{eq-eqb, ne-eqb}
+use Rattle.numbers.specs.Lists.{at}
+use Rattle.flow.specs.Flow.{roomOf}
+use Rattle.rows.specs.Rows.{fillOf}
+use Rattle.rows.specs.RowsLaws.{fill-at, fill-past, length-fill}
+use Rattle.road.specs.declared.Road.{Road}
+use Rattle.road.specs.declared.State.{State}
+use Rattle.road.specs.Road.{mostCells, mostRate, mostSteps}
+use Rattle.limits.specs.Limits.{mostQueue, mostCumulative}
+use Rattle.limits.specs.LimitsLaws.{RowOk}
+use Rattle.rows.specs.Placed.{placed}
+use Rattle.fields.specs.Fields.{numberSize, bytesOf, numberOf, versionOf, rowSize, rowStart, recordRow, HoldsRow}
+use Rattle.fields.specs.FieldsLaws.{row-at}
+use Rattle.fields.specs.Stored.{Stored}
+use Rattle.meter.specs.declared.Law.{Law}
+use Rattle.meter.specs.Meter.{wishOf, wholeBelow, lawAt}
+use Rattle.meter.specs.LawColumns.{lawIn, InColumns}
+use Rattle.model.specs.Places.{arrivalsAt, releaseAt, mostReleaseAt, supplyAt}
+use Rattle.model.specs.Move.{queueOf}
+use Rattle.columns.specs.declared.Ledger.{Ledger}
+use Rattle.columns.specs.Columns.{roadOf, stateOf}
+use Rattle.moves.specs.Asked.{Steppable}
+use Rattle.outflows.specs.Rooms.{Rooms}
+use Rattle.patching.specs.Releases.{releaseNumber, putEntry, putReleases, releasedRow}
+use Rattle.patching.specs.ReleasesLaws.{PutRow, put-releases, put-to, released-arrivals}
+use Rattle.passes.specs.Supplies.{NoRamp, FilledTo, filled-none, filled-more, filled-end}
+use Rattle.passes.specs.RampList.{startOf, start-more, Listed, listed-here, listed-more, listed-end}
+use Rattle.ramps.specs.Ramps.{Metered, metered, releaseOf, grantedAt, filledRow}
+use Rattle.ramps.specs.RampsLaws.{granted, granted-caps, granted-small, filled-release, filled-arrivals}
+
+-- one cell: without a ramp, and with one
+pub no-ramp : (ramp : ℕ) (wish : Float) (cap : ℕ) → ramp ≡ 0 → 0 ≡ releaseOf ramp wish cap
+unfolding releaseOf
+no-ramp ramp wish cap e = rw (eq-eqb ramp 0 e)
+
+pub with-ramp : (ramp : ℕ) (wish : Float) (cap : ℕ) → (ramp ≡ 0 → ⊥) → wholeBelow wish cap ≡ releaseOf ramp wish cap
+unfolding releaseOf
+with-ramp ramp wish cap d = rw (ne-eqb ramp 0 d)
+
+-- a road with these ramps, and otherwise as r
+abbrev pub ramped : Road → List ℕ → Road
+ramped r ramp = record {
+  n = r .n;
+  version = r .version;
+  seconds = r .seconds;
+  «gate_capacity» = r .«gate_capacity»;
+  speed = r .speed;
+  wave = r .wave;
+  share = r .share;
+  ramp = ramp;
+  jam = r .jam;
+  capacity = r .capacity;
+}
+
+-- of the listed cells, what the last step left: its release, and what had come into the cell before it, which with what entered in it is held + F
+pub record Lasts (m : Metered) (ramps : ℕ) (cell release came : List ℕ) : Type 0 where
+  pub releases : (j : ℕ) → j < ramps → at release j ≡ at (m .releases) (at cell j)
+  pub entries : (j : ℕ) → j < ramps
+      → at came (at cell j) + at (m .entries) (at cell j) ≡ at (m .state .held) (at cell j) + at (m .state .cumulative) (at cell j)
+
+-- what granting asks: a step by the filled row may be made, the bytes hold the row, which is within its limits, the laws are in columns, and the
+-- rooms are the supplies
+pub record Grants (laws : List Law) (q : Road) (m : Metered) (bytes : List ℕ) (k start ramps : ℕ) (cell kinds : List ℕ) (numbers : List Float)
+    (room release waits came : List ℕ) : Type 0 where
+  pub step : Steppable q (m .state) (filledRow laws q m (recordRow bytes (q .n) k))
+  pub row : RowOk q (recordRow bytes (q .n) k)
+  pub held : HoldsRow bytes (q .n) k
+  pub starts : start ≡ rowStart (versionOf bytes) (q .n) k
+  pub listed : Listed (NoRamp (q .ramp)) (q .n) ramps cell
+  pub columns : InColumns laws kinds numbers
+  pub lasts : Lasts m ramps cell release came
+  pub supplies : (i : ℕ) → i < q .n → at room i ≡ supplyAt q (m .state) i
+  pub longRoom : q .n ≤ length room
+  pub longRelease : q .n ≤ length release
+  pub longWaits : q .n ≤ length waits
+  pub longCame : q .n ≤ length came
+
+-- that, on some road with these ramps and by something with these columns
+pub record Grantable (bytes : List ℕ) (start ramps : ℕ) (cell ramp kinds : List ℕ) (numbers : List Float) (held queue cumulative room release waits came : List ℕ)
+    : Type 0 where
+  pub laws : List Law
+  pub road : Road
+  pub ledger : Ledger
+  pub releases : List ℕ
+  pub entries : List ℕ
+  pub step : ℕ
+  pub grants : Grants laws (ramped road ramp) (metered (stateOf ledger held queue cumulative) releases entries) bytes step start ramps cell kinds numbers
+      room release waits came
+
+-- what has come into the cell at i with a release, and what waits at its ramp after it
+abbrev pub cameAt : Metered → (ℕ → ℕ) → ℕ → ℕ
+cameAt m give i = at (m .state .held) i + at (m .state .cumulative) i + give i
+
+abbrev waitAt : Metered → List ℕ → (ℕ → ℕ) → ℕ → ℕ
+waitAt m row give i = at (m .state .queue) i + arrivalsAt row i - give i
+
+-- what it gives: the releases granted are in the bytes, and off the supplies; of each listed cell, its release, what waits after it and what has come
+pub record Granted (laws : List Law) (q : Road) (m : Metered) (bytes : List ℕ) (k ramps : ℕ)
+    (cell room₀ release₀ waits₀ came₀ put room release waits came : List ℕ) : Type 0 where
+  pub puts : put ≡ putReleases bytes (q .n) k (grantedAt laws q m (recordRow bytes (q .n) k)) (q .n)
+  pub rooms : Rooms q (m .state) (filledRow laws q m (recordRow bytes (q .n) k)) room
+  pub releases : (j : ℕ) → j < ramps → at release j ≡ grantedAt laws q m (recordRow bytes (q .n) k) (at cell j)
+  pub waiting : (j : ℕ) → j < ramps → at waits j ≡ queueOf (m .state) (filledRow laws q m (recordRow bytes (q .n) k)) (at cell j)
+  pub reached : (j : ℕ) → j < ramps → at came (at cell j) ≡ cameAt m (grantedAt laws q m (recordRow bytes (q .n) k)) (at cell j)
+  pub sameRoom : length room ≡ length room₀
+  pub sameRelease : length release ≡ length release₀
+  pub sameWaits : length waits ≡ length waits₀
+  pub sameCame : length came ≡ length came₀
+
+-- the releases of the first j listed cells are granted
+pub record Granting (give : ℕ → ℕ) (q : Road) (m : Metered) (bytes : List ℕ) (k ramps : ℕ)
+    (cell room₀ release₀ waits₀ came₀ put room release waits came : List ℕ) (j : ℕ) : Type 0 where
+  pub puts : put ≡ putReleases bytes (q .n) k give (startOf cell j)
+  pub rooms : room ≡ fillOf (λ i. at room₀ i - give i) (startOf cell j) room₀
+  pub releases : FilledTo (λ i. give (at cell i)) ramps release₀ release j
+  pub waiting : FilledTo (λ i. waitAt m (recordRow bytes (q .n) k) give (at cell i)) ramps waits₀ waits j
+  pub reached : (i : ℕ) → i < j → at came (at cell i) ≡ cameAt m give (at cell i)
+  pub later : (i : ℕ) → startOf cell j ≤ i → at came i ≡ at came₀ i
+  pub sameCame : length came ≡ length came₀
+
+-- what a turn knows of its numbers, and of the release that it grants
+pub record GrantTurn (start i size queue arrivals held cumulative came n : ℕ) : Type 0 where
+  pub within : i < n
+  pub cells : n ≤ mostCells
+  pub row : start + rowSize n ≤ size
+  pub queues : queue ≤ mostQueue mostSteps
+  pub arrive : arrivals ≤ mostRate
+  pub helds : held ≤ mostRate
+  pub cumulatives : cumulative ≤ mostCumulative mostSteps
+  pub comes : came ≤ held + cumulative
+
+pub record Given (x coming room : ℕ) : Type 0 where
+  pub there : x ≤ coming
+  pub taken : x ≤ room
+  pub rate : x ≤ mostRate
+
+module _ {laws : List Law} {q : Road} {m : Metered} {bytes : List ℕ} {k start ramps : ℕ} {cell kinds : List ℕ} {numbers : List Float}
+    {room₀ release₀ waits₀ came₀ : List ℕ} (g : Grants laws q m bytes k start ramps cell kinds numbers room₀ release₀ waits₀ came₀) where
+  abbrev row : List ℕ
+  row = recordRow bytes (q .n) k
+
+  abbrev give : ℕ → ℕ
+  give = grantedAt laws q m row
+
+  -- a cell without a ramp gives nothing, as in the row
+  idle : (i : ℕ) → i < q .n → NoRamp (q .ramp) i → (give i ≡ 0) × (releaseAt row i ≡ 0)
+  idle i l p =
+      let z : at (q .ramp) i ≡ 0 = omega (arith, g .step .input .road .ramp i l, p) in
+      (granted laws q m row i .noRamp z, g .row .noRelease i l z)
+
+  less : (i : ℕ) → i < q .n → NoRamp (q .ramp) i → at room₀ i - give i ≡ at room₀ i
+  less i l p = omega (arith, idle i l p .0)
+
+  starts-most : (j : ℕ) → j ≤ ramps → startOf cell j ≤ q .n
+  unfolding startOf
+  starts-most zero l = omega arith
+  starts-most (suc j) l = omega (arith, g .listed .within j l)
+
+  -- the cells listed before are lower
+  lower : (j : ℕ) → j ≤ ramps → (i : ℕ) → i < j → at cell i < startOf cell j
+  unfolding startOf
+  lower zero l i p = absurd (omega arith)
+  lower (suc j) l i p = ⊎-elim
+      (λ (e : i ≡ j). rw e (omega arith))
+      (λ (h : i < j). omega (arith, lower j (omega arith) i h, g .listed .rises j l))
+      (eq-or-lt-of-le (le-of-suc-le-suc p))
+
+  put-up : (a b : ℕ) → a ≤ b → b ≤ q .n → ((i : ℕ) → a ≤ i → i < b → NoRamp (q .ramp) i)
+      → putReleases bytes (q .n) k give b ≡ putReleases bytes (q .n) k give a
+  put-up a b h l z =
+      put-to bytes (q .n) k give (g .held) (granted-small laws q m row) a b h l (λ i x y. idle i (omega arith) (z i x y))
+
+  pub granting-none : Granting give q m bytes k ramps cell room₀ release₀ waits₀ came₀ bytes room₀ release₀ waits₀ came₀ 0
+  unfolding putReleases fillOf startOf
+  granting-none = record {
+    puts = refl;
+    rooms = refl;
+    releases = filled-none;
+    waiting = filled-none;
+    reached = λ i l. absurd (omega arith);
+    later = λ i l. refl;
+    sameCame = refl;
+  }
+
+  module _ {put room release waits came : List ℕ} {j : ℕ}
+      (h : Granting (grantedAt laws q m (recordRow bytes (q .n) k)) q m bytes k ramps cell room₀ release₀ waits₀ came₀ put room release waits came j) where
+    changed : PutRow bytes put (q .n) k give (startOf cell j)
+    changed =
+        rw (h .puts) (put-releases bytes (q .n) k give (startOf cell j) (starts-most j (h .releases .within)) (g .held) (λ i _. granted-small laws q m row i))
+
+    pub same-size : length put ≡ length bytes
+    same-size = changed .size
+
+    same-start : rowStart (versionOf put) (q .n) k ≡ rowStart (versionOf bytes) (q .n) k
+    same-start = ap (λ (v : ℕ). rowStart v (q .n) k) (changed .version)
+
+    module _ (l : j < ramps) where
+      abbrev i : ℕ
+      i = at cell j
+
+      inside : i < q .n
+      inside = g .listed .within j l
+
+      -- what the arrays still hold of the cell
+      pub arrives-here : numberOf put (start + 4 + 8 * at cell j) numberSize ≡ arrivalsAt (recordRow bytes (q .n) k) (at cell j)
+      arrives-here =
+          let e : start + 4 + 8 * i ≡ rowStart (versionOf put) (q .n) k + numberSize * (2 * i + 1) = omega (arith, g .starts, same-start) in
+          ap (λ (p : ℕ). numberOf put p numberSize) e
+          ∙ sym (row-at put (q .n) k (2 * i + 1) (omega (arith, inside)))
+          ∙ ap (λ (x : List ℕ). at x (2 * i + 1)) (changed .row)
+          ∙ released-arrivals give (startOf cell j) row i
+
+      room-here : at room (at cell j) ≡ at room₀ (at cell j)
+      room-here = listed-here (λ i. at room₀ i - give i) room₀ (g .listed) less l (h .rooms)
+
+      came-here : at came (at cell j) ≡ at came₀ (at cell j)
+      came-here = h .later i (g .listed .rises j l)
+
+      last-here : at release j ≡ at (m .releases) (at cell j)
+      last-here =
+          ap (λ (x : List ℕ). at x j) (h .releases .filled) ∙ fill-past (λ i. give (at cell i)) j release₀ j (le-refl j) ∙ g .lasts .releases j l
+
+      -- what a turn knows
+      pub grant-turn : GrantTurn start (at cell j) (length put) (at (m .state .queue) (at cell j)) (arrivalsAt (recordRow bytes (q .n) k) (at cell j))
+          (at (m .state .held) (at cell j)) (at (m .state .cumulative) (at cell j)) (at came (at cell j)) (q .n)
+      grant-turn =
+          let s = g .step .input .state in
+          record {
+            within = inside;
+            cells = g .step .input .road .cells;
+            row = omega (arith, g .starts, g .held .row, same-size);
+            queues = omega (arith, s .queue i inside, s .done);
+            arrive = g .row .arrivals i inside;
+            helds = omega (arith, s .held i inside, g .step .input .road .jam i inside);
+            cumulatives = omega (arith, s .cumulative i inside, s .done);
+            comes = omega (arith, came-here, g .lasts .entries j l);
+          }
+
+      -- where its release goes, and what is in the bytes before it
+      place : start + 4 + 8 * i + 4 ≡ rowStart (versionOf put) (q .n) k + numberSize * releaseNumber i
+      place = omega (arith, g .starts, same-start)
+
+      before : put ≡ putReleases bytes (q .n) k give i
+      before = h .puts ∙ sym (put-up (startOf cell j) i (g .listed .rises j l) (omega (arith, inside)) (g .listed .gap j l))
+
+      -- the release that the code finds is the one granted
+      module _ {law : Law} {arrivals entered cap x : ℕ} (el : law ≡ lawIn kinds numbers (at cell j))
+          (ea : arrivals ≡ numberOf put (start + 4 + 8 * at cell j) numberSize)
+          (ee : entered ≡ at (m .state .held) (at cell j) + at (m .state .cumulative) (at cell j) - at came (at cell j))
+          (ec : cap ≡ min (at (m .state .queue) (at cell j) + arrivals) (min (at room (at cell j)) mostRate))
+          (ex : x ≡ releaseOf (at (q .ramp) (at cell j)) (wishOf law (at release j) entered (at (m .state .held) (at cell j))) cap) where
+        found : x ≡ grantedAt laws q m (recordRow bytes (q .n) k) (at cell j)
+        unfolding grantedAt mostReleaseAt
+        found =
+            let lawful : law ≡ lawAt laws i = el ∙ g .columns i (omega (arith, inside, g .step .input .road .cells)) in
+            let entry : entered ≡ at (m .entries) i = omega (arith, came-here, g .lasts .entries j l) in
+            let come : arrivals ≡ arrivalsAt row i = ea ∙ arrives-here in
+            let supply : at room i ≡ supplyAt q (m .state) i = room-here ∙ g .supplies i inside in
+            ex ∙ rw (lawful, last-here, entry, ec, come, supply)
+
+        pub given-known : Given x (at (m .state .queue) (at cell j) + arrivals) (at room (at cell j))
+        unfolding mostReleaseAt
+        given-known =
+            let c = granted-caps laws q m row i in
+            record {
+              there = omega (arith, found, c .there, ea, arrives-here);
+              taken = omega (arith, found, c .taken, room-here, g .supplies i inside);
+              rate = omega (arith, found, c .rate);
+            }
+
+        puts-more : {next : List ℕ} {end : ℕ} → Stored put (start + 4 + 8 * at cell j + 4) numberSize x next end
+            → next ≡ putReleases bytes (q .n) k give (startOf cell (j + 1))
+        unfolding putReleases
+        puts-more p =
+            p .bytes
+            ∙ ap (λ (a : ℕ). placed put a (bytesOf numberSize x)) place
+            ∙ ap (putEntry put (q .n) k (releaseNumber i)) found
+            ∙ ap (λ (u : List ℕ). putEntry u (q .n) k (releaseNumber i) (give i)) before
+            ∙ sym (ap (putReleases bytes (q .n) k give) (start-more cell j ∙ add-one i))
+
+        -- one more is granted
+        pub granting-more : {next : List ℕ} {end : ℕ} → Stored put (start + 4 + 8 * at cell j + 4) numberSize x next end
+            → Granting (grantedAt laws q m (recordRow bytes (q .n) k)) q m bytes k ramps cell room₀ release₀ waits₀ came₀ next
+            (set room (at cell j) (at room (at cell j) - x)) (set release j x) (set waits j (at (m .state .queue) (at cell j) + arrivals - x))
+            (set came (at cell j) (at (m .state .held) (at cell j) + at (m .state .cumulative) (at cell j) + x)) (j + 1)
+        granting-more {next} p = record {
+          puts = puts-more p;
+          rooms = listed-more (λ i. at room₀ i - give i) room₀ (g .listed) less l (h .rooms) (omega (arith, room-here, found));
+          releases = filled-more (h .releases) l found;
+          waiting = filled-more (h .waiting) l (omega (arith, found, ea, arrives-here));
+          reached = λ y less. ⊎-elim
+              (λ (e : y ≡ j).
+              rw e (getD-set-same came i _ 0 (omega (arith, h .sameCame, g .longCame, inside)) ∙ ap (λ (x : ℕ). cameAt m (λ _. x) i) found))
+              (λ (d : y < j).
+              getD-set-other came i (at cell y) _ 0 (λ e. omega (arith, lower j (omega arith) y d, g .listed .rises j l)) ∙ h .reached y d)
+              (eq-or-lt-of-le (let z : y ≤ j = omega arith in z));
+          later = λ y past.
+              let above : i + 1 ≤ y = omega (arith, start-more cell j) in
+              getD-set-other came i y _ 0 (λ e. omega arith) ∙ h .later y (omega (arith, g .listed .rises j l));
+          sameCame = simp length-set (h .sameCame);
+        }
+
+    -- all are granted
+    pub granting-end : ramps ≤ j → Granted laws q m bytes k ramps cell room₀ release₀ waits₀ came₀ put room release waits came
+    unfolding roomOf
+    granting-end l =
+        let e : j ≡ ramps = omega (arith, h .releases .within) in
+        record {
+          puts =
+              h .puts
+              ∙ ap (λ (c : ℕ). putReleases bytes (q .n) k give (startOf cell c)) e
+              ∙ sym (put-up (startOf cell ramps) (q .n) (g .listed .last) (le-refl (q .n)) (g .listed .past));
+          rooms = λ i less-n.
+              let there =
+              ap (λ (x : List ℕ). at x i) (listed-end (λ i. at room₀ i - give i) room₀ (g .listed) less e (h .rooms))
+              ∙ fill-at (λ i. at room₀ i - give i) (q .n) room₀ i less-n (g .longRoom) in
+              omega (arith, there, g .supplies i less-n, filled-release laws q m row (g .row .numbers) i less-n);
+          releases = λ y d. ap (λ (x : List ℕ). at x y) (filled-end (h .releases) l)
+              ∙ fill-at (λ i. give (at cell i)) ramps release₀ y d (omega (arith, g .longRelease, g .listed .most));
+          waiting = λ y d.
+              let there =
+              ap (λ (x : List ℕ). at x y) (filled-end (h .waiting) l)
+              ∙ fill-at (λ i. waitAt m row give (at cell i)) ramps waits₀ y d (omega (arith, g .longWaits, g .listed .most)) in
+              omega (arith, there, filled-arrivals laws q m row (at cell y), filled-release laws q m row (g .row .numbers) (at cell y) (g .listed .within y d));
+          reached = λ y d. h .reached y (omega arith);
+          sameRoom = ap length (h .rooms) ∙ length-fill (λ i. at room₀ i - give i) (startOf cell j) room₀;
+          sameRelease = h .releases .same;
+          sameWaits = h .waiting .same;
+          sameCame = h .sameCame;
+        }

@@ -1,0 +1,105 @@
+-- What a loop over the steps of the engine's run knows of its state, and how it ends. Assumes nothing.
+use mathlib.Core.Path.{_≡_, refl, sym, ap, _∙_}
+use mathlib.Core.List.{List}
+use Prim.Native.Nat.{ℕ, _+_, _≤_, _<_}
+use lib.ListN.{length}
+use native.Mathlib.Numerals.{add-one}
+use native.Mathlib.Omega.{arith}
+use Rattle.numbers.specs.FirstLaws.{Faultless, faultless-none, faultless-more, faultless-stop, faultless-end}
+use Rattle.road.specs.Refusals.{FaultAnswer}
+use Rattle.road.specs.declared.Road.{Road}
+use Rattle.road.specs.declared.State.{State}
+use Rattle.studies.specs.Study.{Study, roadAt, places}
+use Rattle.model.specs.Move.{nextOf}
+use Rattle.model.specs.Rules.{outflowsOf}
+use Rattle.model.specs.Step.{releasesOf}
+use Rattle.model.specs.StepLaws.{number-of}
+use Rattle.model.specs.Runs.{engineAfter, outflowsAt}
+use Rattle.model.specs.RunsLaws.{StudyOk, Reached, StepOf, step-road, step-input, step-sized, step-left}
+use Rattle.fields.specs.Fields.{recordRow, HoldsRow}
+use Rattle.passes.specs.Step.{Arrays, Asks}
+use Rattle.schedules.specs.Schedules.{runSays, firstStep, EndAnswer, ended, runEnd}
+use Rattle.schedules.specs.SchedulesLaws.{ends-at, ends-all, run-reached}
+
+-- k steps are made without a fault, and u is the state after them
+pub record Ran (a : Study) (u : State) (k : ℕ) : Type 0 where
+  pub state : u ≡ engineAfter a k
+  pub faultless : Faultless (λ j. runSays a j .number) (a .steps) k
+
+-- a turn of the loop: q is the step's road, and the code holds the row of step k
+pub record RanTurn (a : Study) (u : State) (k : ℕ) (q : Road) (row : List ℕ) : Type 0 where
+  pub ok : StudyOk a
+  pub ran : Ran a u k
+  pub left : k < a .steps
+  pub road : q ≡ roadAt a k
+  pub numbers : row ≡ a .rows k
+
+module _ {a : Study} where
+  -- within the limits
+  pub ran-reached : {u : State} {k : ℕ} → StudyOk a → Ran a u k → Reached a u k
+  ran-reached {k = k} ok h = rw (h .state) (run-reached a ok k (h .faultless .within) (h .faultless .before))
+
+  pub ran-none : Ran a (a .start) 0
+  unfolding engineAfter
+  ran-none = record { state = refl; faultless = faultless-none }
+
+  -- all steps are made
+  module _ {u : State} {k : ℕ} (h : Ran a u k) (end : a .steps ≤ k) where
+    pub all-ran : k ≡ a .steps
+    all-ran = omega (arith, h .faultless .within)
+
+    pub steps-all : k ≡ firstStep (runSays a) (a .steps)
+    steps-all = faultless-end (h .faultless) end
+
+    pub ends-ran : {e : EndAnswer} → e ≡ ended 0 0 0 (a .road) u → e ≡ runEnd a
+    ends-ran g = g ∙ ends-all a (runSays a) (engineAfter a) (h .faultless) (h .state) end
+
+  module _ {u : State} {k : ℕ} {q : Road} {row : List ℕ} (t : RanTurn a u k q row) where
+    this-step : StepOf a q u row k
+    this-step = record {
+      ok = t .ok;
+      left = t .left;
+      road = t .road;
+      numbers = t .numbers;
+      reached = ran-reached (t .ok) (t .ran);
+    }
+
+    pub same-places : {m : ℕ} → m ≡ places a → m ≡ q .n + 1
+    same-places e = e ∙ ap (λ (n : ℕ). n + 1) (sym (step-road this-step .n))
+
+    -- the engine's row of the step, as the code has it
+    pub row-is : {y : List ℕ} → y ≡ outflowsOf q u row → y ≡ outflowsAt a k
+    row-is e = rw (e, t .road, t .ran .state, t .numbers)
+
+    -- what running says of the step, from what the code finds
+    module _ {f : FaultAnswer} (e : f ≡ releasesOf q u row) where
+      says : f ≡ runSays a k
+      says = rw (e, t .road, t .ran .state, t .numbers)
+
+      -- a fault ends the run before the step
+      pub ends-fault : {x : EndAnswer} → (f .number ≡ 0 → ⊥) → x ≡ ended (f .number) k (f .place) (a .road) u → x ≡ runEnd a
+      ends-fault n g = g ∙ ends-at a (runSays a) (engineAfter a) (t .ran .faultless) (t .ran .state) (t .left) says n
+
+      pub steps-fault : (f .number ≡ 0 → ⊥) → k ≡ firstStep (runSays a) (a .steps)
+      steps-fault n = faultless-stop (t .ran .faultless) (t .left) (number-of says) n
+
+      -- without one, one step more is made
+      pub ran-more : f .number ≡ 0 → {v : State} → v ≡ nextOf q u row (outflowsOf q u row) → Ran a v (k + 1)
+      unfolding engineAfter
+      ran-more z ev = record {
+        state = rw (ev, t .road, t .ran .state, t .numbers, add-one k);
+        faultless = faultless-more (t .ran .faultless) (t .left) (number-of says) z;
+      }
+
+-- the passes of a turn ask for no more than the arrays and a row
+pub passes-ask : {a : Study} {u : State} {k : ℕ} {q : Road} {bytes : List ℕ} {ramps : ℕ} {cell rest room release waiting demand y : List ℕ}
+    → RanTurn a u k q (recordRow bytes (q .n) k) → HoldsRow bytes (q .n) k → Arrays q ramps cell (u .cumulative) rest room release waiting demand
+    → length y ≡ q .n + 1 → Asks bytes k q u ramps cell rest room release waiting demand y
+passes-ask t holds arrays places = record {
+  input = step-input (this-step t);
+  sized = step-sized (this-step t);
+  left = step-left (this-step t);
+  holds = holds;
+  arrays = arrays;
+  places = places;
+}

@@ -1,0 +1,54 @@
+-- What the loop of running knows of the weighted total. Assumes nothing.
+use mathlib.Core.Path.{_≡_, refl, sym, ap, _∙_}
+use mathlib.Core.Bool.{Bool, true, false, cond}
+use Prim.Native.Nat.{ℕ, suc, _+_, _*_, _≤_}
+use native.Mathlib.Numerals.{add-one}
+use native.Mathlib.Omega.{arith}
+use Rattle.road.specs.declared.State.{State}
+use Rattle.road.specs.Road.{mostSteps}
+use Rattle.studies.specs.Study.{Study}
+use Rattle.model.specs.Runs.{engineAfter}
+use Rattle.model.specs.Weights.{weightedOf, weightedTotal}
+use Rattle.model.specs.WeightsLaws.{weighted-total-none, weighted-total-more}
+use Rattle.weighing.specs.Bounds.{mostWeighted, mostWeightedTotal}
+use Rattle.schedules.specs.Schedules.{runSays, firstStep}
+use Rattle.running.specs.Steps.{Ran}
+
+-- the weighted total of a run step by step up to its end, where weights are asked for
+abbrev pub weighedEnd : Bool → (ℕ → ℕ) → (ℕ → ℕ) → Study → ℕ
+weighedEnd weighs w u a = cond weighs (weightedTotal w u (a .road .n) (engineAfter a) (firstStep (runSays a) (a .steps))) 0
+
+-- when k steps are made
+pub record Totalled (weighs : Bool) (w u : ℕ → ℕ) (a : Study) (total k : ℕ) : Type 0 where
+  pub sum : total ≡ cond weighs (weightedTotal w u (a .road .n) (engineAfter a) k) 0
+  pub small : total ≤ k * mostWeighted
+
+module _ (weighs : Bool) (w u : ℕ → ℕ) (a : Study) where
+  pub totalled-none : Totalled weighs w u a 0 0
+  totalled-none = record { sum = go weighs; small = omega arith }
+    where
+      go : (b : Bool) → 0 ≡ cond b (weightedTotal w u (a .road .n) (engineAfter a) 0) 0
+      go true = sym (weighted-total-none w u (a .road .n) (engineAfter a))
+      go false = refl
+
+  module _ {total k : ℕ} (h : Totalled weighs w u a total k) where
+    pub totalled-fits : k ≤ mostSteps → total ≤ mostWeightedTotal
+    totalled-fits l = omega (arith, h .small)
+
+    pub totalled-more : {v : State} {x : ℕ} → Ran a v (k + 1) → x ≡ total + cond weighs (weightedOf w u (a .road .n) v) 0 → x ≤ total + mostWeighted
+        → Totalled weighs w u a x (k + 1)
+    totalled-more {v} ran e l = record {
+      sum = rw (add-one k) (e ∙ ap (λ (t : ℕ). t + cond weighs (weightedOf w u (a .road .n) v) 0) (h .sum) ∙ go weighs);
+      small = omega (arith, h .small);
+    }
+      where
+        after : v ≡ engineAfter a (suc k)
+        after = rw (add-one k) at (ran .state)
+
+        go : (b : Bool) → cond b (weightedTotal w u (a .road .n) (engineAfter a) k) 0 + cond b (weightedOf w u (a .road .n) v) 0
+            ≡ cond b (weightedTotal w u (a .road .n) (engineAfter a) (suc k)) 0
+        go true = rw after (sym (weighted-total-more w u (a .road .n) (engineAfter a) k))
+        go false = omega arith
+
+    pub totalled-end : k ≡ firstStep (runSays a) (a .steps) → total ≡ weighedEnd weighs w u a
+    totalled-end e = h .sum ∙ ap (λ (j : ℕ). cond weighs (weightedTotal w u (a .road .n) (engineAfter a) j) 0) e
