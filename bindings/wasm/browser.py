@@ -1,4 +1,7 @@
 """The page in a real browser: headless Chromium, driven by its own driver, beside the command line (ctm and the reference)."""
+import base64
+import csv
+import json
 import re
 import shutil
 import struct
@@ -103,11 +106,30 @@ class Page:
     def text(self, name):
         return self[name].text.strip()
 
+    def script(self, text, *given):
+        return self.driver.execute_script("return " + text, *given)
+
+    def size(self, width):
+        """The window's width in CSS pixels; that of a telephone below 600."""
+        self.driver.execute_cdp_cmd("Emulation.setDeviceMetricsOverride", {"width": width, "height": 900, "deviceScaleFactor": 1, "mobile": width < 600})
+
+    def link(self, name):
+        """The link that a button for the class gives."""
+        self[name].click()
+        self.until(lambda: self["linked"].find_elements(By.TAG_NAME, "a"), "a link")
+        return self["linked"].find_element(By.TAG_NAME, "a").get_attribute("href")
+
     def until(self, true, what="something"):
         end = time.time() + 10
         while not true():
             assert time.time() < end, f"waited for {what} in vain, at {self.driver.current_url}"
             time.sleep(0.02)
+
+    def drop(self, name, data):
+        """A file dropped on the page."""
+        self.driver.execute_script(
+            "const files = new DataTransfer(); files.items.add(new File([Uint8Array.from(arguments[0])], arguments[1]));"
+            "document.dispatchEvent(new DragEvent('drop', { dataTransfer: files, bubbles: true, cancelable: true }))", list(data), name)
 
     def download(self, name):
         path = self.folder / self[name].get_attribute("download")
@@ -199,9 +221,7 @@ def records(page):
             assert page["shown"].is_displayed()
     # dropped on the page, and then in its address
     page.open(study="rocade")
-    page.driver.execute_script(
-        "const files = new DataTransfer(); files.items.add(new File([Uint8Array.from(arguments[0])], 'printed-run.rec'));"
-        "document.dispatchEvent(new DragEvent('drop', { dataTransfer: files, bubbles: true, cancelable: true }))", list((ROOT / "examples/printed-run.rec").read_bytes()))
+    page.drop("printed-run.rec", (ROOT / "examples/printed-run.rec").read_bytes())
     page.until(lambda: page.text("last").startswith("total 33098 "))
     page.go(page.driver.current_url)
     assert page.text("last").startswith("total 33098 "), "a short record goes with its address"
@@ -214,12 +234,102 @@ def records(page):
     # as an exercise, within its limits
     page["mode-exercise"].click()
     page["own"].click()
-    assert "own record, 2 cells, 3 steps" in page.text("sheet-name")
+    assert page.text("sheet-name") == "Own record: 2 cells, 3 steps"
+    assert not any(page[name].is_displayed() for name in ("seed", "cells", "steps")), "what draws a road is hidden beside a record"
     page["mode-study"].click()
     page["file"].send_keys(str(ROOT / "examples/rocade-sud.rec"))
     page.until(lambda: page.text("last").startswith("total 294407512 "))
     page["mode-exercise"].click()
     assert page.text("exercise-refused").startswith("Refused 26: "), page.text("exercise-refused")
+
+
+def no_records(page):
+    """What is no record is named, with what to do, in each language and in both views; so is a link that was cut."""
+    toml, record = (ROOT / "examples/studies/five-cells.toml").read_bytes(), (ROOT / "examples/printed-run.rec").read_bytes()
+    cases = [("a road.toml", toml, "study (TOML)", "convert 'a road.toml' 'a road.rec'"), ("arrivals.CSV", b"time,gate\n", "table (CSV)", "convert road.toml road.rec"),
+             ("it's.txt", b"cell v 1\n", "is a text", r"convert 'it'\''s.txt' 'it'\''s.rec'"), ("empty.toml", b"", "study (TOML)", "convert empty.toml empty.rec"),
+             ("report.pdf", b"%PDF-1.7", "is not a record", "convert road.toml road.rec"), ("named.rec", toml, "is not a record", ".rec files"), ("noname", toml, "is not a record", "")]
+    for mode, box in (("study", "refused"), ("exercise", "exercise-refused")):
+        for name, data, kind, does in cases:
+            page.open(study="rocade", mode=mode)
+            page.drop(name, data)
+            page.until(lambda: kind in page.text(box), f"{name} named in {mode}")
+            assert page.text(box).startswith(name) and does in page.text(box) and not page["shown" if mode == "study" else "sheet"].is_displayed(), page.text(box)
+            page.drop("printed-run.rec", record)  # and a record is taken after it
+            page.until(lambda: not page[box].is_displayed() and page["shown" if mode == "study" else "sheet"].is_displayed(), f"a record after {name}")
+    for lang, words in (("de", "ist eine Studie"), ("fr", "est une étude")):
+        page.open(lang=lang)
+        page.drop("road.toml", toml)
+        page.until(lambda: words in page.text("refused") and "./nobyaluk convert road.toml road.rec" in page.text("refused"), words)
+    page.open(mode="exercise")
+    page.drop("road.toml", toml)
+    page.until(lambda: "study (TOML)" in page.text("exercise-refused"))
+    page["next"].click()  # another road goes on without it
+    assert page["sheet"].is_displayed()
+    whole = base64.urlsafe_b64encode(record).decode().rstrip("=")
+    for cut in (1, 2, 3, 4, 50, len(whole) - 6):
+        left = len(base64.urlsafe_b64decode((whole[:-cut] if (len(whole) - cut) % 4 != 1 else whole[: -cut - 1]) + "==="))
+        for mode, box in (("study", "refused"), ("exercise", "exercise-refused")):
+            page.open(study="own", own=1, mode=mode, rec=whole[:-cut])
+            assert page.text(box).startswith(f"This link is cut short: it holds {left} of the 124 bytes"), page.text(box)
+    for broken in ("AA", "!!", whole.replace("A", "*", 1), "%", "_" + whole[1:]):
+        page.open(study="own", rec=broken)
+        assert page.text("refused").startswith("The record in this link can’t be read"), page.text("refused")
+    for lang, words in (("de", "ist abgeschnitten"), ("fr", "est tronqué")):
+        page.open(lang=lang, study="own", rec=whole[:-9])
+        assert words in page.text("refused")
+    page.open(study="own", rec=whole)
+    assert page.text("last").startswith("total 33098 ")
+
+
+def addresses(page):
+    """Whatever the address says, the page stands: names that every object of JavaScript has are no studies and no languages."""
+    page.open()
+    first = page.text("last")
+    for word in ("constructor", "toString", "__proto__", "hasOwnProperty", "valueOf", "", "%00", "%F0%9F%92%A1", "<b>"):
+        for key in ("study", "lang", "law", "mode", "rec", "seed", "load", "cell", "ramp-4"):
+            page.open(**{key: word})
+            assert page.text("last") == first or key in ("load", "cell", "ramp-4", "rec"), f"{key}={word}"
+            assert page.driver.find_element(By.TAG_NAME, "h1").text == "Whose waiting does the total count?", f"{key}={word}"
+
+
+def policy(page):
+    """No script, style or handler but the page's own, known by their sums; and no connection."""
+    said = re.search(r'Content-Security-Policy" content="([^"]*)"', PAGE.read_text())[1]
+    assert "unsafe-inline" not in said and len(re.findall(r"'sha256-[A-Za-z0-9+/]{43}='", said)) == 2, said
+    page.open()
+    page.driver.execute_script(
+        "window.broken = []; document.addEventListener('securitypolicyviolation', (e) => broken.push(e.effectiveDirective));"
+        "const add = (tag, text, more = {}) => { const x = document.createElement(tag); x.textContent = text; for (const k in more) x.setAttribute(k, more[k]); document.body.append(x); return x; };"
+        "add('script', 'window.ran = 1'); add('style', 'h1 { color: rgb(1, 2, 3) }'); add('button', '', { onclick: 'window.ran = 2' }).click();"
+        "add('p', 'x', { style: 'color: rgb(1, 2, 3)', id: 'styled' }); fetch('https://example.org/').catch(() => {}); add('img', '', { src: 'https://example.org/x.png' });")
+    page.until(lambda: len(set(page.driver.execute_script("return broken"))) >= 6, "six kinds of violation")
+    assert page.driver.execute_script("return window.ran") is None
+    for where in ("h1", "#styled"):
+        assert "rgb(1, 2, 3)" not in page.driver.execute_script("return getComputedStyle(document.querySelector(arguments[0])).color", where)
+    page.driver.get_log("browser")  # which names the violations
+
+
+def gate(page):
+    """What the gate counts of each arrival is shown apart, and is in no queue; numbers have their words in each language."""
+    for study in BASES:
+        page.open(study=study, law="record")
+        record = Record((ROOT / f"examples/{BASES[study]}.rec").read_bytes())
+        came = record.rows()[:: 1 + 2 * record.n]
+        total = sum(came) / 1000 if study == "printed" else sum(came) * (record.seconds or 36) / 3.6e6
+        assert f"of it arriving {total:,.1f}" in page.text("totals"), f"{study}: {page.text('totals')}"
+        queue = [int(x.split()[3]) for x in output(CTM, given=bytes(record.data)).decode().splitlines() if re.match(r"\d+ 0 ", x)]
+        start = struct.unpack(">I", record.data[record.header - 4 :][:4])[0]
+        longest = max(start, *(q - a for q, a in zip(queue, came))) / 1000
+        digits = 0 if record.seconds or study == "classroom" else 1
+        assert f"gate (at most {longest:,.{digits}f})" in page.text("queues-legend"), f"{study}: {longest} {page.text('queues-legend')}"
+    one = struct.pack(">IBBHII4H4I3I", 48, 1, 1, 1, 1000, 0, 500, 250, 0, 1, 8000, 1000, 0, 0, 0, 0, 0)
+    for lang, said, bare in (("en", "1 cell, 1 step of unstated length, 1 on-ramp", "no on-ramp"), ("de", "1 Zelle, 1 Schritt ohne angegebene Dauer, 1 Auffahrt", "keine Auffahrt"),
+                             ("fr", "1 cellule, 1 pas de durée non précisée, 1 rampe d’accès", "aucune rampe d’accès")):
+        page.open(lang=lang, study="own", rec=base64.urlsafe_b64encode(one).decode().rstrip("="))
+        assert page.text("shape") == said, page.text("shape")
+        page.open(lang=lang, study="classroom")
+        assert page.text("shape").endswith(bare), page.text("shape")
 
 
 def exercise(page):
@@ -256,24 +366,158 @@ def exercise(page):
         assert f"costs {total / 1000:,.3f} vehicle-steps" in judged([*key[:-1], 0]), f"{said}{page.text('judged')}"
         assert "is not a whole number" in judged([1.5, *key[1:]]) and "no plan costs less" in judged([f"{x:,}" for x in key])
         assert "Right up to step 0" in judged([*key[: cells + 1], *[""] * (len(key) - cells - 1)])
+
+
+def all_ramps(cells, steps):
+    """A record of version 2 with an on-ramp at each cell and numbers of six digits: the widest exercise of so many cells."""
+    size, rows = 18 + 24 * cells + steps * (4 + 8 * cells), [[150000, *[40000, 30000] * cells]] * steps
+    road = b"".join(struct.pack(">4H4I", 500, 250, 0 if i == cells else 900, 1, 800000, 200000, 110000, 120000) for i in range(1, cells + 1))
+    return struct.pack(">IBBHHII", size - 4, 2, cells, steps, 30, 200000, 130000) + road + b"".join(struct.pack(f">{len(row)}I", *row) for row in rows)
+
+
+def in_link(record):
+    return base64.urlsafe_b64encode(record).decode().rstrip("=")
+
+
+def paper(page):
+    """The printed sheet has the question, its title, a name's line, ramps' names, seconds and every field; the key the engine's numbers, the sheet none."""
+    record = all_ramps(4, 6)
+    page.open(mode="exercise", own=1, rec=in_link(record), title="Question four", names="Harbour,,Mill Street")
     page.driver.execute_script("window.print = () => {}")
-    page["print-key"].click()
-    assert f"{key[-1]:,}" in page["paper"].get_attribute("textContent")
+    lines = output(CTM, given=record).decode().splitlines()
+    listed, total = [line.split() for line in lines[1:-2]], re.match(r"total (\d+) gate (\d+) road (\d+) ramp (\d+)", lines[-2]).groups()
+    numbers = {f"{int(x):,}" for x in (*total, *(x for line in listed for x in line[2:]))}
+    given = {f"{x:,}" for x in (*Record(record).rows(), 200000, 130000, 800000, 110000, 120000, 500, 250, 900, 0)}
+    asked = ["Compute the total time spent, and state whose waiting it counts.", "4 cells, 6 steps of 30 s", "ramp Harbour", "ramp 2", "ramp Mill Street",
+             "at the gate", "on the road", "at the ramps", "Total time spent", "Whose waiting does this total count?"]
     page["print-sheet"].click()
-    assert "Key" not in page["paper"].get_attribute("textContent") and len(page["paper"].find_elements(By.CSS_SELECTOR, "td.blank")) >= len(key)
+    sheet = page.script("document.getElementById('paper').textContent").replace("\u00a0", " ")
+    cells = page.script("[...document.querySelectorAll('#paper td, #paper th')].map((x) => x.textContent)")
+    assert sheet.startswith("Question four") and all(x in sheet for x in ("Name", *asked)), sheet
+    assert not [x for x in cells if x in numbers - given], "the sheet has numbers of the run"
+    assert not re.search("everyone|in the system|[Kk]ey|Seed|record", sheet), "the sheet gives the answer away"
+    blank = page.script("document.querySelectorAll('#paper table.fill td, #paper .sum-fields td').length")
+    assert blank == 6 * (5 + 5 + 4) + 4 and page.script("document.querySelectorAll('#paper .name span, #paper .line').length") == 3
+    page["print-key"].click()
+    key = page.script("document.getElementById('paper').textContent").replace("\u00a0", " ")
+    cells = page.script("[...document.querySelectorAll('#paper td')].map((x) => x.textContent)")
+    for lang in ("en", "de", "fr"):  # the widest exercise, on paper of A4 between margins of 15 mm
+        page.open(lang=lang, mode="exercise", own=1, rec=in_link(all_ramps(8, 12)))
+        page.driver.execute_script("window.print = () => {}")
+        page["print-sheet"].click()
+        page.driver.execute_cdp_cmd("Emulation.setEmulatedMedia", {"media": "print"})
+        page.size(680)
+        wide = page.script("[...document.querySelectorAll('#paper table')].map((x) => x.getBoundingClientRect().right)")
+        page.driver.execute_cdp_cmd("Emulation.setEmulatedMedia", {"media": ""})
+        page.driver.execute_cdp_cmd("Emulation.clearDeviceMetricsOverride", {})
+        assert len(wide) == 7 and max(wide) <= 680, f"{lang}: tables end at {wide} of 680 px"
+    assert key.startswith("Question four: key") and all(x in key for x in asked) and "Of everyone in the system" in key and numbers <= {*cells, "0"}, numbers - {*cells}
+
+
+def graded(page):
+    """A graded link has the exercise and fields for every answer, and neither key nor hint nor check; its file holds what is typed."""
+    with open(ROOT / "bindings/wasm/texts.tsv", encoding="utf-8", newline="") as f:
+        words = {row["key"]: row for row in csv.DictReader(f, delimiter="\t", quoting=csv.QUOTE_NONE)}
+    hints = [key for key in words if re.match(r"judged|whose\.key|key\.|wrong|says|try|states\.show|judge$|sheet\.keyed|refused", key)]
+    record = (ROOT / "examples/printed-run.rec").read_bytes()
+    page.open(mode="exercise", own=1, rec=in_link(record), title="Question four", names="Mill Street")
+    mine = {form: page.link(f"link-{form}") for form in ("practice", "graded")}
+    page.open(mode="exercise", seed=2026, cells=3, steps=4)
+    drawn = {form: page.link(f"link-{form}") for form in ("practice", "graded")}
+    drawn_record = page.download("exercise-record")
+    for links, exercise, seed in ((mine, record, None), (drawn, drawn_record, 2026)):
+        page.go(links["practice"])
+        assert page["judge"].is_displayed() and page["print-key"].is_displayed() and page.download("exercise-record") == exercise
+        for lang in ("de", "fr", "en"):
+            page.go(re.sub(r"lang=\w+", f"lang={lang}", links["graded"]))
+            dom = page.script("document.documentElement.outerHTML").replace("\u00a0", " ").replace("&nbsp;", " ")
+            for key in hints:
+                for part in re.split(r"\{\w+\}", words[key][lang]):
+                    assert len(part) < 10 or part.replace("\u202f", " ") not in dom, f"{lang}: {key} is in the graded page: {part}"
+            for name in ("judge", "judged", "judged-more", "print-key", "show", "exercise-record", "view-study", "seed", "file", "mode-study"):
+                assert not page.driver.find_elements(By.ID, name), f"the graded page has {name}"
+        e = output(CTM, given=exercise).decode().splitlines()
+        total = re.match(r"total (\d+) gate (\d+) road (\d+) ramp (\d+)", e[-1]).groups()
+        assert not any(x in dom or f"{int(x):,}" in dom for x in total), "the solution is in the graded page"
+        assert "Compute the total time spent, and state whose waiting it counts." in dom
+        # the key typed as a student types it, by the listing's own columns
+        road, listed = Record(exercise), [[int(x) for x in line.split()] for line in e[1:-1]]
+        w, ramps = road.n + 1, [i for i in range(1, road.n + 1) if struct.unpack(">H", road.data[road.header + 24 * (i - 1) + 6 :][:2])[0]]
+        steps = [listed[k * w : (k + 1) * w] for k in range(road.steps)]
+        want = {"outflows": [[x[2] for x in step] for step in steps], "held": [[x[3] for x in step] for step in steps], "queue": [[step[i][4] for i in ramps] for step in steps]}
+        empty = json.loads(page.download("answers"))
+        assert {x for key in want for row in empty[key] for x in row} == {None} and empty["total"] is None and empty["whose"] == "", empty
+        assert "Empty fields: " in page.text("saved")
+        typed = [str(x) for k in range(road.steps) for key in ("outflows", "held", "queue") for x in want[key][k]]
+        fields = page.driver.find_elements(By.CSS_SELECTOR, "#grid input")
+        assert len(fields) == len(typed)
+        page.driver.execute_script("arguments[0].forEach((x, i) => { x.value = arguments[1][i]; })", fields, typed)
+        for name, x in zip(("time-total", "time-gate", "time-road"), total):
+            page[name].send_keys(f"{int(x):,}")
+        page["time-ramp"].send_keys("12.5")
+        page["name"].send_keys("Zoë O’Neill")
+        page["whose"].send_keys("everyone’s")
+        page["lang"].find_element(By.CSS_SELECTOR, "[value=de]").click()  # what is typed stays
+        saved = json.loads(page.download("answers"))
+        assert page["answers"].get_attribute("download") == "answers-zoë-o-neill.json" and "Keine ganze Zahl: 12.5." in page.text("saved"), page.text("saved")
+        assert {key: saved.pop(key) for key in want} == want, "the file has other answers than are typed"
+        shape = {"record": base64.b64encode(exercise).decode(), "seed": seed, "cells": road.n, "steps": road.steps}
+        assert saved == {"format": "nobyaluk-answers", "version": 1, "exercise": shape, "name": "Zoë O’Neill", "total": int(total[0]), "gate": int(total[1]),
+                         "road": int(total[2]), "ramp": "12.5", "whose": "everyone’s"}, saved
+    page.drop("road.toml", b"title = 1")  # a file dropped on it changes nothing
+    assert page["sheet"].is_displayed() and page["name"].get_attribute("value") == "Zoë O’Neill"
+    page.open(mode="graded", rec=in_link(record)[:-9])
+    assert page.text("exercise-refused").startswith("This link is cut short") and not page["sheet"].is_displayed()
+    page.driver.execute_script("location.hash = 'lang=en&mode=exercise'")  # and the same tab takes another link
+    page.until(lambda: page.driver.find_elements(By.ID, "judge") and page["judge"].is_displayed(), "the practice form")
+
+
+def widths(page):
+    """Four cells fit a screen of 1280 px, eight are seen to go on; a telephone shows every column of the totals."""
+    over = "((x) => x.scrollWidth - x.clientWidth)(document.querySelector('#grid').parentElement)"
+    edge = "document.querySelector('#grid').parentElement.parentElement.className"
+    for mode in ("exercise", "graded"):
+        for lang in ("en", "de", "fr"):
+            page.size(1280)
+            record = all_ramps(4, 6)
+            page.open(lang=lang, mode=mode, own=1, rec=in_link(record))
+            if mode == "exercise":  # with every state shown
+                key = [line.split()[2] for line in output(CTM, given=record).decode().splitlines()[1:-2]]
+                page.driver.execute_script("document.querySelectorAll('#grid input').forEach((x, i) => { x.value = arguments[0][i]; })", key)
+                page["judge"].click()
+            assert page.script(over) <= 0 and page.script(edge) == "edge", f"{mode}, {lang}: four cells are {page.script(over)} px too wide"
+            page.open(lang=lang, mode=mode, own=1, rec=in_link(all_ramps(8, 6)))
+            assert page.script(over) > 0 and "more" in page.script(edge), f"{mode}, {lang}: eight cells don't show that they go on"
+            page.driver.execute_script("document.querySelector('#grid').parentElement.scrollLeft = 9999")
+            page.until(lambda: page.script(edge) == "edge less", "the other edge")
+    for lang in ("en", "de", "fr"):
+        page.size(390)
+        page.open(lang=lang, study="rocade", law="alinea")
+        last = page.script("((x) => [x.textContent, x.getBoundingClientRect().right, x.closest('.wide').getBoundingClientRect().right])"
+                           "(document.querySelector('#totals tr.sum td:last-child'))")
+        assert re.match(r"^[+−±][\d.,]+$", last[0]) and 0 < last[1] <= last[2], f"{lang}: the column % is not to be seen: {last}"
+        cut = page.script("[...document.querySelectorAll('.bar > div')].filter((x) => x.textContent && x.scrollWidth > x.clientWidth).map((x) => x.textContent)")
+        assert not cut, f"{lang}: {cut} run over their bars"
+        assert {"en": "cells alone", "de": "nur die Zellen", "fr": "cellules seules"}[lang] in page.text("bars")
+    page.driver.execute_cdp_cmd("Emulation.clearDeviceMetricsOverride", {})
 
 
 def languages(page):
     """Every text is there in each language, and a telephone scrolls nothing sideways."""
     for lang in ("de", "fr", "en"):
-        for mode in ("study", "exercise"):
-            page.open(lang=lang, mode=mode, study="rocade", law="alinea", works=1)
+        for mode in ("study", "exercise", "graded"):
+            page.open(lang=lang, mode=mode, study="rocade", law="alinea", works=1, cells=8)
             shown = page.driver.find_element(By.TAG_NAME, "body").text
             assert "{" not in shown and "undefined" not in shown and "NaN" not in shown, lang
             unnamed = page.driver.execute_script(
                 "return [...document.querySelectorAll('input, select, button, canvas')].filter((x) => !(x.labels?.length && x.labels[0].textContent.trim())"
                 " && !x.getAttribute('aria-label') && !(x.tagName === 'BUTTON' && x.textContent.trim()) && !x.closest('[hidden]')).map((x) => x.id)")
             assert not unnamed, f"{lang}, {mode}: {unnamed} have no name"
+            chooser = {"en": "Choose a file", "de": "Datei wählen", "fr": "Choisir un fichier"}[lang]
+            assert mode == "graded" or (chooser in shown and not page["file"].is_displayed()), "the chooser speaks another language"
+            spaced = page.script("document.body.innerText")
+            alone = re.findall(r".*\d %.*" if lang != "fr" else r".*(?:\d %| [:;?!»]|« |[^\s\d/]:\s).*", spaced)
+            assert not alone, f"{lang}, {mode}: a mark or unit has the wrong space before it: {alone}"
             page.driver.execute_cdp_cmd("Emulation.setDeviceMetricsOverride", {"width": 360, "height": 740, "deviceScaleFactor": 1, "mobile": True})
             assert page.driver.execute_script("return document.documentElement.scrollWidth") <= 360, f"{lang}, {mode}: wider than a telephone"
             page.driver.execute_cdp_cmd("Emulation.clearDeviceMetricsOverride", {})
@@ -284,7 +528,7 @@ def main():
     with tempfile.TemporaryDirectory() as folder:
         page, began = Page(Path(folder)), time.time()
         try:
-            for part in (settings, sliders, verdicts, records, exercise, languages):
+            for part in (settings, sliders, verdicts, records, no_records, addresses, policy, gate, exercise, paper, graded, widths, languages):
                 part(page)
                 errors = page.driver.get_log("browser")
                 assert not errors, f"{part.__name__}: the console says {errors}"

@@ -115,12 +115,20 @@ function layers(canvas, height, stack, beside, time, label, say) {
   g.stroke(); g.setLineDash([]); timeAxis(f, time);
 }
 
-// A piece of a legend: a line as it is drawn, or a patch.
-function sample({ colour, dash }) {
+// A piece of a legend: a line as it is drawn, a patch, or a hatched patch.
+function sample({ colour, dash, hatched }) {
   const ns = "http://www.w3.org/2000/svg", svg = document.createElementNS(ns, "svg"), line = document.createElementNS(ns, dash ? "line" : "rect");
   const set = (x, all) => Object.entries(all).forEach(([k, v]) => x.setAttribute(k, v));
   set(svg, { width: 26, height: 12, "aria-hidden": "true" });
   set(line, dash ? { x1: 0, x2: 26, y1: 6, y2: 6, stroke: colour, "stroke-width": 2.5, "stroke-dasharray": dash.join(" ") } : { x: 6, y: 0, width: 14, height: 12, fill: colour });
   svg.append(line);
+  if (hatched) {
+    set(line, { fill: "#e4e4e4", stroke: "#999" });
+    for (const x of [8, 13, 18]) {
+      const stroke = document.createElementNS(ns, "line");
+      set(stroke, { x1: x - 2, x2: x + 2, y1: 12, y2: 0, stroke: "#999", "stroke-width": 1.5 });
+      svg.append(stroke);
+    }
+  }
   return svg;
 }

@@ -1,9 +1,24 @@
-// The exercise: a small road of a seed, outflows typed by the student, judged by the engine; a sheet and its key to print.
+// The exercise: a small road of a seed, or a record; for practice outflows typed by the student and judged by the engine.
 const MOST_CELLS = 8, MOST_BYTES = 4096, DRAWS = 96, MOST_OUTFLOW = 1e6;
-let task = null;   // the record, what it gives, and the engine's run of it
+let task = null;   // the record, what it gives, its title and names, and for practice the engine's run of it
 
-// A road of a seed. All of it is drawn by the stated load: numbers of 0 to 999 that choose, then the arrivals.
+// A road of a seed, as `nobyaluk exercise --seed` draws it. A road on which nobody is held back, or without an off-ramp, is passed over.
 function drawn(seed, n, steps) {
+  const TRIES = 100;
+  for (let tries = 1; ; tries++) {
+    const { record, road, start, last } = draw(seed, n, steps);
+    if (tries === TRIES || fits(record, road, start)) return record;
+    seed = last;
+  }
+}
+function fits(record, road, start) {
+  const w = road.n + 1, { outflow } = engine.run(record), { held } = engine.history(record, outflow);
+  const before = (j) => (j >= w ? held[j - w] : [start.gate_queue, ...start.held][j]);
+  const demand = (j, p) => (p ? engine.demand(road.speed[p - 1], road.capacity[p - 1], before(j)) : engine.gateDemand(road.gate_capacity, before(j)));
+  return (road.n === 1 || road.share.some((b) => b > 0 && b < 1000)) && outflow.some((y, j) => y < demand(j, j % w));
+}
+// One road, all of it drawn by the stated load: numbers of 0 to 999 that choose, then the arrivals; and the number from which the load goes on.
+function draw(seed, n, steps) {
   const { list, last } = engine.load(seed, 999, DRAWS);
   let at = 0;
   const pick = (from) => from[Math.floor(list[at++] * from.length / 1000)];
@@ -27,73 +42,103 @@ function drawn(seed, n, steps) {
     for (let i = 0; i < n; i++) rows[k * width + 2 * i + 1] = road.ramp[i] * ramp.list[k * n + i];
   }
   const meters = Object.fromEntries(road.ramp.flatMap((mark, i) => (mark ? [[i + 1, ["fixed", 300]]] : [])));
-  return engine.fill(engine.write(road, start, rows), meters).record;
+  return { record: engine.fill(engine.write(road, start, rows), meters).record, road, start, last: ramp.last };
 }
 const seed = () => Math.min(2 ** 32 - 1, Math.max(0, Math.floor(value("seed")) || 0));
 
 // The sheet's tables.
 const whole = (x) => say(x, 0);
 const nameOf = (place) => (place ? t("place.cell", { cell: place }) : t("place.gate"));
-const rampName = (cell) => t("ramp.of", { cell });
 const rampsOf = () => task.road.ramp.flatMap((mark, i) => (mark ? [i + 1] : []));
+const givenName = (cell) => task.names[rampsOf().indexOf(cell)];
+const rampName = (cell) => (givenName(cell) ? t("ramp.named", { name: givenName(cell) }) : t("ramp.of", { cell }));
 const places = () => Array.from({ length: task.road.n + 1 }, (_, p) => p);
 const eachStep = (of) => Array.from({ length: task.steps }, (_, k) => [String(k), ...of(k)]);
 function given() {
   const { road, start } = task, head = ["place", "col.v", "col.w", "col.b", "col.J", "col.C", "col.held", "col.queue"].map((key) => t(key));
   const gate = [nameOf(0), "", "", "", "", whole(road.gate_capacity), "", whole(start.gate_queue)];
   const numbers = (i) => ["speed", "wave", "share", "jam", "capacity"].map((name) => whole(road[name][i]));
-  const cell = (i) => [nameOf(i + 1), ...numbers(i), whole(start.held[i]), road.ramp[i] ? whole(start.queue[i]) : ""];
+  const name = (cell) => (givenName(cell) ? t("place.named", { place: nameOf(cell), ramp: rampName(cell) }) : nameOf(cell));
+  const cell = (i) => [name(i + 1), ...numbers(i), whole(start.held[i]), road.ramp[i] ? whole(start.queue[i]) : ""];
   return table(head, [gate, ...road.ramp.map((_, i) => cell(i))]);
 }
-function inflow() {
-  const width = 1 + 2 * task.road.n, number = (k, j) => whole(task.rows[k * width + j]);
-  const head = rampsOf().flatMap((c) => [t("arrivals", { place: rampName(c) }), t("release", { place: rampName(c) })]);
-  const line = (k) => [number(k, 0), ...rampsOf().flatMap((c) => [number(k, 2 * c - 1), number(k, 2 * c)])];
-  return table([t("step"), t("arrivals", { place: nameOf(0) }), ...head], eachStep(line));
+// What arrives and is released: the columns of the gate and of each on-ramp, and a step's numbers.
+const inflowGroups = () => [[nameOf(0), 1], ...rampsOf().map((c) => [rampName(c), 2])];
+const inflowNames = () => [t("arrivals"), ...rampsOf().flatMap(() => [t("arrivals"), t("release")])];
+function inflowOf(k) {
+  const number = (j) => whole(task.rows[k * (1 + 2 * task.road.n) + j]);
+  return [number(0), ...rampsOf().flatMap((c) => [number(2 * c - 1), number(2 * c)])];
 }
-const outflowHead = () => places().map((p) => t("outflow.of", { place: nameOf(p) }));
-function stateHead() {
-  return [...places().map((p) => t(p ? "held.of" : "queue.of", { place: nameOf(p) })), ...rampsOf().map((c) => t("queue.of", { place: rampName(c) }))];
-}
+const inflow = () => table([t("step"), ...inflowNames()], eachStep(inflowOf), inflowGroups());
+// The columns of an answer: the outflows, and the state after the step in the order of held and queue.
+const placeNames = () => places().map(nameOf);
+const outflowWhat = () => places().map((p) => t("outflow.of", { place: nameOf(p) }));
+const stateWhat = () => [...places().map((p) => t(p ? "held.of" : "queue.of", { place: nameOf(p) })), ...rampsOf().map((c) => t("queue.of", { place: rampName(c) }))];
+const outflowGroups = () => [[t("group.outflow"), task.road.n + 1]];
+const stateGroups = () => [[t("group.queue"), 1], [t("group.held"), task.road.n], ...(rampsOf().length ? [[t("group.queue"), rampsOf().length]] : [])];
+const stateNames = () => [...placeNames(), ...rampsOf().map(rampName)];
 function stateOf(h, k) {
   const at = k * (task.road.n + 1);
   return [...places().map((p) => whole(h.held[at + p])), ...rampsOf().map((c) => whole(h.queue[at + c]))];
 }
-const title = () => t(task.seed === null ? "sheet.record" : "sheet.seed", { seed: task.seed, n: task.road.n, steps: task.steps });
+// Cells, steps and the seconds of a step, where they are known.
+function shapeOf() {
+  const { n, seconds } = task.road;
+  return t(seconds ? "sheet.shape" : "sheet.shape.steps", { cells: count(n, "cells"), steps: count(task.steps, "steps"), seconds });
+}
+const seeded = () => t("sheet.seed", { seed: task.seed, shape: shapeOf() });
 
-// The exercise that the controls ask for; what is typed stays where it is the same one.
-function newExercise(keep = false) {
-  const before = task, typed = task ? fields().map((x) => x.value) : [];
-  $("own-box").hidden = !own;
-  if (!own) $("own").checked = false;
-  for (const id of DRAWN) $(id).disabled = $("own").checked;
+// The exercise that the controls ask for.
+function made() {
+  if (fault) throw fault;
+  const mine = $("own").checked, record = mine ? own : drawn(seed(), value("cells"), value("steps"));
+  const { road, start, steps } = engine.readWithin(record, MOST_CELLS, MOST_BYTES), best = engine.run(record);
+  const names = $("names").value.split(",").map((x) => x.trim());
+  return { record, road, start, steps, names, rows: engine.rows(record, road.n, steps), best: graded ? null : best, seed: mine ? null : seed(), title: $("title").value.trim() };
+}
+// Takes it, or shows what is wrong with it.
+function setTask() {
   try {
-    const record = $("own").checked ? own : drawn(seed(), value("cells"), value("steps"));
-    const { road, start, steps } = engine.readWithin(record, MOST_CELLS, MOST_BYTES);
-    task = { record, road, start, steps, rows: engine.rows(record, road.n, steps), best: engine.run(record), seed: $("own").checked ? null : seed() };
+    task = made();
   } catch (e) {
-    if (!(e instanceof Refused)) throw e;
+    if (!(e instanceof Refused || e instanceof Fault)) throw e;
     task = null;
     $("exercise-refused").textContent = refusal(e);
   }
   $("exercise-refused").hidden = !!task;
   $("sheet").hidden = !task;
-  if (!task) return;
-  $("sheet-name").textContent = title();
+}
+// What is given, and the table of answers with its fields; typed: what is in them already.
+function showTask(typed = []) {
+  $("sheet-name").textContent = task.seed !== null ? seeded() : graded ? shapeOf() : t("sheet.record", { shape: shapeOf() });
   $("given").replaceChildren(given());
   $("inflow").replaceChildren(inflow());
-  const field = (k, p) => {
+  const field = (k, what) => {
     const td = el("td");
-    td.append(el("input", "", { inputmode: "numeric", autocomplete: "off", "aria-label": t("field", { step: k, place: nameOf(p) }) }));
+    td.append(el("input", "", { inputmode: "numeric", autocomplete: "off", "aria-label": t("field", { step: k, what }) }));
     return td;
   };
-  const line = (k) => [...places().map((p) => field(k, p)), ...stateHead().map(() => el("td"))];
-  $("grid").replaceChildren(...table([t("step"), ...outflowHead(), ...stateHead()], eachStep(line)).children);
+  const line = (k) => [...outflowWhat().map((what) => field(k, what)), ...stateWhat().map((what) => (graded ? field(k, what) : el("td")))];
+  $("grid").replaceChildren(...table([t("step"), ...placeNames(), ...stateNames()], eachStep(line), [...outflowGroups(), ...stateGroups()]).children);
+  fields().forEach((x, i) => { x.value = typed[i] ?? ""; });
+  showEdges();
+}
+// The exercise for practice; what is typed stays where it is the same one.
+function newExercise(keep = false) {
+  const before = task, typed = task ? fields().map((x) => x.value) : [];
+  $("own-box").hidden = !own;
+  if (!own) $("own").checked = false;
+  $("drawn-box").hidden = $("own").checked;
+  setTask();
+  $("exercise-record").hidden = !task;
+  $("linked").textContent = "";
+  for (const id of ["print-sheet", "print-key", "link-practice", "link-graded"]) $(id).disabled = !task;
+  if (!task) return;
+  $("names-box").hidden = !rampsOf().length;
+  const same = keep && before && String(before.record) === String(task.record);
+  showTask(same ? typed : []);
   verdict("", "");
-  if (keep && before && String(before.record) === String(task.record) && typed.some((x) => x)) {
-    fields().forEach((x, i) => { x.value = typed[i]; });
-    judge();
-  }
+  if (same && typed.some((x) => x)) judge();
 }
 
 // Judging.
@@ -153,33 +198,56 @@ function mostIn({ step, place, state }) {
   return place ? next.cumulative[place - 1] - state.cumulative[place - 1] : next.gate_cumulative - state.gate_cumulative;
 }
 
-// The sheet on paper, empty or with the engine's run.
-function paper(key) {
-  const { best } = task, w = task.road.n + 1, h = engine.history(task.record, best.outflow), rules = el("ul", "", { class: "rules" });
-  rules.append(...["demand", "supply", "outflow", "next"].map((r) => el("li", t(`rule.${r}`))));
-  const blanks = (head) => head.map(() => el("td", "", { class: "blank" })), totals = {};
-  for (const name of ["total", "gate", "road", "ramp", "exits"]) totals[name] = whole(best[name]);
-  $("paper").replaceChildren(
-    el("h1", `Nobyaluk: ${t(key ? "sheet.key" : "sheet")}`), el("p", title() + (key ? "" : `    ${t("sheet.name")}: ______________________________`)),
-    el("h2", t("given")), given(), inflow(), el("p", t("given.units"), { class: "note" }), el("h2", t("rules")), rules,
-    el("h2", t("answer.sheet")), table([t("step"), ...outflowHead()], eachStep((k) => (key ? places().map((p) => whole(best.outflow[k * w + p])) : blanks(places())))),
-    el("h2", t("answer.states")), table([t("step"), ...stateHead()], eachStep((k) => (key ? stateOf(h, k) : blanks(stateHead())))),
-    el("p", key ? t("key.total", totals) : `${t("sheet.total")} ______________`));
+// A student's answers as the graded form saves them, for `nobyaluk mark`; this is the format's one definition. JSON, UTF-8, of
+// version 1. For the record of examples/printed-run.rec:
+//   { "format": "nobyaluk-answers", "version": 1,
+//     "exercise": { "record": "AAAAeAECAAMAAAfQ..", "seed": null, "cells": 2, "steps": 3 },
+//     "name": "Ada Lovelace",
+//     "outflows": [[1500, 934, 1000], [1358, 933, 1000], [1252, 934, 1000]],
+//     "held": [[2500, 2566, 4000], [2142, 2991, 4000], [1890, 3309, 4000]], "queue": [[1700], [1900], [2100]],
+//     "gate": 6532, "road": 20866, "ramp": 5700, "total": 33098,
+//     "whose": "everyone in the system: on the road, at the gate and at the ramps" }
+// exercise.record: the record's bytes in base64 (RFC 4648, section 4, padded). seed: what the record is drawn of, or null for a
+// record of the lecturer's; cells and steps: n and T of the record. Whoever marks compares the record's bytes with the exercise.
+// outflows, held and queue have a row for each step. outflows: the gate, then each cell. held: what waits at the gate and what each
+// cell holds after the step, in the same order. queue: what waits at each on-ramp after the step, by cells; [] without on-ramps.
+// Counts are in thousandths of a vehicle; gate, road, ramp and total in thousandths of a vehicle times steps, as `ctm` prints them.
+// An answer is a whole number, null where the field is empty, or the text as typed where it is no whole number.
+// name and whose are texts, empty where nothing is typed.
+function answersOf(typed) {
+  const n = task.road.n, w = n + 1, width = 2 * w + rampsOf().length;
+  const rows = (from, to) => Array.from({ length: task.steps }, (_, k) => typed.slice(k * width + from, k * width + to).map(answerOf));
+  const [gate, road, ramp, total] = ["gate", "road", "ramp", "total"].map((name) => answerOf($(`time-${name}`).value));
+  return {
+    format: "nobyaluk-answers", version: 1,
+    exercise: { record: btoa(String.fromCharCode(...task.record)), seed: task.seed, cells: n, steps: task.steps },
+    name: $("name").value.trim(), outflows: rows(0, w), held: rows(w, 2 * w), queue: rows(2 * w, width),
+    gate, road, ramp, total, whose: $("whose").value.trim(),
+  };
 }
-function printed(key) {
-  if (!task) return;
-  paper(key);
-  document.body.classList.add("printing");
-  window.print();
+function answerOf(text) {
+  const bare = plain(text);
+  return bare === "" ? null : /^\d{1,15}$/.test(bare) ? Number(bare) : text.trim();
 }
 
-on("plan", "submit", (e) => { e.preventDefault(); judge(); });
+on("plan", "submit", (e) => { e.preventDefault(); if (!graded) judge(); });
 on("show", "input", () => { if (fields().some((x) => x.value)) judge(); });
 on("clear", "click", () => newExercise());
-on("next", "click", () => { $("own").checked = false; $("seed").value = engine.load(seed(), 99999, 1).list[0]; newExercise(); remember(); });
-for (const id of [...DRAWN, "own"]) on(id, "input", () => { showSetting(); newExercise(); remember(); });
-on("print-sheet", "click", () => printed(false));
-on("print-key", "click", () => printed(true));
-window.addEventListener("afterprint", () => document.body.classList.remove("printing"));
+for (const id of NAMED) on(id, "input", () => { newExercise(true); remember(); });
+on("next", "click", () => { fault = null; $("own").checked = false; $("seed").value = engine.load(seed(), 99999, 1).list[0]; newExercise(); remember(); });
+for (const id of [...DRAWN, "own"]) on(id, "input", () => { fault = null; showSetting(); newExercise(); remember(); });
 offer("exercise-record", () => task.record);
-recall();
+
+// The links for the class: the exercise, its title and names, and the form of the page.
+function linkOf(form) {
+  const p = new URLSearchParams({ lang, mode: form });
+  if (task.seed === null) { p.set("own", "1"); p.set("rec", inLink(task.record)); } else for (const id of DRAWN) p.set(id, id === "seed" ? task.seed : $(id).value);
+  for (const id of NAMED) if ($(id).value.trim()) p.set(id, $(id).value.trim());
+  return location.href.replace(/#.*/, "") + "#" + p;
+}
+function giveLink(form, name) {
+  const link = linkOf(form), done = (key) => { $("linked").replaceChildren(t(key), " ", el("a", name, { href: link, target: "_blank", rel: "noopener" })); };
+  (navigator.clipboard?.writeText(link) ?? Promise.reject()).then(() => done("link.copied"), () => done("link.here"));
+}
+on("link-practice", "click", () => giveLink("exercise", t("link.open.practice")));
+on("link-graded", "click", () => giveLink("graded", t("link.open.graded")));

@@ -1,9 +1,10 @@
 // The page: its setting, which its address holds too, and its controls. page.py puts this and the other scripts into one, with
 // DATA: the module, the texts and the studies.
 const IN_LINK = 4096;   // bytes of a record that its address still holds
-const WEIGHTS = ["w-gate", "w-first", "w-last", "w-ramp"], DRAWN = ["seed", "cells", "steps"];
-const HELD = ["load", "works", "cell", "from", "to", "law", "gain", ...WEIGHTS, ...DRAWN];
+const WEIGHTS = ["w-gate", "w-first", "w-last", "w-ramp"], DRAWN = ["seed", "cells", "steps"], NAMED = ["title", "names"];
+const HELD = ["load", "works", "cell", "from", "to", "law", "gain", ...WEIGHTS, ...DRAWN, ...NAMED];
 let mode = "study", own = null;   // own: the bytes of a record of the user's
+let fault = null;                 // what was given in place of one
 let shown = null;                 // the last run and its table of lanes, for the downloads
 
 // Words in place of the results, or none.
@@ -20,11 +21,11 @@ function update() {
   shown = null;
   try {
     if (study.refused) throw study.refused;
-    if (!study.road) { refuse(t("own.none")); return; }
+    if (!study.road) throw fault ?? new Fault("own.none");
     const before = performance.now(), run = ran($("law").value), ms = performance.now() - before;
     show(run, study.ramps.length ? ran("open") : run, ms);
   } catch (e) {
-    if (!(e instanceof Refused)) throw e;
+    if (!(e instanceof Refused || e instanceof Fault)) throw e;
     refuse(refusal(e) + (e.number === 9 || e.number === 10 ? " " + t("refused.then") : ""));
   }
 }
@@ -39,7 +40,8 @@ function show(run, open, ms) {
   $("open-box").hidden = !study.ramps.length;
   if ($("open-box").open) drawMap(open, $("map-open"));
   drawQueues(run); drawSystem(run, open); drawCurves(run);
-  $("took").textContent = t("took", { steps: study.steps, n: study.road.n, ms: say(ms, 1) });
+  showEdges();
+  $("took").textContent = t("took", { steps: count(study.steps, "steps"), cells: count(study.road.n, "cells"), ms: say(ms, 1) });
   $("lanes").hidden = !closed();
   $("last-says").textContent = t(closed() ? "take.works" : "take.check");
   $("last").replaceChildren(...lastLines(engine, run.record, run).flatMap((x) => [x, el("br")]));
@@ -75,7 +77,22 @@ function showTries() {
 // The address: what differs from the study's own setting, and a short record of the user's.
 const held = () => [...HELD, ...(study?.ramps ?? []).map((c) => `ramp-${c}`)].map($);
 const inLink = (bytes) => btoa(String.fromCharCode(...bytes)).replace(/\+/g, "-").replace(/\//g, "_").replace(/=+$/, "");
-const outOfLink = (text) => { try { return bytesOf(text.replace(/-/g, "+").replace(/_/g, "/")); } catch { return null; } };
+// The record of a link, or a fault: a link that was cut holds fewer bytes than the record's first field says.
+function outOfLink(text) {
+  if (!/^[\w-]*$/.test(text)) throw new Fault("own.changed");
+  const bytes = bytesOf((text.length % 4 === 1 ? text.slice(0, -1) : text).replace(/-/g, "+").replace(/_/g, "/"));
+  const all = bytes.length < 4 ? Infinity : 4 + new DataView(bytes.buffer).getUint32(0);
+  if (bytes.length < all) throw all <= IN_LINK ? new Fault("own.cut", { has: say(bytes.length, 0), all: say(all, 0) }) : new Fault("own.changed");
+  return bytes;
+}
+// What a file holds that is no record. A record's first byte is 0, since it has at most 65,536 bytes; no text begins so.
+function faultOf(name, bytes) {
+  const ending = /\.([a-z]+)$/.exec(name.toLowerCase())?.[1], text = bytes.length > 0 && bytes.subarray(0, 4).every((x) => x > 31 || (x > 8 && x < 14));
+  if (ending === "rec" ? !text : bytes[0] === 0) return null;
+  const quoted = (word) => (/^[\w.-]+$/.test(word) ? word : `'${word.replace(/'/g, "'\\''")}'`);
+  const key = ["toml", "csv", "txt"].includes(ending) ? `file.${ending}` : "file.other";
+  return new Fault(key, { name, from: quoted(name), to: quoted(name.replace(/\.[^.]*$/, "") + ".rec") });
+}
 function remember() {
   const p = new URLSearchParams({ lang, study: $("study").value });
   if (mode !== "study") p.set("mode", mode);
@@ -84,22 +101,29 @@ function remember() {
   if (own && own.length <= IN_LINK && ($("study").value === "own" || $("own").checked)) p.set("rec", inLink(own));
   history.replaceState(null, "", "#" + p);
 }
-function recall() {
-  const p = new URLSearchParams(location.hash.slice(1)), wanted = p.get("lang") ?? navigator.language.slice(0, 2), key = p.get("study");
-  lang = wanted in DATA.texts ? wanted : "en";
+function readAddress() {
+  const p = address(), wanted = p.get("lang") ?? navigator.language.slice(0, 2), key = p.get("study");
+  lang = Object.hasOwn(DATA.texts, wanted) ? wanted : "en";
   $("lang").value = lang;
   speak();
   showTries();
-  if (p.get("rec")) own = outOfLink(p.get("rec"));
-  choose(key in DATA.studies || key === "own" ? key : Object.keys(DATA.studies)[0]);
+  take(() => { if (p.has("rec")) own = outOfLink(p.get("rec")); });
+  choose(key === "own" || (key && Object.hasOwn(DATA.studies, key)) ? key : Object.keys(DATA.studies)[0]);
   for (const x of held()) {
     if (p.has(x.id)) x.value = p.get(x.id);
     if (x.tagName === "SELECT" && x.selectedIndex < 0) x.value = x.dataset.start;
   }
   $("weights-box").open = WEIGHTS.some((id) => $(id).value !== "1");
-  $("own").checked = !!p.get("own") && !!own;
-  turn(p.get("mode") === "exercise" ? "exercise" : "study");
+  $("own").checked = (graded || !!p.get("own")) && !!own;
+}
+function recall() {
+  readAddress();
+  turn(address().get("mode") === "exercise" ? "exercise" : "study");
   document.body.dataset.ready = "";
+}
+// Removes what belongs to the other form of the page: a graded one has no key, hint, check or study.
+function keepForm() {
+  for (const x of document.querySelectorAll(`[data-form=${graded ? "practice" : "graded"}]`)) x.remove();
 }
 function turn(to) {
   mode = to;
@@ -136,10 +160,17 @@ function choose(key) {
   }));
   for (const id of ["all", ...ramps.map((c) => `ramp-${c}`)]) { $(id).min = 0; $(id).step = rate.step; set(id, rate.start, rate.most); }
 }
-async function take(file) {
-  own = new Uint8Array(await file.arrayBuffer());
+// Takes a record of the user's, or keeps what is wrong with it.
+function take(given) {
+  fault = null;
+  try { given(); } catch (e) { if (!(e instanceof Fault)) throw e; own = null; fault = e; }
+}
+async function takeFile(file) {
+  const bytes = new Uint8Array(await file.arrayBuffer()), wrong = faultOf(file.name, bytes);
+  take(() => { if (wrong) throw wrong; own = bytes; });
+  for (const x of document.querySelectorAll(".choose + span")) x.textContent = fault ? "" : file.name;
   if (mode === "study") { choose("own"); update(); return; }
-  $("own").checked = true;
+  $("own").checked = !fault;
   newExercise();
   remember();
 }
@@ -151,25 +182,27 @@ function copyLink(event) {
 $("study").append(...[...Object.keys(DATA.studies), "own"].map((key) => el("option", "", { value: key })));
 $("law").append(...LAWS.map((key) => el("option", "", { value: key })));
 $("scale").style.background = scale;
-for (const id of DRAWN) $(id).dataset.start = $(id).value;
+for (const id of [...DRAWN, ...NAMED]) $(id).dataset.start = $(id).value;
 const on = (id, event, act) => $(id).addEventListener(event, act);
 on("study", "change", () => { choose($("study").value); update(); });
 on("reset", "click", () => { choose($("study").value); update(); });
-on("lang", "change", () => { lang = $("lang").value; speak(); showTries(); update(); newExercise(true); });
+on("lang", "change", () => { lang = $("lang").value; speak(); if (graded) return showGraded(); showTries(); update(); newExercise(true); });
 for (const id of ["load", "works", "cell", "law", "gain", ...WEIGHTS]) on(id, "input", update);
 on("from", "input", () => { $("to").value = Math.max(value("to"), value("from") + 1); update(); });
 on("to", "input", () => { $("from").value = Math.min(value("from"), value("to") - 1); update(); });
 on("all", "input", () => { for (const c of study.ramps) $(`ramp-${c}`).value = $("all").value; update(); });
 on("open-box", "toggle", update);
-on("file", "change", () => { if ($("file").files[0]) take($("file").files[0]); });
+on("file", "change", () => { if ($("file").files[0]) takeFile($("file").files[0]); });
+for (const x of document.querySelectorAll(".choose")) x.addEventListener("click", () => $("file").click());
 on("skip", "click", () => (mode === "study" ? $("results") : $("grid").querySelector("input"))?.focus());
-for (const m of ["study", "exercise"]) on(`mode-${m}`, "click", () => turn(m));
+for (const m of ["study", "exercise"]) on(`mode-${m}`, "click", () => { fault = null; turn(m); });
 for (const x of document.querySelectorAll(".link")) x.addEventListener("click", copyLink);
-document.addEventListener("dragover", (e) => { e.preventDefault(); document.body.classList.add("over"); });
+document.addEventListener("dragover", (e) => { e.preventDefault(); document.body.classList.toggle("over", !graded); });
 document.addEventListener("dragleave", (e) => { if (!e.relatedTarget) document.body.classList.remove("over"); });
-document.addEventListener("drop", (e) => { e.preventDefault(); document.body.classList.remove("over"); if (e.dataTransfer.files[0]) take(e.dataTransfer.files[0]); });
+document.addEventListener("drop", (e) => { e.preventDefault(); document.body.classList.remove("over"); if (!graded && e.dataTransfer.files[0]) takeFile(e.dataTransfer.files[0]); });
 offer("record", () => shown.run.record);
 offer("listing", () => listing(engine, shown.run.record, shown.table));
 offer("lanes", lanesText);
-window.addEventListener("resize", update);
-window.addEventListener("hashchange", recall);
+document.addEventListener("scroll", showEdges, true);
+window.addEventListener("resize", () => { showEdges(); if (!graded) update(); });
+window.addEventListener("hashchange", () => (graded || isGraded() ? location.reload() : recall()));

@@ -9,30 +9,30 @@ function legend(list, items) {
   }));
 }
 
-// A bar of the three parts, and under it the wrong total.
+// A bar of the three parts, and under it the wrong total; the words are in the legend, since a bar may be short.
 function bar(name, run, most) {
   const right = el("div", "", { class: "bar" }), wrong = el("div", "", { class: "bar thin" });
-  const piece = (kind, x, text) => el("div", text, { class: kind, style: `width:${100 * x / most}%` });
+  const piece = (kind, x, text) => { const div = el("div", text, { class: kind }); div.style.width = `${100 * x / most}%`; return div; };
   for (const [, key] of PARTS) right.append(piece(key, run[key], run[key] / most > 0.08 ? say(hours(run[key]), study.seconds ? 0 : 1) : ""));
-  wrong.append(piece("wrong", run.road, run.road / most > 0.35 ? `${say(hours(run.road))} ${t("wrong")}` : ""));
-  return [el("div", `${t(name)}: ${say(hours(run.total))} ${unit()}`, { class: "note" }), right, wrong];
+  wrong.append(piece("wrong", run.road, run.road / most > 0.15 ? say(hours(run.road), study.seconds ? 0 : 1) : ""));
+  return [el("div", t("bar.total", { name: t(name), x: say(hours(run.total)), unit: unit() }), { class: "note" }), right, wrong];
 }
 function showTotals(run, open) {
   const most = Math.max(run.total, open.total, 1), parts = el("ul", "", { class: "legend" });
-  legend(parts, PARTS.map(([name, key]) => [{ colour: COLOURS[key] }, t(name)]));
+  legend(parts, [...PARTS.map(([name, key]) => [{ colour: COLOURS[key] }, t(name)]), [{ hatched: true }, t("wrong")]]);
   const columns = study.ramps.length ? 4 : 1;   // without a ramp there is nothing to compare
   $("bars").replaceChildren(...bar("these", run, most), ...(columns > 1 ? bar("allopen", open, most) : []), parts);
   const row = (name, key, kind = "") => {
-    const tr = el("tr", "", { class: kind }), a = hours(run[key]), b = hours(open[key]), numbers = [say(a), say(b), signed(a - b), percent(a, b).replace(" %", "")];
+    const tr = el("tr", "", { class: kind }), a = hours(run[key]), b = hours(open[key]), numbers = [say(a), say(b), signed(a - b), percent(a, b).replace("\u00a0%", "")];
     tr.append(el("th", t(name), { scope: "row" }), ...numbers.slice(0, columns).map((x) => el("td", x)));
     return tr;
   };
   const head = el("tr"), top = el("thead"), body = el("tbody"), names = [t("these"), t("allopen"), t("change"), "%"];
   head.append(...[unit(), ...names.slice(0, columns)].map((x) => el("th", x, { scope: "col" })));
   top.append(head);
-  body.append(...PARTS.map(([name, key]) => row(name, key)), row("together", "total", "sum"), row("wrong", "road", "wrong"));
+  body.append(row("gate", "gate"), row("arriving", "arriving", "part"), row("onroad", "road"), row("atramps", "ramp"), row("together", "total", "sum"), row("wrong", "road", "wrong"));
   $("totals").replaceChildren(top, body);
-  $("strip").textContent = `${say(hours(run.total))} ${unit()} (${percent(run.total, open.total) || "±0 %"})`;
+  $("strip").textContent = `${say(hours(run.total))} ${unit()} (${percent(run.total, open.total) || "±0\u00a0%"})`;
   $("ends").textContent = t("says.ends", { these: say(run.present / 1000), open: say(open.present / 1000) });
 }
 
@@ -56,9 +56,9 @@ function verdictOf(run, open) {
     if (seen(x)) (x < 0 ? gains : pays).push(t(`says.${key}`, { x: signed(x) }));
   }
   if (!gains.length && !pays.length) return t(study.ramps.length ? "says.same" : "meters.none");
-  const list = (names) => names.join(t("says.and")) || t("says.nobody");
+  const told = (key, who) => t(who.length ? key : `${key}.none`, { who: who.join(t("says.and")) });
   const sum = t(!seen(all) ? "says.even" : all < 0 ? "says.gain" : "says.loss", { x: say(Math.abs(all)), unit: unit(), percent: percent(run.total, open.total) });
-  const said = [t("says", { gains: list(gains), pays: list(pays), all: sum })];
+  const said = [told("says.gains", gains), told("says.pays", pays), sum];
   const paid = run.ramps.map((x, j) => hours(x - open.ramps[j])), most = Math.max(...paid);
   if (paid.length > 1 && most >= 0.05 && paid.filter((x) => x === most).length === 1) {
     said.push(t("says.most", { cell: study.ramps[paid.indexOf(most)], x: signed(most), unit: unit() }));
@@ -71,7 +71,7 @@ function showWeighed(run, open) {
   $("weighed-box").hidden = plain;
   if (plain) return;
   const [a, b] = [run, open].map((x) => engine.weigh(x.record, places, ramps, lanes()));
-  $("weighed").textContent = t("weighed.says", { these: say(hours(a)), open: say(hours(b)), percent: percent(a, b) || "±0 %" });
+  $("weighed").textContent = t("weighed.says", { these: say(hours(a)), open: say(hours(b)), percent: percent(a, b) || "±0\u00a0%" });
   $("weighed").dataset.weighted = a;
   $("weighed-promise").textContent = t(places.every((x, i) => !i || x <= places[i - 1]) ? "weighed.promise" : "weighed.none");
 }
@@ -86,7 +86,7 @@ function drawMap(run, canvas) {
   spaceTime(canvas, { steps, edges, ratio, marks, ticks, works: closed(), time: timeOf(), label: t(inKm ? "axis.km" : "axis.cells") });
   let top = { x: 0, cell: 1, k: 0 };
   for (let k = 0; k < steps; k++) for (let i = 0; i < n; i++) if (ratio(k, i) > top.x) top = { x: ratio(k, i), cell: i + 1, k };
-  canvas.setAttribute("aria-label", t("map.alt", { cell: top.cell, x: say(top.x, 2), when: when(top.k) }));
+  canvas.setAttribute("aria-label", t("map.alt", { cell: top.cell, x: say(top.x, 2), when: when(study.seconds ? top.k + 1 : top.k) }));
 }
 // Vehicles at the start and after each step.
 const over = (first, of) => [first / 1000, ...Array.from({ length: study.steps }, (_, k) => of(k) / 1000)];
@@ -98,7 +98,7 @@ function drawQueues(run) {
     const values = over(start.queue[cell - 1], (k) => run.queue[k * w + cell]), key = values.join();
     alike.set(key, { values, cells: [...(alike.get(key)?.cells ?? []), cell] });
   }
-  const curves = [{ name: t("queue.gate"), colour: COLOURS.gate, dash: [], width: 2.6, values: over(start.gate_queue, (k) => run.held[k * w]) }];
+  const curves = [{ name: t("queue.gate"), colour: COLOURS.gate, dash: [], width: 2.6, values: over(start.gate_queue, (k) => run.held[k * w] - run.arrivals[k]) }];
   [...alike.values()].forEach(({ values, cells }, j) => {
     const [colour, dash] = LINES[j % LINES.length];
     curves.push({ name: cells.length > 1 ? t("ramps.of", { cells: cells.join(", ") }) : t("ramp.of", { cell: cells[0] }), colour, dash, values });
@@ -145,7 +145,7 @@ function drawCurves(run) {
 function showSetting() {
   const set = (id, text) => { document.querySelector(`output[for="${id}"]`).textContent = text; $(id).setAttribute("aria-valuetext", text); };
   for (const id of ["cells", "steps", "w-gate", "w-first", "w-last", "w-ramp"]) set(id, $(id).value);
-  set("load", `${$("load").value} %`);
+  set("load", `${$("load").value}\u00a0%`);
   set("gain", say(value("gain") / 100, 2));
   set("works", value("works") ? $("works").value : t("works.none"));
   $("works-box").hidden = !value("works");
@@ -161,5 +161,5 @@ function showSetting() {
   $("no-meters").hidden = !!ramps.length;
   $("gain-box").hidden = law !== "alinea";
   $("rates").hidden = !["fixed", "demand-capacity"].includes(law);
-  $("shape").textContent = t(seconds ? "shape" : "shape.steps", { n: study.road.n, steps, seconds, ramps: ramps.length });
+  $("shape").textContent = t(seconds ? "shape" : "shape.steps", { cells: count(study.road.n, "cells"), steps: count(steps, "steps"), seconds, ramps: count(ramps.length, "ramps") });
 }

@@ -77,7 +77,9 @@ function ran(law) {
   const { held, queue } = engine.history(e.record, e.outflow, table);
   // the time spent at a ramp is a weighted total in which it alone weighs
   const ramps = study.ramps.map((cell) => engine.weigh(e.record, [], study.road.ramp.map((_, i) => (i === cell - 1 ? 1 : 0)), table));
-  return { ...e, held, queue, ramps };
+  // what arrives at the gate in a step may leave in the next: of the gate's time one step for each, the sum of the record's own arrivals
+  const width = 1 + 2 * study.road.n, arrivals = engine.rows(e.record, study.road.n, study.steps).filter((_, j) => j % width === 0);
+  return { ...e, held, queue, ramps, arrivals, arriving: arrivals.reduce((a, b) => a + b, 0) };
 }
 // Weights of the gate and each cell, the cells' between the first's and the last's; and of the ramps.
 function weights() {

@@ -4,7 +4,12 @@ let lang = "en";
 const t = (key, given = {}) => (DATA.texts[lang][key] ?? key).replace(/\{(\w+)\}/g, (_, name) => given[name] ?? "");
 const say = (x, digits = 1) => x.toLocaleString(lang, { minimumFractionDigits: digits, maximumFractionDigits: digits });
 const signed = (x, digits = 1) => (Math.abs(x) < 0.5 / 10 ** digits ? "±" : x > 0 ? "+" : "−") + say(Math.abs(x), digits);
-const percent = (x, from) => (from ? signed(100 * (x - from) / from) + " %" : "");
+// A number with its word: 1 cell, 2 cells; the language says which form it takes.
+function count(x, what) {
+  const none = `count.${what}.none`, one = new Intl.PluralRules(lang).select(x) === "one" ? ".one" : "";
+  return x === 0 && Object.hasOwn(DATA.texts[lang], none) ? t(none) : t(`count.${what}${one}`, { x: say(x, 0) });
+}
+const percent = (x, from) => (from ? signed(100 * (x - from) / from) + "\u00a0%" : "");
 
 // An element with its text and attributes.
 function el(tag, text = "", attributes = {}) {
@@ -14,8 +19,8 @@ function el(tag, text = "", attributes = {}) {
   return x;
 }
 
-// A table; a cell is a text or an element, and the first of a row its heading.
-function table(head, body) {
+// A table; a cell is a text or an element, and the first of a row its heading. groups: what columns have in common, [name, columns].
+function table(head, body, groups = []) {
   const row = (cells, tag) => {
     const tr = el("tr");
     tr.append(...cells.map((c, i) => (c instanceof Node ? c : el(i ? tag : "th", c, tag === "th" || !i ? { scope: tag === "th" ? "col" : "row" } : {}))));
@@ -25,21 +30,51 @@ function table(head, body) {
   top.append(row(head, "th"));
   rest.append(...body.map((cells) => row(cells, "td")));
   all.append(top, rest);
+  if (groups.length) group(all, groups);
   return all;
+}
+
+// Puts a row of groups above the headings, and a line before each group.
+function group(all, groups) {
+  const over = el("tr", "", { class: "groups" }), [names] = all.tHead.rows;
+  names.className = "places";
+  over.append(names.cells[0], ...groups.map(([name, columns]) => el("th", name, { colspan: columns, scope: "colgroup", class: "first" })));
+  over.cells[0].rowSpan = 2;
+  all.tHead.prepend(over);
+  let at = 0;
+  for (const [, columns] of groups) {
+    names.cells[at].classList.add("first");
+    for (const tr of all.tBodies[0].rows) tr.cells[at + 1].classList.add("first");
+    at += columns;
+  }
+}
+// Shows by a shadow where a table goes on beyond its edge.
+function showEdges() {
+  for (const x of document.querySelectorAll(".wide")) {
+    x.parentElement.classList.toggle("more", x.scrollLeft < x.scrollWidth - x.clientWidth - 1);
+    x.parentElement.classList.toggle("less", x.scrollLeft > 1);
+  }
 }
 
 // Puts the words of the language into the page.
 function speak() {
   document.documentElement.lang = lang;
-  document.title = "Nobyaluk: " + t("title");
+  document.title = t("page.title", { title: t(graded ? "sheet" : "title") });
   for (const x of document.querySelectorAll("[data-t]")) x.textContent = t(x.dataset.t);
   for (const x of document.querySelectorAll("[data-label]")) x.setAttribute("aria-label", t(x.dataset.label));
+  if (graded) return;
   for (const select of ["study", "law"]) for (const o of $(select).options) o.textContent = t(`${select}.${o.value}`);
   $("module").textContent = t("believed.module", { bytes: say(DATA.bytes, 0), sum: DATA.sum });
 }
 
-// A refusal in words: its number, where it is, what it means.
+// What was given in place of a record, and what to do: a key of the texts, and what it names.
+class Fault extends Error {
+  constructor(key, given = {}) { super(key); Object.assign(this, { key, given }); }
+}
+
+// A refusal in words: its number, where it is, what it means; or a fault of what was given.
 function refusal(e) {
+  if (e instanceof Fault) return t(e.key, e.given);
   const kind = DATA.places[e.number] ?? "none", step = kind === "step" ? e.place : e.step;
   const where = {
     none: null, place: e.place ? "at.cell" : "at.gate", cell: "at.cell", step: "at.step",

@@ -10,22 +10,47 @@ class StudyError(ValueError):
     """A fault in a study's files, told with its file and place."""
 
 
+def shown(x: Any) -> str:
+    """What is there, for a fault's words: cut where it is long, as a number of thousands of digits is."""
+    if isinstance(x, int) and not isinstance(x, bool) and x.bit_length() > 200:
+        return f"a number of {x.bit_length()} bits"
+    try:
+        words = f"{float(x):.12g}" if isinstance(x, Fraction) else str(x) if isinstance(x, (int, float, Decimal)) else repr(x)
+    except (ValueError, OverflowError, RecursionError):  # numbers of more digits than Python prints, deep nesting
+        return f"a {type(x).__name__}"
+    return words if len(words) <= 80 else f"{words[:60]} .. {words[-10:]}"
+
+
+def whole(text: str, most: int = (1 << 64) - 1) -> int:
+    """A whole number as it is written, in digits alone; ValueError for anything else or more."""
+    if not re.fullmatch(r"[0-9]{1,40}", text) or (x := int(text)) > most:
+        raise ValueError(f"{shown(text)} is no whole number from 0 to {most}")
+    return x
+
+
 def exact(text: str) -> Fraction:
     """A decimal as it is written, with a point or a comma; ValueError for anything else."""
-    if not re.fullmatch(r"[+-]?(\d{1,40}([.,]\d{0,40})?|[.,]\d{1,40})([eE][+-]?\d{1,2})?", text):
+    if not re.fullmatch(r"[+-]?(\d{1,40}([.,]\d{0,40})?|[.,]\d{1,40})([eE][+-]?\d{1,2})?", text, re.ASCII):
         raise ValueError(text)
     return Fraction(text.replace(",", "."))
 
 
+def typed(text: str, option: str) -> Fraction:
+    """A number of the command line; a fault for what is none, and for 1,200, which may be meant as 1200 or as 1.2."""
+    if re.fullmatch(r"[+-]?[1-9][0-9]{0,2}(,[0-9]{3})+", text):
+        raise StudyError(f"{option} is {shown(text)}, which is {text.replace(',', '')} or {text.replace(',', '.', 1)}; write it without a comma")
+    try:
+        return exact(text)
+    except ValueError:
+        raise StudyError(f"{option} is {shown(text)}, where a number is needed") from None
+
+
 def clock(text: Any, where: str) -> Fraction:
     """Seconds of the day of HH:MM or HH:MM:SS; hours go on past midnight, up to 48."""
-    parts = str(text).split(":")
-    try:
-        h, m, s = [int(p) for p in parts] + [0] * (3 - len(parts)) if len(parts) in (2, 3) else ["", "", ""]
-        if not (0 <= h <= 48 and 0 <= m < 60 and 0 <= s < 60):
-            raise ValueError
-    except (ValueError, TypeError):
-        raise StudyError(f"{where}: {text!r} is no clock time like 07:30 or 07:30:20") from None
+    found = re.fullmatch(r"([0-9]{1,2}):([0-9]{1,2})(?::([0-9]{1,2}))?", str(text).strip())
+    h, m, s = (int(x or 0) for x in found.groups()) if found else (99, 99, 99)
+    if not (h <= 48 and m < 60 and s < 60):
+        raise StudyError(f"{where}: {shown(text)} is no clock time like 07:30 or 07:30:20")
     return Fraction(3600 * h + 60 * m + s)
 
 
@@ -34,31 +59,31 @@ class Table:
 
     def __init__(self, values: Any, where: str, known: Collection[str] | None = None) -> None:
         if not isinstance(values, Mapping):
-            raise StudyError(f"{where} is {values!r}, where a table is needed")
+            raise StudyError(f"{where} is {shown(values)}, where a table is needed")
         self.values, self.where = values, where
         for key in values if known is not None else ():
             if key not in known:
-                raise StudyError(f"{where}: `{key}` is not known here; known are {', '.join(sorted(known))}")
+                raise StudyError(f"{where}: {_key(key)} is not known here; known are {', '.join(sorted(known))}")
 
     def __contains__(self, key: str) -> bool:
         return key in self.values
 
     def fault(self, key: str, says: str) -> StudyError:
-        return StudyError(f"{self.where}: `{key}` {says}")
+        return StudyError(f"{self.where}: {_key(key)} {says}")
 
     def number(self, key: str, default: Any = None, low: Any = 0, high: Any = None) -> Fraction:
         """An exact number within its limits; without a default it must be there."""
         x = self.values.get(key, default)
         if x is None:
-            raise self.fault(key, f"is missing; it is a number from {low}" + (f" to {high}" if high is not None else ""))
+            raise self.fault(key, f"is missing; it is a number from {_limit(low)}" + (f" to {_limit(high)}" if high is not None else ""))
         if isinstance(x, bool) or not isinstance(x, (int, Decimal, Fraction)) or isinstance(x, Decimal) and not x.is_finite():
-            raise self.fault(key, f"is {_shown(x)}, where a number is needed")
+            raise self.fault(key, f"is {shown(x)}, where a number is needed")
         if isinstance(x, Decimal) and x and abs(x.adjusted()) > 30:
-            raise self.fault(key, f"is {x}, which is no number of a road")
+            raise self.fault(key, f"is {shown(x)}, which is no number of a road")
         if x < low:
-            raise self.fault(key, f"is {x}; it is at least {low}")
+            raise self.fault(key, f"is {shown(x)}; it is at least {_limit(low)}")
         if high is not None and x > high:
-            raise self.fault(key, f"is {x}; it is at most {float(high):g}" if isinstance(high, Fraction) else f"is {x}; it is at most {high}")
+            raise self.fault(key, f"is {shown(x)}; it is at most {_limit(high)}")
         return Fraction(x)
 
     def whole(self, key: str, default: int | None = None, low: int = 0, high: int | None = None) -> int:
@@ -70,24 +95,31 @@ class Table:
     def text(self, key: str, default: str | None = None) -> str:
         x = self.values.get(key, default)
         if not isinstance(x, str):
-            raise self.fault(key, "is missing; it is a text" if x is None else f"is {_shown(x)}, where a text in quotes is needed")
+            raise self.fault(key, "is missing; it is a text" if x is None else f"is {shown(x)}, where a text in quotes is needed")
         return x
 
     def choice(self, key: str, allowed: Collection[str], default: str | None = None) -> str:
         x = self.values.get(key, default)
         if x not in allowed:
-            raise self.fault(key, ("is missing" if x is None else f"is {_shown(x)}") + f"; it is {_or(allowed)}")
+            raise self.fault(key, ("is missing" if x is None else f"is {shown(x)}") + f"; it is {_or(allowed)}")
         return x
 
     def flag(self, key: str, default: bool) -> bool:
         x = self.values.get(key, default)
         if not isinstance(x, bool):
-            raise self.fault(key, f"is {_shown(x)}; it is true or false")
+            raise self.fault(key, f"is {shown(x)}; it is true or false")
         return x
 
 
-def _shown(x: Any) -> str:
-    return str(x) if isinstance(x, Decimal) else repr(x)
+def _key(key: Any) -> str:
+    """A key as it is written, where that can be printed."""
+    name = str(key)
+    return f"`{name}`" if name.isprintable() and len(name) <= 80 else shown(name)
+
+
+def _limit(x: Any) -> str:
+    """A limit, written as a decimal."""
+    return f"{float(x):.6f}".rstrip("0").rstrip(".") if isinstance(x, Fraction) else str(x)
 
 
 def _or(words: Collection[str]) -> str:

@@ -5,6 +5,8 @@ rounding changed is kept in `Study.rounding`. The record is put by the proved `w
 `docs/STUDIES.md` has every key.
 """
 import tomllib
+from dataclasses import dataclass
+from datetime import datetime, time
 from decimal import Decimal
 from fractions import Fraction
 from pathlib import Path
@@ -12,69 +14,139 @@ from typing import Any
 
 import numpy as np
 
-from . import engine, long, tables
-from .faults import StudyError, Table, clock
-from .study import Rounded, Study
+from . import engine, inputs, long, tables
+from .faults import StudyError, Table, shown
+from .study import Rounded, Study, clock_time, load
+from .tables import fitting, like
 
 # Every key that a table of a study may have; docs/STUDIES.md says its unit and limit, and a test holds it to this.
 KEYS = {
-    "": {"base", "title", "version", "step", "start", "steps", "after", "gate", "defaults", "cell", "arrivals", "releases", "meter", "closure", "weights"},
+    "": {"base", "title", "version", "step", "start", "steps", "after", "record", "gate", "defaults", "cell", "arrivals", "releases", "meter", "closure", "weights"},
     "gate": {"capacity", "queue", "parts"},
     "gate.parts": {"capacity", "queue"},
     "cell": {"name", "length", "speed", "wave", "jam", "capacity", "split", "ramp", "held", "density", "queue", "lanes", "parts"},
     "cell.parts": {"v", "w", "b", "J", "C", "held", "queue"},
     "arrivals": {"file", "unit", "columns", *tables.CLOCKS},
     "releases": {"file", "unit", "columns", "cap", *tables.CLOCKS},
-    "meter": {"law", "rate", "gain", "gain_kmh", "target", "capacity", "critical", "least"},
+    "meter": {"law", "rate", "gain", "gain_kmh", "target", "capacity", "critical", "least", "parts"},
+    "meter.parts": {"rate", "gain", "target", "capacity", "critical", "least"},
     "closure": {"cell", "lanes", "from", "to"},
     "weights": {"gate", "road", "ramps"},
 }
 LAWS = {"open": set(), "fixed": {"rate"}, "alinea": {"gain", "gain_kmh", "target"}, "demand-capacity": {"capacity", "critical", "least"}}
-_LEAST = Fraction(1, 10**6)
+BESIDE_PARTS = ("speed", "wave", "jam", "capacity", "split", "held", "density", "queue")  # what `parts` of a cell says
+BESIDE_RECORD = ("name", "length", "ramp", "lanes")  # what a record doesn't say of a cell
+MOST = 4 << 20  # bytes of a TOML file
+DEPTH, DIGITS = 16, 100  # of its tables in one another, and of a number
+_LEAST = Decimal("0.000001")
 
 
 def half_up(x: Fraction) -> int:
     return int((Fraction(x) + Fraction(1, 2)).__floor__())
 
 
-def parsed(path: Path, depth: int = 0) -> dict[str, Any]:
+@dataclass
+class Source:
+    """A study's tables over those of its base, and the file that each is from."""
+    values: dict[str, Any]
+    origin: dict[str, Path]
+
+
+def parsed(path: Path, depth: int = 0) -> Source:
     """A file's tables over those of its `base`, so that a variant of a study says only what differs."""
-    try:
-        toml = tomllib.loads(path.read_text("utf-8"), parse_float=Decimal)
-    except (tomllib.TOMLDecodeError, UnicodeDecodeError) as e:
-        raise StudyError(f"{path}: {e}") from None
+    path = Path(path)
+    toml = _toml(path)
+    own = Source(toml, dict.fromkeys(toml, path))
     if "base" not in toml:
-        return toml
-    name = Table(toml, str(path)).text("base")
+        return own
     if depth == 8:
         raise StudyError(f"{path}: `base` goes round in a circle, or through more than eight files")
+    name = tables.file_name(Table(toml, str(path)), "base")
     try:
         base = parsed(path.parent / name, depth + 1)
-    except FileNotFoundError:
+    except FileNotFoundError as e:
+        if str(e.filename) != str(path.parent / name):
+            raise
         raise StudyError(f"{path}: `base` is {name!r}, and there is no {path.parent / name}") from None
-    del toml["base"]
+    del toml["base"], own.origin["base"]
     if "meter" in toml or "releases" in toml:
-        base.pop("meter", None), base.pop("releases", None)
-    return {**base, **toml}
+        base.values.pop("meter", None), base.values.pop("releases", None)
+    return Source({**base.values, **{key: _over(base.values.get(key), x) if key in ("gate", "defaults", "weights") else x for key, x in toml.items()}},
+                  {**base.origin, **own.origin})
+
+
+def _over(base: Any, own: Any) -> Any:
+    """A table over the base's, key by key; one with the engine's own numbers replaces it, and is replaced."""
+    if not isinstance(base, dict) or not isinstance(own, dict) or "parts" in base or "parts" in own:
+        return own
+    return {**base, **own}
+
+
+def _toml(path: Path) -> dict[str, Any]:
+    """The tables of one file; whatever is in it, a fault has words."""
+    try:
+        toml = tomllib.loads(inputs.read_text(path, MOST), parse_float=_decimal)
+    except tomllib.TOMLDecodeError as e:
+        raise StudyError(f"{path}: {e}") from None
+    except RecursionError:
+        raise StudyError(f"{path}: lists or tables are nested more than {DEPTH} deep") from None
+    except StudyError:
+        raise
+    except ValueError:
+        raise StudyError(f"{path}: a number has more than {DIGITS} digits") from None
+    waiting: list[tuple[Any, str, int]] = [(toml, "", 0)]
+    while waiting:
+        x, key, depth = waiting.pop()
+        if depth > DEPTH:
+            raise StudyError(f"{path}: `{key[:60]}`: lists or tables are nested more than {DEPTH} deep")
+        if isinstance(x, int) and x.bit_length() > 3 * DIGITS or isinstance(x, Decimal) and x.is_finite() and len(x.as_tuple().digits) > DIGITS:
+            raise StudyError(f"{path}: `{key[:60]}` has more than {DIGITS} digits")
+        if isinstance(x, (dict, list)):
+            each = x.items() if isinstance(x, dict) else enumerate(x, 1)
+            waiting += [(y, f"{key}.{k}" if key else str(k), depth + 1) for k, y in each]
+    return toml
+
+
+def _decimal(text: str) -> Decimal:
+    try:
+        return Decimal(text)
+    except ArithmeticError:  # an exponent that no Decimal has: as `inf`, no number of a road
+        return Decimal("-Infinity" if text.startswith("-") else "Infinity")
 
 
 class Reader:
     """Turns a study's TOML into a Study."""
 
-    def __init__(self, path: Path, toml: dict[str, Any] | None = None, depth: int = 0) -> None:
+    def __init__(self, path: Path, source: Source | None = None, depth: int = 0) -> None:
         self.path, self.depth = Path(path), depth
-        self.top = Table(parsed(self.path) if toml is None else toml, str(path), KEYS[""])
+        self.source = parsed(self.path) if source is None else source
+        for key in self.source.values:
+            if key not in KEYS[""]:
+                raise StudyError(f"{self.file(key)}: `{key[:60]}` is not known here; known are {', '.join(sorted(KEYS['']))}{like(key, KEYS[''])}")
+        self.top = Table(self.source.values, str(path))
         self.rounding: list[Rounded] = []
         self.notes: list[str] = []
+        self.lengths: list[Fraction | None] = []
+        self.names: list[str] = []
+        self.built: list[int] = []
+        self.ramps: dict[str, int] = {}
+
+    def file(self, key: str) -> Path:
+        """The file that a key of the study is from: its own, or a base."""
+        return self.source.origin.get(key, self.path)
+
+    def of(self, key: str) -> Table:
+        """The study's own keys, with the file that this one is from."""
+        return Table(self.top.values, str(self.file(key)))
 
     def table(self, key: str, kind: str | None = None, default: Any = None) -> Table:
-        return Table(self.top.values.get(key, default), f"{self.path}: [{key}]", KEYS[kind or key])
+        return Table(self.top.values.get(key, default), f"{self.file(key)}: [{key}]", KEYS[kind or key])
 
     def several(self, key: str) -> list[Table]:
         given = self.top.values.get(key, [])
         if not isinstance(given, list):
-            raise self.top.fault(key, f"is {given!r}; it is written as [[{key}]], once for each")
-        return [Table(x, f"{self.path}: {key} {i}", KEYS[key]) for i, x in enumerate(given, 1)]
+            raise self.of(key).fault(key, f"is {shown(given)}; it is written as [[{key}]], once for each")
+        return [Table(x, f"{self.file(key)}: {key} {i}", KEYS[key]) for i, x in enumerate(given, 1)]
 
     def parts(self, cell: int, what: str, wanted: Fraction) -> int:
         used = half_up(wanted)
@@ -83,41 +155,114 @@ class Reader:
         return used
 
     def study(self) -> Study:
-        self.seconds = Fraction(self.top.whole("step", low=1, high=engine.SECONDS))
-        self.start = clock(self.top.text("start"), f"{self.path}: `start`") if "start" in self.top else None
-        self.steps = self.top.whole("steps", low=1, high=engine.STEPS)
-        self.clock = tables.Clock(self.seconds, self.start, self.steps)
-        road, start = self.road()
-        rows, plan = self.rows(road)
+        if "record" in self.top:
+            road, start, rows = self.recorded()
+        else:
+            self.seconds = Fraction(self.of("step").whole("step", low=1, high=engine.SECONDS))
+            self.steps = self.number_of_steps()
+            self.tell_time()
+            road, start = self.road()
+            rows = self.arrivals(road)
+        plan, tabled = self.releases(road, rows)
         if "after" in self.top:
             start = self.after(road)
         try:
             record = long.record(road, start, rows)
         except engine.Refused as e:
             raise StudyError(f"{self.path}: {e}{self.limits(e, road, start)}") from None
-        laws = self.laws(road)
-        if plan is not None and laws:
-            raise StudyError(f"{self.path}: [releases] and [meter] both say what ramps release; keep one")
-        lengths = [float(x) for x in self.lengths] if None not in self.lengths else None
-        return Study(self.path.stem, self.top.text("title", self.path.stem), record, self.seconds, self.start, lengths, self.names,
-                     self.ramps, self.works(road), laws, plan, self.weights(road), self.rounding, self.notes)
+        laws = self.laws(road, tabled, plan is not None)
+        return Study(self.path.stem, self.title(), record, self.seconds, self.start, self.all_lengths(), self.names,
+                     self.ramps, self.works(road), laws, plan, self.weights(road), self.rounding, self.notes, self.built)
+
+    def all_lengths(self) -> list[float] | None:
+        """The cells' lengths; none where one is missing, which is noted."""
+        without = [str(i) for i, x in enumerate(self.lengths, 1) if x is None]
+        if not without:
+            return [float(x) for x in self.lengths]
+        if len(without) < len(self.lengths):
+            self.notes.append(f"cell {', '.join(without)} has no `length`, so nothing is shown in km")
+        return None
+
+    def title(self) -> str:
+        text = self.of("title").text("title", self.path.stem)
+        if "title" in self.top and not text.isprintable():
+            raise self.of("title").fault("title", f"is {shown(text)}; it is one line of text")
+        return text
+
+    def number_of_steps(self) -> int:
+        steps = self.of("steps").whole("steps", low=1, high=None if "steps" in self.top else engine.STEPS)
+        if steps > engine.STEPS:
+            raise self.of("steps").fault("steps", f"is {steps}; it is at most {engine.STEPS}; a longer study goes on with `after`")
+        return steps
+
+    def tell_time(self) -> None:
+        """The clock time of step 0, where the study says it, and the clock."""
+        at = tables.Moment(None, None, None)
+        if "start" in self.top:
+            x = self.top.values["start"]
+            if not isinstance(x, (str, time, datetime)):
+                raise self.of("start").fault("start", f"is {shown(x)}, where a clock time like \"07:00\" is needed")
+            at = tables.moment(str(x).strip(), f"{self.file('start')}: `start`")
+            if self.seconds is None:
+                raise self.of("start").fault("start", "needs `step`: the record doesn't say a step's seconds")
+        self.start = at.second
+        self.clock = tables.Clock(self.seconds or Fraction(1), self.start, self.steps, at.day, at.zone)
+
+    def recorded(self) -> tuple[engine.Road, engine.Start, np.ndarray]:
+        """Road, start and rows of the record that the study names; the study adds what a record doesn't hold."""
+        for key in ("steps", "version", "gate", "defaults", "arrivals", "after"):
+            if key in self.top:
+                raise self.of(key).fault(key, "is beside `record`, which says it; keep one")
+        path = self.file("record").parent / tables.file_name(self.of("record"), "record")
+        try:
+            record = engine.read(inputs.read_start(path, engine.BYTES + 1))
+        except engine.Refused as e:
+            raise self.of("record").fault("record", f"is {path.name!r}: {e}") from None
+        road = record.road
+        self.seconds, self.steps = Fraction(road.seconds) if road.version == 2 else None, record.steps
+        if "step" in self.top:
+            step = Fraction(self.of("step").whole("step", low=1, high=engine.SECONDS))
+            if self.seconds not in (None, step):
+                raise self.of("step").fault("step", f"is {step}, and {path.name} has steps of {self.seconds} s")
+            self.seconds = step
+        elif self.seconds is None and ("meter" in self.top or "releases" in self.top):
+            raise self.of("record").fault("step", f"is missing: {path.name} doesn't say a step's seconds")
+        self.tell_time()
+        cells = self.several("cell") or [Table({}, "") for _ in range(road.n)]
+        if len(cells) != road.n:
+            raise self.of("cell").fault("cell", f"is there {len(cells)} times; {path.name} has {road.n} cells")
+        for i, c in enumerate(cells):
+            for key in c.values:
+                if key not in BESIDE_RECORD:
+                    raise c.fault(key, f"is beside `record`, which says it; a cell has {', '.join(BESIDE_RECORD)} here")
+            if "ramp" in c and not road.ramp[i]:
+                raise c.fault("ramp", f"is {c.values['ramp']!r}; the record has no ramp there")
+            self.lengths.append(c.number("length", low=_LEAST) if "length" in c else None)
+            self.called(c, i, c.values.get("ramp", str(i + 1)) if road.ramp[i] else None)
+        return road, record.begin, record.rows.copy()
 
     def road(self) -> tuple[engine.Road, engine.Start]:
         cells = self.several("cell")
         if not 1 <= len(cells) <= engine.CELLS:
-            raise StudyError(f"{self.path}: {len(cells)} [[cell]]; a road has 1 to {engine.CELLS}")
+            raise StudyError(f"{self.file('cell')}: {len(cells)} [[cell]]; a road has 1 to {engine.CELLS}")
         defaults = self.table("defaults", "cell", {}).values
         for key in ("name", "ramp", "parts", "queue"):
             if key in defaults:
-                raise StudyError(f"{self.path}: [defaults]: `{key}` belongs to one cell")
-        version = self.top.whole("version", 2, low=1, high=2)
+                raise StudyError(f"{self.file('defaults')}: [defaults]: `{key}` belongs to one cell")
+        version = self.of("version").whole("version", 2, low=1, high=2)
         r, s = engine.Road(n=len(cells), version=version, seconds=int(self.seconds) if version == 2 else 0), engine.Start()
-        self.lengths, self.names, self.ramps, self.built = [], [], {}, []
         for i, given in enumerate(cells):
-            self.cell(r, s, i, Table({**defaults, **given.values}, given.where))
+            for key in BESIDE_PARTS if "parts" in given else ():
+                if key in given:
+                    raise given.fault(key, "is beside `parts`, which says it in the engine's own numbers; keep one")
+            other = {"held": "density", "density": "held"}  # what a cell says takes the place of either in [defaults]
+            kept = {key: x for key, x in defaults.items() if other.get(key) not in given.values}
+            self.cell(r, s, i, Table({**kept, **given.values}, given.where))
         if r.share[r.n - 1]:
             if "split" in cells[-1]:
                 raise cells[-1].fault("split", "stands in the last cell: all that leaves it leaves the road, so it has none")
+            if "parts" in cells[-1]:
+                raise cells[-1].fault("parts", "has a b in the last cell, where it is 0")
             r.share[r.n - 1] = 0
         self.gate(r, s)
         return r, s
@@ -125,7 +270,9 @@ class Reader:
     def gate(self, r: engine.Road, s: engine.Start) -> None:
         gate = self.table("gate", default={})
         if "parts" in gate:
-            raw = Table(gate.values["parts"], f"{self.path}: [gate] parts", KEYS["gate.parts"])
+            for key in gate.values.keys() - {"parts"}:
+                raise gate.fault(key, "is beside `parts`, which says it in the engine's own numbers; keep one")
+            raw = Table(gate.values["parts"], f"{gate.where} parts", KEYS["gate.parts"])
             r.gate_capacity, s.gate_queue = raw.whole("capacity", high=engine.RATE), raw.whole("queue", 0, high=engine.START)
             return
         r.gate_capacity = self.parts(0, "capacity", gate.number("capacity", high=engine.RATE * 3600 // 1000 / self.seconds) * self.seconds / 3600 * 1000)
@@ -136,14 +283,18 @@ class Reader:
         numbers = self.raw(c) if "parts" in c else self.physical(c, i, ramp is not None)
         r.speed[i], r.wave[i], r.share[i], r.jam[i], r.capacity[i], s.held[i], s.queue[i] = numbers
         r.ramp[i] = int(ramp is not None)
-        if ramp is not None:
-            name = str(ramp)
-            if name in self.ramps or name in ("gate", "all", *tables.CLOCKS):
-                raise c.fault("ramp", f"is {name!r}: another ramp has this name, or the name is taken (gate, all, {', '.join(tables.CLOCKS)})")
-            self.ramps[name] = i + 1
-        elif "queue" in c:
+        if ramp is None and "queue" in c:
             raise c.fault("queue", "stands in a cell without a `ramp`, where nobody can wait")
-        self.names.append(str(c.values.get("name", i + 1)))
+        self.called(c, i, ramp)
+
+    def called(self, c: Table, i: int, ramp: Any) -> None:
+        """A cell's name, its ramp's where it has one, and its lanes."""
+        if ramp is not None:
+            name = _name(c, "ramp", ramp)
+            if name in self.ramps or name in tables.TAKEN:
+                raise c.fault("ramp", f"is {name!r}: another ramp has this name, or the name is taken ({', '.join(tables.TAKEN)})")
+            self.ramps[name] = i + 1
+        self.names.append(_name(c, "name", c.values.get("name", i + 1)))
         self.built.append(c.whole("lanes", 1, low=1, high=8))
 
     def raw(self, c: Table) -> tuple[int, ...]:
@@ -190,42 +341,57 @@ class Reader:
             raise c.fault("capacity", f"{found}; check `capacity`, `speed` and `jam`")
         return capacity / (jam - critical)
 
-    def rows(self, road: engine.Road) -> tuple[np.ndarray, np.ndarray | None]:
-        """Arrivals and releases as rows, and the plan where releases are one."""
-        names, folder = list(self.ramps), self.path.parent
+    def arrivals(self, road: engine.Road) -> np.ndarray:
+        """Rows with what arrives; each entry has its arrivals, or 0."""
         if "arrivals" not in self.top:
             raise StudyError(f"{self.path}: [arrivals] is missing: it names a CSV file of arrivals, or has them as lists")
-        arrivals = tables.parts(Table(self.top.values["arrivals"], f"{self.path}: [arrivals]"), folder, "arrivals.csv", ["gate", *names], self.clock)
+        entries = ["gate", *self.ramps]
+        table = Table(self.top.values["arrivals"], f"{self.file('arrivals')}: [arrivals]")
+        given = tables.read(table, self.file("arrivals").parent, "arrivals.csv", entries, self.clock)
+        if missing := [x for x in entries if x not in given.parts]:
+            told = ", ".join(f"`{tables._key(x)} = 0`" for x in missing)
+            fits = "".join(f"; {x!r} has no row{fitting(x, given.others)}" for x in missing[:3]) if given.others else ""
+            raise StudyError(f"{given.where}: nothing says what arrives at {', '.join(missing)}{fits}; where nobody arrives, write {told} in [arrivals]")
+        self.notes += given.notes
         rows = np.zeros((self.steps, 1 + 2 * road.n), np.uint32)
-        rows[:, 0] = arrivals[:, 0]
-        for j, name in enumerate(names):
-            rows[:, 2 * self.ramps[name] - 1] = arrivals[:, 1 + j]
+        rows[:, 0] = given.parts["gate"]
+        for name, cell in self.ramps.items():
+            rows[:, 2 * cell - 1] = given.parts[name]
+        return rows
+
+    def releases(self, road: engine.Road, rows: np.ndarray) -> tuple[np.ndarray | None, list[str]]:
+        """The plan of [releases], and the ramps that it names; exact releases are put into the rows."""
         if "releases" not in self.top:
-            return rows, None
-        table = Table(self.top.values["releases"], f"{self.path}: [releases]")
-        releases = tables.parts(table, folder, "releases.csv", names, self.clock)
+            return None, []
+        table = Table(self.top.values["releases"], f"{self.file('releases')}: [releases]")
+        given = tables.read(table, self.file("releases").parent, "releases.csv", list(self.ramps), self.clock)
+        self.notes += given.notes
         plan = np.zeros((self.steps, road.n), np.uint32)
-        for j, name in enumerate(names):
-            plan[:, self.ramps[name] - 1] = releases[:, j]
-        if table.flag("cap", True):
-            return rows, plan
-        rows[:, 2::2] = plan
-        return rows, None
+        exact = not table.flag("cap", True)
+        for name, parts in given.parts.items():
+            plan[:, self.ramps[name] - 1] = parts
+            if exact:
+                rows[:, 2 * self.ramps[name]] = parts
+        return None if exact or not given.parts else plan, list(given.parts)
 
     def after(self, road: engine.Road) -> engine.Start:
         """What another study leaves at its end, as this one's start."""
-        from .study import load
-
-        name = self.top.text("after")
+        top = self.of("after")
+        name = tables.file_name(top, "after")
         if self.depth == 8:
-            raise self.top.fault("after", "goes round in a circle, or through more than eight studies")
-        before = load(self.path.parent / name, depth=self.depth + 1)
+            raise top.fault("after", "goes round in a circle, or through more than eight studies")
+        before = load(self.file("after").parent / name, depth=self.depth + 1)
         if before.n != road.n:
-            raise self.top.fault("after", f"is {name!r}, of {before.n} cells; this road has {road.n}")
-        end = before.run().state
+            raise top.fault("after", f"is {name!r}, of {before.n} cells; this road has {road.n}")
+        try:
+            end = before.run().state
+        except engine.Refused as e:
+            raise top.fault("after", f"is {name!r}: {before.told(e)}") from None
         for i in range(road.n):
             if end.held[i] > road.jam[i] or end.queue[i] and not road.ramp[i]:
-                raise self.top.fault("after", f"is {name!r}, which leaves {end.held[i]} parts in cell {i + 1} and {end.queue[i]} at its ramp; this road has no place for them")
+                raise top.fault("after", f"is {name!r}, which leaves {end.held[i]} parts in cell {i + 1} and {end.queue[i]} at its ramp; this road has no place for them")
+        if None not in (before.start, before.seconds, self.start) and (before.start + before.record.steps * before.seconds - self.start) % 86400:
+            self.notes.append(f"`after` is {name!r}, which ends at {before.when(before.record.steps).split(', ')[-1]}; this study starts at {clock_time(self.start)}")
         return engine.Start(end.gate_queue, end.held, end.queue)
 
     def limits(self, e: engine.Refused, road: engine.Road, start: engine.Start) -> str:
@@ -235,29 +401,36 @@ class Reader:
         i = e.place - 1
         return f"; cell {e.place} has v {road.speed[i]}, w {road.wave[i]}, b {road.share[i]}, J {road.jam[i]}, C {road.capacity[i]}, held {start.held[i]}, queue {start.queue[i]}"
 
-    def laws(self, road: engine.Road) -> dict[int, tuple]:
-        """Meter laws in the engine's units."""
-        meters = Table(self.top.values.get("meter", {}), f"{self.path}: [meter]")
-        laws: dict[int, tuple] = {}
+    def laws(self, road: engine.Road, tabled: list[str], planned: bool) -> dict[int, tuple]:
+        """Meter laws in the engine's units. Each ramp has a law or a table, exactly once; of a record's without a plan, its own releases otherwise."""
+        file = self.file("meter")
+        meters = Table(self.top.values.get("meter", {}), f"{file}: [meter]")
         for name in meters.values:
             if name != "all" and name not in self.ramps:
-                raise StudyError(f"{self.path}: [meter.{name}]: no cell has a ramp called {name!r}; ramps are {', '.join(self.ramps) or 'none'}, and `all`")
-            m = Table(meters.values[name], f"{self.path}: [meter.{name}]", KEYS["meter"])
+                known = f"no cell has a ramp called {name!r}; ramps are {', '.join(self.ramps) or 'none'}, and `all`"
+                raise StudyError(f"{file}: [meter.{name}]: {known}{like(name, self.ramps)}")
+            if name in tabled:
+                raise StudyError(f"{file}: [releases] and [meter.{name}] both say what ramp {name} releases; keep one")
+        left = [x for x in self.ramps if x not in tabled and x not in meters]
+        if "all" in meters and not left:
+            raise StudyError(f"{file}: [meter.all]: no ramp is left for it; each has a law or a table of its own")
+        if left and "all" not in meters and (planned or "record" not in self.top):
+            raise StudyError(f"{self.path}: nothing says what these ramps release: {', '.join(left)}; [meter.NAME] or [meter.all] gives a law, [releases] a table")
+        laws: dict[int, tuple] = {}
+        for name in meters.values:
+            m = Table(meters.values[name], f"{file}: [meter.{name}]", KEYS["meter"])
             law = m.choice("law", list(LAWS))
-            for key in m.values.keys() - {"law"} - LAWS[law]:
+            for key in m.values.keys() - {"law", "parts"} - LAWS[law]:
                 raise m.fault(key, f"belongs to another law; {law} takes {', '.join(sorted(LAWS[law])) or 'nothing else'}")
-            for ramp, cell in self.ramps.items():
-                if name == ramp or name == "all" and ramp not in meters.values:
-                    laws[cell] = self.law(m, law, road, cell)
-        if laws and len(laws) != len(self.ramps):
-            for cell in self.ramps.values():
-                laws.setdefault(cell, ("fixed", float(engine.RATE)))
-            self.notes.append("ramps without a meter are open")
+            for ramp in left if name == "all" else [name]:
+                laws[self.ramps[ramp]] = self.law(m, law, road, self.ramps[ramp])
         return laws
 
     def law(self, m: Table, law: str, road: engine.Road, cell: int) -> tuple:
         rate, i = self.seconds / 3600 * 1000, cell - 1
         critical = half_up(Fraction(1000 * road.capacity[i], road.speed[i])) if road.speed[i] else 0
+        if "parts" in m:
+            return _own_numbers(m, law)
         if law == "open":
             return "fixed", float(engine.RATE)
         if law == "fixed":
@@ -279,6 +452,7 @@ class Reader:
         if not closures:
             return b""
         table = np.array([[(1 << k) - 1 for k in self.built]] * (self.steps + 1), np.uint8)
+        done: list[tuple[int, int, int, int]] = []
         for c in closures:
             cell = c.whole("cell", low=1, high=road.n)
             shut = c.whole("lanes", low=1, high=self.built[cell - 1])
@@ -290,7 +464,10 @@ class Reader:
                 raise c.fault("from", f"is {c.values['from']}, when the study has ended")
             if begin >= end:
                 raise c.fault("to", f"is {c.values['to']}, which is not after {c.values['from']}")
-            table[1 + begin : 1 + min(end, self.steps), cell - 1] &= (1 << (self.built[cell - 1] - shut)) - 1
+            if other := next((k for k, there, a, b in done if there == cell and a < end and begin < b), None):
+                raise c.fault("from", f"is {c.values['from']}: closure {other} has cell {cell} in the same time; say each time once, with all lanes that are closed")
+            done.append((len(done) + 1, cell, begin, end))
+            table[1 + begin : 1 + min(end, self.steps), cell - 1] = (1 << (self.built[cell - 1] - shut)) - 1
         return table.tobytes()
 
     def weights(self, road: engine.Road) -> tuple[list[int], list[int]] | None:
@@ -315,20 +492,43 @@ class Reader:
         return [w.whole("gate", 1, high=255), *places], ramps
 
 
+def _name(c: Table, key: str, given: Any) -> str:
+    """A name of a cell or a ramp, which a field of a CSV file can hold."""
+    if isinstance(given, bool) or not isinstance(given, (str, int)):
+        raise c.fault(key, f"is {shown(given)}, where a text in quotes is needed")
+    name = str(given)
+    if not name or name != name.strip() or not name.isprintable():
+        raise c.fault(key, f"is {shown(given)}; a name has no blanks at its ends, and nothing that can't be printed")
+    return name
+
+
+def _own_numbers(m: Table, law: str) -> tuple:
+    """A law in the engine's own numbers: parts a step, parts, and a gain a step."""
+    for key in m.values.keys() - {"law", "parts"}:
+        raise m.fault(key, "is beside `parts`, which says it in the engine's own numbers; keep one")
+    if law == "open":
+        raise m.fault("parts", "belongs to another law; open takes nothing else")
+    raw = Table(m.values["parts"], f"{m.where} parts", engine.TAKES[law])
+    return law, *(float(raw.number(key, low=-10**30)) for key in engine.TAKES[law])
+
+
 def varied(path: str | Path, key: str, value: Any) -> Study:
-    """The study of a file with one number changed: `meter.all.rate`, `defaults.capacity`, `cell.3.capacity` (cells from 1)."""
-    toml = parsed(Path(path))
+    """The study of a file with one number changed: `meter.all.rate`, `defaults.capacity`, `cell.3.capacity` (cells and lists from 1)."""
+    source = parsed(Path(path))
     *way, last = key.split(".")
-    at: Any = toml
-    for word in [*way, None]:
-        if isinstance(at, list):
-            at = dict(enumerate(at, 1))
-            word, last = int(word) if word and word.isdigit() else word, int(last) if last.isdigit() else last
-        if word is not None:
-            if not isinstance(at, dict) or word not in at:
-                raise StudyError(f"{path}: there is no `{key}` to vary")
-            at = at[word]
-    if not isinstance(at, dict) or isinstance(at.get(last), (dict, list)):
+    at: Any = source.values
+    for word in way:
+        if (at := _at(at, word)) is None:
+            raise StudyError(f"{path}: there is no `{key}` to vary")
+    if isinstance(at, list) and _at(at, last) is None or not isinstance(at, (dict, list)) or isinstance(_at(at, last), (dict, list)):
         raise StudyError(f"{path}: `{key}` is no number to vary")
-    at[last] = value
-    return Reader(Path(path), toml).study()
+    at[int(last) - 1 if isinstance(at, list) else last] = value
+    return Reader(Path(path), source).study()
+
+
+def _at(table: Any, word: str) -> Any:
+    """What a table has at a key, or a list at a number from 1; None where it has nothing there."""
+    if isinstance(table, list):
+        k = int(word) if word.isdecimal() and len(word) < 9 else 0
+        return table[k - 1] if 1 <= k <= len(table) else None
+    return table.get(word) if isinstance(table, dict) else None

@@ -17,7 +17,7 @@ from .engine import Held, Law, Record, Refused, Road, Run, Start, State
 
 _STATE = np.dtype([("done", "<u8"), ("gate_time", "<u8"), ("road_time", "<u8"), ("ramp_time", "<u8"), ("gate_queue", "<u4"),
                    ("gate_cumulative", "<u4"), ("held", "<u4", 64), ("queue", "<u4", 64), ("cumulative", "<u4", 64)])
-_OPEN = ("fixed", float(engine.RATE))
+_BEGIN = [8, *range(10, 10 + 2 * engine.CELLS)]  # where a state's words have what a start has: the gate's queue, held counts and queues
 
 
 @dataclass(frozen=True)
@@ -26,6 +26,18 @@ class LongRecord(Held):
     road: Road = field(repr=False)
     start: State = field(repr=False)
     rows: np.ndarray = field(repr=False)
+
+    def __post_init__(self) -> None:
+        if not isinstance(self.road, Road) or not isinstance(self.start, State):
+            raise TypeError("a LongRecord has a Road and a State; `long.record` makes one of a Road and a Start")
+        rows = engine._numbers(self.rows).copy()
+        if rows.ndim != 2 or rows.shape[1] != 1 + 2 * self.road.n:
+            raise ValueError(f"rows of {self.road.n} cells have {1 + 2 * self.road.n} numbers each")
+        rows.flags.writeable = False
+        object.__setattr__(self, "rows", rows)
+
+    def __reduce__(self) -> tuple:
+        return LongRecord, (self.road, self.start, self.rows)
 
     steps = property(lambda self: self.rows.shape[0])
 
@@ -55,15 +67,18 @@ class Walk:
     """A road that is stepped row by row; it keeps its states."""
 
     def __init__(self, record: Held, lanes: bytes = b"") -> None:
-        n = record.road.n
+        n, lanes = record.road.n, engine._plain(lanes)
         if lanes and len(lanes) != n * (record.steps + 1):
             raise Refused(17, 0, 0)
-        self.record, self.lanes, self.state, self.rows = record, lanes, record.start, record.rows.copy()
-        self.table = np.frombuffer(lanes, np.uint8).reshape(-1, n).tolist() if lanes else None
+        self.record, self.lanes, self.state, self.rows = record, lanes, record.start, engine._numbers(record.rows).copy()
+        if self.rows.shape != (record.steps, 1 + 2 * n):
+            raise ValueError(f"the rows are {self.rows.shape}; {record.steps} steps have {1 + 2 * n} numbers each")
+        self.table = [lanes[at : at + n] for at in range(0, len(lanes), n)]
         self.open = engine.lanes_of_step([1] * n, [1] * n)
         self.states: list[bytes] = []
         self._one, self._row, self._out = np.empty(engine.BYTES, np.uint8), np.empty(1 + 2 * n, np.uint32), np.empty(n + 1, np.uint32)
-        self._fixed = bytes(engine.CELLS)
+        self._lent = [engine._lent(x) for x in (self._row, self._one, self._out)]
+        self.fixed = bytes(engine.CELLS)  # the kind of every law
 
     @property
     def done(self) -> int:
@@ -72,7 +87,7 @@ class Walk:
     def step(self) -> None:
         """Goes on by the next row."""
         k = self.done
-        lanes = engine.lanes_of_step(self.table[0], self.table[k + 1]) if self.table else self.open
+        lanes = engine.Lanes.from_buffer_copy(self.table[0].ljust(64, b"\0") + self.table[k + 1].ljust(64, b"\0")) if self.table else self.open
         a = engine._step(self.record.road, self.state, *engine._lent(self.rows[k]), lanes)
         if a.number:
             raise Refused(a.number, k, a.place)
@@ -82,15 +97,20 @@ class Walk:
     def releases(self, laws: Mapping[int, Law]) -> np.ndarray:
         """What these laws of fixed rates release in the next step: filling's answer for a record of that step alone."""
         kinds, numbers = engine._laws(laws)
-        s, k, n = self.state, self.done, self.record.road.n
-        start = Start(min(s.gate_queue, engine.START), s.held, (engine._u32 * 64)(*(min(x, engine.START) for x in s.queue)))
+        return self.granted(kinds.tobytes(), numbers)
+
+    def granted(self, kinds: bytes, numbers: np.ndarray) -> np.ndarray:
+        """The same of laws as the boundary takes them."""
+        k, n = self.done, self.record.road.n
+        start = Start.from_buffer_copy(np.minimum(np.frombuffer(self.state, np.uint32)[_BEGIN], engine.START).tobytes())
         self._row[:] = self.rows[k]
         self._row[2::2] = 0
-        written = engine._passed(engine._write(self.record.road, 1, start, *engine._lent(self._row), *engine._lent(self._one)), step=k)
-        at, lanes = engine._lent(self._one)[0], bytes(self.table[0] + self.table[k + 1]) if self.table else b""
-        e = engine._fill(at, written.count, kinds.tobytes(), engine.CELLS, *engine._lent(numbers), lanes, len(lanes), *engine._lent(self._out))
+        row, one, out = self._lent
+        written = engine._passed(engine._write(self.record.road, 1, start, *row, *one), step=k)
+        lanes = self.table[0] + self.table[k + 1] if self.table else b""
+        e = engine._fill(one[0], written.count, kinds, engine.CELLS, *engine._lent(numbers), lanes, len(lanes), *out)
         engine._passed(e, step=k)
-        engine._rows(self._one[: written.count].tobytes(), written.count, n, 1, *engine._lent(self._row))
+        engine._rows(self._one[: written.count].tobytes(), written.count, n, 1, *row)
         return self._row[2::2]
 
     def run(self, weights: tuple[Any, Any] | None = None) -> Run:
@@ -117,26 +137,36 @@ def run(record: Held, lanes: bytes = b"", weights: tuple[Any, Any] | None = None
 
 
 class Metered:
-    """A walk whose ramps release by meter laws or by a plan of at most so much a step, capped as filling caps."""
+    """A walk whose ramps release by meter laws, capped as filling caps. A ramp without a law releases at most what the plan has for it,
+    capped too, or, without a plan, exactly what the row has."""
 
     def __init__(self, record: Held, lanes: bytes, laws: Mapping[int, Law], plan: np.ndarray | None = None) -> None:
-        self.walk, self.laws, self.plan = Walk(record, lanes), laws, plan
+        self.walk, self.laws, self.plan = Walk(record, lanes), laws, None if plan is None else engine._numbers(plan)
+        if plan is not None and self.plan.shape != (record.steps, record.road.n):
+            raise ValueError(f"the plan is {self.plan.shape}; {record.steps} steps have {record.road.n} numbers each")
         self.ramps = [i for i in range(record.road.n) if record.road.ramp[i]]
+        self.by_law = [i for i in self.ramps if i + 1 in laws]
+        self.by_plan = [i for i in self.ramps if i + 1 not in laws] if plan is not None else []
         self.last = dict.fromkeys(self.ramps, 0)
         self.entered = dict.fromkeys(self.ramps, 0)
+        kinds, numbers = engine._laws(laws)
+        self._own = {i: (int(kinds[i]), *numbers[i].tolist()) for i in self.by_law}
+        self._rates = np.zeros((engine.CELLS, 3))  # open where a law wishes, the plan's where there is one
+        self._rates[self.by_law, 0] = engine.RATE
         if record.steps:
-            self.walk.releases(laws)  # what is wrong with a law is refused before the first step
+            self.walk.granted(kinds.tobytes(), numbers)  # what is wrong with a law is refused before the first step
 
     def wishes(self) -> dict[int, int]:
         """What each ramp would release in the next step."""
         walk, k = self.walk, self.walk.done
-        if self.plan is not None:
-            row = walk.releases({i + 1: ("fixed", float(self.plan[k, i])) for i in self.ramps})
-            return {i: int(row[i]) for i in self.ramps}
-        cap = walk.releases({i + 1: _OPEN for i in self.ramps})
-        held = walk.state.held
-        wish = {i: engine.wish(self.laws.get(i + 1, ("fixed", 0.0)), self.last[i], self.entered[i], held[i]) for i in self.ramps}
-        return {i: engine.release(wish[i], int(cap[i])) for i in self.ramps}
+        if self.by_plan:
+            self._rates[self.by_plan, 0] = self.plan[k, self.by_plan]
+        row, held = walk.granted(walk.fixed, self._rates).tolist(), walk.state.held
+        out = {i: int(walk.rows[k, 2 * i + 2]) for i in self.ramps} | {i: row[i] for i in self.by_plan}
+        for i in self.by_law:
+            wish = engine._wish(*self._own[i], self.last[i], self.entered[i], held[i])
+            out[i] = engine._release(wish, row[i])
+        return out
 
     def step(self, releases: Mapping[int, int]) -> None:
         """Goes on with these releases."""
@@ -146,7 +176,7 @@ class Metered:
         walk.step()
         after = walk.state
         for i in self.ramps:
-            self.last[i], self.entered[i] = releases[i], engine.entering(*self.sent(i, before, after))
+            self.last[i], self.entered[i] = releases[i], engine._entering(*self.sent(i, before, after))
 
     def sent(self, i: int, before: State, after: State) -> tuple[int, int, int]:
         """Of the place above the cell at i: its onward share, its cumulative outflow before the step, and its outflow in the step."""
@@ -157,15 +187,16 @@ class Metered:
 
 def fill(record: Held, laws: Mapping[int, Law], lanes: bytes = b"", weights: tuple[Any, Any] | None = None) -> Run:
     """Fills the releases by meter laws and runs it: filling's answer where a record holds it."""
-    return _metered(Metered(record, lanes, laws), weights)
+    engine._laws(laws)
+    engine.laws_fit(record, laws)
+    return metered(record, laws, None, lanes, weights)
 
 
-def planned(record: Held, plan: np.ndarray, lanes: bytes = b"", weights: tuple[Any, Any] | None = None) -> Run:
-    """Runs it with ramps that release what the plan allows, as far as queue, arrivals and supply do."""
-    return _metered(Metered(record, lanes, {}, plan), weights)
-
-
-def _metered(m: Metered, weights: tuple[Any, Any] | None) -> Run:
-    for _ in range(m.walk.record.steps):
+def metered(record: Held, laws: Mapping[int, Law], plan: np.ndarray | None = None, lanes: bytes = b"", weights: tuple[Any, Any] | None = None) -> Run:
+    """Runs it with ramps that release by their laws; the others what the plan allows, as far as queue, arrivals and supply do, or exactly their rows."""
+    engine._laws(laws)
+    engine.laws_fit(record, {**dict.fromkeys(record.ramps), **laws})  # a ramp without a law has the plan or its rows
+    m = Metered(record, lanes, laws, plan)
+    for _ in range(record.steps):
         m.step(m.wishes())
     return m.walk.run(weights)

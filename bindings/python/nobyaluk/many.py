@@ -3,11 +3,15 @@
 A call of the engine gives up Python's lock and the engine keeps no state, so threads run side by side. A run is short, though: where
 variants are made in Python on the way, processes do more. Studies travel to them as their records' bytes, variants as recipes.
 """
+import logging
 import os
+import sys
 import threading
+import time
 from collections import deque
 from collections.abc import Callable, Iterable, Iterator
-from concurrent.futures import Executor, ProcessPoolExecutor, ThreadPoolExecutor
+from concurrent.futures import CancelledError, Executor, Future, ProcessPoolExecutor, ThreadPoolExecutor
+from fractions import Fraction
 from itertools import islice
 from typing import Any, NamedTuple
 
@@ -15,11 +19,17 @@ import numpy as np
 
 from . import engine
 from .engine import Refused
+from .faults import StudyError, shown
 from .study import Study, load
+from .summary import waiting
+
+TIMEOUT = 20  # seconds until a scheduler has answered
+PATIENCE = 60  # seconds that a cluster may be without workers
+PATROL = 5  # seconds between two looks at a cluster whose answer is waited for
 
 
 class Totals(NamedTuple):
-    """What a study costs: part-steps and parts, as the engine gives them; or the refusal that it met."""
+    """What a study costs: part-steps and parts, as the engine gives them; or the refusal, or the fault in making it."""
     name: str
     total: int = 0
     gate: int = 0
@@ -28,9 +38,11 @@ class Totals(NamedTuple):
     exits: int = 0
     present: int = 0
     weighted: int | None = None
-    longest_gate_queue: int | None = None  # parts; where they were asked for
+    longest_gate_queue: int | None = None  # parts, without the step's arrivals; where they were asked for
     longest_ramp_queue: int | None = None
     refused: Refused | None = None
+    seconds: Fraction | None = None  # of a step
+    fault: str | None = None  # why the study could not be made, in words
 
 
 _lent = threading.local()
@@ -52,14 +64,14 @@ def totals(study: Study) -> Totals:
     try:
         if study.laws or study.plan is not None or study.weights or not isinstance(record, engine.Record):
             r = study.run()
-            return Totals(study.name, r.total, r.gate, r.road, r.ramp, r.exits, r.present, r.weighted)
-        data, lanes = record.data, study.lanes
+            return Totals(study.name, r.total, r.gate, r.road, r.ramp, r.exits, r.present, r.weighted, seconds=study.seconds)
+        data, lanes = engine._data(record), engine._plain(study.lanes)
         at, size = _outflows()
         e = engine._run(data, len(data), lanes, len(lanes), at, size)
         if e.number:
             return Totals(study.name, refused=Refused(e.number, e.step, e.place))
         s = e.state
-        return Totals(study.name, e.total, s.gate_time, s.road_time, s.ramp_time, e.exits, e.present)
+        return Totals(study.name, e.total, s.gate_time, s.road_time, s.ramp_time, e.exits, e.present, seconds=study.seconds)
     except Refused as e:
         return Totals(study.name, refused=e)
 
@@ -70,30 +82,56 @@ def totals_and_queues(study: Study) -> Totals:
         r = study.run()
     except Refused as e:
         return Totals(study.name, refused=e)
-    return Totals(study.name, r.total, r.gate, r.road, r.ramp, r.exits, r.present, r.weighted, int(r.held[:, 0].max()), int(r.queue.max()))
+    queues = int(waiting(r).max()), int(r.queue.max())
+    return Totals(study.name, r.total, r.gate, r.road, r.ramp, r.exits, r.present, r.weighted, *queues, seconds=study.seconds)
 
 
 Recipe = Callable[[], Study]  # as functools.partial(study.scaled, 1.05)
 
 
 def _all(each: Callable[[Study], Any], group: list[Study | str | Recipe]) -> list[Any]:
-    return [each(x if isinstance(x, Study) else x() if callable(x) else load(x)) for x in group]
+    return [_one(each, x) for x in group]
+
+
+def _one(each: Callable[[Study], Any], x: Study | str | Recipe) -> Any:
+    """What `each` gives of a study; where totals are wanted, a study that can't be made has its fault in them."""
+    try:
+        study = x if isinstance(x, Study) else x() if callable(x) else load(x)
+    except (StudyError, Refused) as e:
+        if each not in (totals, totals_and_queues):
+            raise
+        return Totals(str(x), refused=e if isinstance(e, Refused) else None, fault=str(e))
+    return each(study)
+
+
+def _result(future: Future, watch: Callable[[], None] | None) -> Any:
+    """A task's answer; while it is waited for, `watch` looks whether anybody works on it."""
+    while True:
+        try:
+            return future.result(PATROL if watch else None)
+        except TimeoutError:
+            if watch is None or future.done():
+                raise
+            watch()
 
 
 def map(studies: Iterable[Study | str | Recipe], executor: Executor | None = None, *, each: Callable[[Study], Any] = totals,
-        workers: int | None = None, batch: int = 16, progress: Callable[[int], None] | None = None) -> Iterator[Any]:
+        workers: int | None = None, batch: int = 16, progress: Callable[[int], None] | None = None,
+        watch: Callable[[], None] | None = None) -> Iterator[Any]:
     """What `each` gives of every study, path or recipe of one, in their order; by threads of this machine, or by the executor given.
 
-    Studies are taken as they are needed, `batch` of them a task, so that thousands need no memory at once. A refused study is
-    told in its `Totals`, and the others go on.
+    Studies are taken as they are needed, `batch` of them a task, so that thousands need no memory at once. A study that is refused,
+    or that can't be made, has that in its `Totals`, and the others go on. `watch` is called while an answer is waited for, and may raise.
     """
+    if batch < 1:
+        raise ValueError(f"a task has at least one study, not {batch}")
     pool = executor or ThreadPoolExecutor(workers or os.cpu_count())
     ahead, done = 4 * (workers or getattr(pool, "_max_workers", None) or os.cpu_count() or 1), 0
     pending: deque = deque()
 
     def finished() -> Iterator[Any]:
         nonlocal done
-        out = pending.popleft().result()
+        out = _result(pending.popleft(), watch)
         done += len(out)
         if progress:
             progress(done)
@@ -115,16 +153,84 @@ def map(studies: Iterable[Study | str | Recipe], executor: Executor | None = Non
 
 
 def processes(workers: int | None, studies: int) -> Executor | None:
-    """An executor of this machine's processors, where there are several and enough studies to make up for starting it."""
-    workers = workers or os.cpu_count() or 1
+    """An executor of at most this machine's processors, where there are several and enough studies to make up for starting it."""
+    processors = os.cpu_count() or 1
+    workers = min(workers or processors, processors, studies)
     return ProcessPoolExecutor(workers) if workers > 1 and studies >= 200 else None
+
+
+class NoCluster(Exception):
+    """A cluster that does not answer, has no workers or was lost."""
+
+
+class Cluster:
+    """A Dask cluster: an executor over its workers, which need this package too, and a look at whether they are there."""
+
+    def __init__(self, address: str) -> None:
+        self.address, self.without = address, None
+        try:
+            import distributed
+            from distributed.comm import resolve_address
+        except ImportError:
+            raise ImportError("a cluster needs Dask: apt-get install python3-distributed, or pip install distributed") from None
+        for name in ("distributed", "concurrent.futures"):  # their tracebacks; what is lost is reported here
+            logging.getLogger(name).setLevel(logging.CRITICAL + 1)
+        try:
+            resolve_address(address)
+        except (ValueError, TypeError):
+            raise StudyError(f"--scheduler is {shown(address)}; it is an address like tcp://10.0.0.1:8786") from None
+        except OSError as e:
+            raise NoCluster(f"the scheduler at {address} is not found: {e}") from None
+
+        class Client(distributed.Client):
+            """Closed here, never when Python drops it, which would print a traceback for one that was never open."""
+
+            def __del__(self) -> None:
+                pass
+
+        try:
+            self.client = Client(address, timeout=f"{TIMEOUT}s")
+        except OSError:
+            raise NoCluster(f"the scheduler at {address} does not answer within {TIMEOUT} s") from None
+        self.executor = self.client.get_executor()
+
+    def watch(self) -> None:
+        """NoCluster where the scheduler is gone, or workers have been missing for too long."""
+        try:
+            workers = len(self.client.scheduler_info()["workers"]) if self.client.status != "closed" else None
+        except (OSError, TimeoutError, CancelledError, RuntimeError, ValueError):
+            workers = None
+        if workers is None:
+            raise NoCluster(f"the scheduler at {self.address} was lost")
+        now = time.monotonic()
+        if workers:
+            self.without = None
+        elif self.without is None:
+            self.without = now
+            print(f"nobyaluk: the cluster at {self.address} has no workers; waiting for one up to {PATIENCE} s", file=sys.stderr)
+        elif now - self.without >= PATIENCE:
+            raise NoCluster(f"the cluster at {self.address} has no workers, and none came within {PATIENCE} s")
+
+    def map(self, studies: Iterable[Study | str | Recipe], **how: Any) -> Iterator[Any]:
+        """`map` over its workers; NoCluster where they are lost on the way."""
+        self.watch()
+        while self.without is not None:
+            time.sleep(min(1, PATIENCE / 4))
+            self.watch()
+        try:
+            yield from map(studies, self.executor, watch=self.watch, **how)
+        except (CancelledError, OSError) as e:
+            raise NoCluster(f"the cluster at {self.address} was lost: {str(e) or 'its scheduler is gone'}") from None
+
+    def close(self) -> None:
+        """Closes the connection; one that is lost is left."""
+        try:
+            self.client.close(timeout=2)
+        except Exception:  # noqa: BLE001 whatever a lost connection raises
+            pass
 
 
 def cluster(address: str) -> tuple[Executor, Any]:
     """An executor over a Dask cluster, and its client to be closed; its workers need this package too."""
-    try:
-        from distributed import Client
-    except ImportError:
-        raise ImportError("a cluster needs Dask: apt-get install python3-distributed, or pip install distributed") from None
-    client = Client(address, timeout="20s")
-    return client.get_executor(), client
+    c = Cluster(address)
+    return c.executor, c.client

@@ -10,7 +10,8 @@ from . import engine, long
 from .engine import Run
 from .faults import StudyError, Table
 from .files import half_up, parsed
-from .study import Study, load
+from .tables import fitting, file_name
+from .study import Study, clock_time, load
 
 KEYS = {"": {"title", "limit", "ramp"}, "ramp": {"study", "ramp", "guarantee"}}
 
@@ -29,39 +30,52 @@ class Street:
 def read(path: str | Path) -> Street:
     """A street's TOML: its limit, and for each ramp a study, a ramp of it and a guarantee, in veh/h."""
     path = Path(path)
-    top = Table(parsed(path), str(path), KEYS[""])
+    top = Table(parsed(path).values, str(path), KEYS[""])
     given = top.values.get("ramp", [])
     if not isinstance(given, list) or not 1 <= len(given) <= 8:
         raise top.fault("ramp", "is written as [[ramp]], once for each of 1 to 8 ramps")
-    files: dict[str, int] = {}
-    studies: list[Study] = []
-    ramps, names, rates = [], [], []
-    for i, x in enumerate(given, 1):
-        r = Table(x, f"{path}: ramp {i}", KEYS["ramp"])
-        file, name = r.text("study"), r.text("ramp")
-        if file not in files:
-            files[file] = len(studies)
-            studies.append(load(path.parent / file))
-        s = studies[files[file]]
+    tables = [Table(x, f"{path}: ramp {i}", KEYS["ramp"]) for i, x in enumerate(given, 1)]
+    files, studies = _roads(path, tables)
+    ramps, names = [], []
+    for r, k in zip(tables, files):
+        s, name = studies[k], r.text("ramp")
         if name not in s.ramps:
-            raise r.fault("ramp", f"is {name!r}; {file} has {', '.join(s.ramps) or 'none'}")
-        if (files[file], s.ramps[name]) in ramps:
-            raise r.fault("ramp", f"is {name!r} of {file}, which stands there already")
-        ramps.append((files[file], s.ramps[name]))
+            raise r.fault("ramp", f"is {name!r}; {s.name} has {', '.join(s.ramps) or 'none'}{fitting(name, s.ramps)}")
+        if (k, s.ramps[name]) in ramps:
+            raise r.fault("ramp", f"is {name!r} of {s.name}, which stands there already")
+        ramps.append((k, s.ramps[name]))
         names.append(f"{s.name}, ramp {name}")
-        rates.append(r.number("guarantee", 0))
     first = studies[0]
     for s in studies:
         if s.seconds is None or (s.seconds, s.record.steps) != (first.seconds, first.record.steps):
             raise StudyError(f"{path}: {s.name} and {first.name} differ in their steps' number or seconds; a street's roads go on together")
+        if None not in (s.start, first.start) and s.start != first.start:
+            raise StudyError(f"{path}: {first.name} starts at {clock_time(first.start)} and {s.name} at {clock_time(s.start)}; a street's roads go on together")
     a_step = first.seconds / 3600 * 1000
-    return Street(top.text("title", path.stem), half_up(top.number("limit") * a_step), studies, ramps, names, [half_up(x * a_step) for x in rates])
+    most = engine.RATE / a_step  # veh/h, as granting takes them
+    limit, guarantees = top.number("limit", high=most), [r.number("guarantee", 0, high=most) for r in tables]
+    return Street(top.text("title", path.stem), half_up(limit * a_step), studies, ramps, names, [half_up(x * a_step) for x in guarantees])
+
+
+def _roads(path: Path, tables: list[Table]) -> tuple[list[int], list[Study]]:
+    """Which study each ramp is of, and the studies, each once; those of one file name are called by their folders too."""
+    found: dict[Path, int] = {}
+    files = [Path(file_name(r, "study")) for r in tables]
+    which = [found.setdefault((path.parent / x).resolve(), len(found)) for x in files]
+    studies = [load(path.parent / files[which.index(k)]) for k in range(len(found))]
+    names = [s.name for s in studies]
+    for k, s in enumerate(studies):
+        if names.count(s.name) > 1:
+            file = files[which.index(k)]
+            s.name = "-".join(x for x in file.with_suffix("").parts if x not in ("/", "..", "."))
+    if len({s.name for s in studies}) < len(studies):
+        raise StudyError(f"{path}: two of the roads are called {', '.join(s.name for s in studies)}; rename a file")
+    return which, studies
 
 
 def metered(study: Study) -> long.Metered:
-    """A study to be stepped: by its laws, its plan, or its releases as the most that each ramp lets go."""
-    plan = study.plan if study.plan is not None or study.laws else study.record.rows[:, 2::2]
-    return long.Metered(study.record, study.lanes, study.laws, None if study.laws else plan)
+    """A study to be stepped: each ramp by its law, its plan, or its releases as the most that it lets go."""
+    return long.Metered(study.record, study.lanes, study.laws, study.plan if study.plan is not None else study.record.rows[:, 2::2])
 
 
 def run(street: Street) -> tuple[list[Run], list[list[int]]]:

@@ -1,25 +1,35 @@
-"""Arrivals and releases as CSV: a spreadsheet's columns or a detector's rows, of any length in time.
+"""Arrivals and releases: lists of a study, a spreadsheet's columns or a detector's rows, of any length in time.
 
 A row holds from its time until the next one. What comes in a step is the growth of the exact running sum, rounded down to whole
-parts, so that sums are right to a part however rows and steps lie.
+parts, so that sums are right to a part however rows and steps lie. A name that is not known is a fault that shows names like it.
 """
+import bisect
 import csv
+import difflib
 import io
+import itertools
 import re
-from dataclasses import dataclass
+from collections.abc import Collection, Iterator
+from dataclasses import dataclass, field
+from datetime import date
+from decimal import Decimal
 from fractions import Fraction
 from pathlib import Path
+from typing import Any
 
 import numpy as np
 
-from . import engine
-from .faults import StudyError, Table, clock, exact
+from . import engine, inputs
+from .faults import StudyError, Table, clock, exact, shown
 
 UNITS = ("veh/h", "veh", "count", "parts")  # a rate; vehicles a step; vehicles in the row's own time; parts a step
 KEYS = {"file", "unit", "columns"}
 PLACES = ("place", "detector", "station")  # the heading that makes a file a detector's
 VALUES = {"veh/h": "veh/h", "flow": "veh/h", "veh": "count", "count": "count", "vehicles": "count", "parts": "parts"}
 CLOCKS = ("time", "step", "seconds", "minutes")
+TAKEN = ("gate", "all", *CLOCKS, "file", "unit", "columns", "cap", "-")  # names that no ramp may have
+LEFT_OUT = "-"  # in `columns`: a column that is not looked at
+MOST = 16 << 20  # bytes of a CSV file
 
 
 @dataclass
@@ -32,31 +42,102 @@ class Rows:
     unit: str
 
 
-class Clock:
-    """The study's time: step 0 begins at second 0, or at a clock time."""
+@dataclass
+class Given:
+    """What a table gives: parts a step of each name, the names in its file that stand for none, and notes."""
+    where: str
+    parts: dict[str, np.ndarray]
+    others: list[str] = field(default_factory=list)
+    notes: list[str] = field(default_factory=list)
 
-    def __init__(self, seconds: Fraction, start: Fraction | None, steps: int) -> None:
-        self.seconds, self.start, self.steps, self.day = seconds, start, steps, None
+
+def like(word: str, names: Collection[str]) -> str:
+    """Names like a word, as the end of a fault; nothing where there are none."""
+    names = list(itertools.islice(names, 2000))
+    found = [x for x in names if x.lower() == word.lower()] or difflib.get_close_matches(word[:200], names, 3, 0.6)
+    return f"; did you mean {' or '.join(map(repr, found))}?" if found else ""
+
+
+def fitting(word: str, names: Collection[str]) -> str:
+    """Names like a word, or else the names that there are, as the end of a fault."""
+    shown = ", ".join(x[:40] for x in list(names)[:12]) + (", .." if len(names) > 12 else "")
+    return like(word, names) or (f"; there are {shown}" if names else "")
+
+
+_DAY = r"(?P<year>[0-9]{4})(?P<mark>[-/])(?P<month>[0-9]{1,2})(?P=mark)(?P<day>[0-9]{1,2})|(?P<first>[0-9]{1,2})\.(?P<second>[0-9]{1,2})\.(?P<last>[0-9]{4})"
+_ZONE = r"(?P<zone>Z|[+-][0-9]{2}:?[0-9]{2})"
+_MOMENT = re.compile(rf"(?:(?:{_DAY})(?:T| +))?(?P<clock>[0-9]{{1,2}}:[0-9]{{2}}(?::[0-9]{{2}}(?:\.(?P<part>[0-9]{{1,9}}))?)?)(?: ?{_ZONE})?")
+_EITHER = re.compile(r"[0-9]{1,2}([-/])[0-9]{1,2}\1[0-9]{2,4}\b.*")
+
+
+@dataclass(frozen=True)
+class Moment:
+    """A clock time, with its day and its offset from UTC where they are written."""
+    second: Fraction
+    day: int | None
+    zone: int | None
+
+
+def moment(text: str, where: str) -> Moment:
+    """07:30, 07:30:20, and both after 2026-05-12, 2026/05/12 or 12.05.2026, with `T` or a blank between; Z or an offset may follow."""
+    m = _MOMENT.fullmatch(text)
+    if m is None:
+        if _EITHER.fullmatch(text):
+            raise StudyError(f"{where}: {shown(text)} may have the day or the month first; write 2026-05-12 or 12.05.2026")
+        raise StudyError(f"{where}: {shown(text)} is no clock time like 07:30 or 07:30:20, alone or after a date like 2026-05-12 or 12.05.2026")
+    at = clock(m["clock"].partition(".")[0], where) + (Fraction(int(m["part"]), 10 ** len(m["part"])) if m["part"] else 0)
+    year = m["year"] or m["last"]
+    if year is None:
+        if m["zone"]:
+            raise StudyError(f"{where}: {text!r} has an offset from UTC and no date")
+        return Moment(at, None, None)
+    try:
+        day = date(int(year), int(m["month"] or m["second"]), int(m["day"] or m["first"])).toordinal()
+    except ValueError:
+        raise StudyError(f"{where}: {text!r}: there is no such day") from None
+    return Moment(at, day, _offset(m["zone"]))
+
+
+def _offset(zone: str | None) -> int | None:
+    """Seconds ahead of UTC."""
+    if zone is None:
+        return None
+    return 0 if zone == "Z" else (1 if zone[0] == "+" else -1) * (3600 * int(zone[1:3]) + 60 * int(zone[-2:]))
+
+
+class Clock:
+    """The study's time: step 0 begins at second 0, or at a clock time, which may have a date."""
+
+    def __init__(self, seconds: Fraction, start: Fraction | None, steps: int, day: int | None = None, zone: int | None = None) -> None:
+        self.seconds, self.start, self.steps, self.day, self.zone = seconds, start, steps, day, zone
+        self.zoned = zone is not None  # whether it is known if times have an offset
+        self.taken, self.latest = False, Fraction(0)  # whether the day is a file's first, and the latest time with a date
 
     def second(self, kind: str, text: str, where: str) -> Fraction:
         """Seconds after the beginning of step 0 of a field under `time`, `step`, `seconds` or `minutes`."""
         if kind != "time":
             try:
-                return exact(text) * {"step": self.seconds, "seconds": 1, "minutes": 60}[kind]
+                x = Fraction(int(text)) if text.isascii() and text.isdigit() and len(text) < 16 else exact(text)
+                return x * {"step": self.seconds, "seconds": 1, "minutes": 60}[kind]
             except ValueError:
-                raise StudyError(f"{where}: {text!r} under `{kind}` is no number") from None
+                raise StudyError(f"{where}: {shown(text)} under `{kind}` is no number") from None
         if self.start is None:
-            raise StudyError(f"{where}: {text} is a clock time, which needs `start`, the clock time of step 0; or count by `step`, `seconds` or `minutes`")
-        dated = re.fullmatch(r"(\d{4}-\d{2}-\d{2})[T ](\d{1,2}:\d{2}(?::\d{2})?)(?:\.0+)?Z?", text)
-        if not dated:
-            return clock(text, where) - self.start
-        day = np.datetime64(dated[1])
-        self.day = day if self.day is None else self.day
-        return clock(dated[2], where) + 86400 * int((day - self.day).astype(int)) - self.start
+            raise StudyError(f"{where}: {shown(text)} is a clock time, which needs `start`, the clock time of step 0; or count by `step`, `seconds` or `minutes`")
+        at = moment(text.strip(), where)
+        if at.day is None:
+            return at.second - self.start
+        if self.day is None:
+            self.day, self.taken = at.day, True
+        self.zone, self.zoned = (self.zone if self.zoned else at.zone), True
+        if (at.zone is None) != (self.zone is None):
+            raise StudyError(f"{where}: {text!r}: some times have an offset from UTC and some have none")
+        second = at.second + 86400 * (at.day - self.day) - ((at.zone or 0) - (self.zone or 0)) - self.start
+        self.latest = max(self.latest, second)
+        return second
 
     def step(self, text: object, where: str) -> int:
         """The step that begins then; a whole number is a step."""
-        if isinstance(text, int) and not isinstance(text, bool) or str(text).strip().isdigit():
+        if isinstance(text, int) and not isinstance(text, bool) or re.fullmatch(r"[0-9]{1,9}", str(text).strip()):
             if int(text) < 0:
                 raise StudyError(f"{where}: {text} is no step; steps are counted from 0")
             return int(text)
@@ -66,145 +147,343 @@ class Clock:
         return int(k)
 
 
-def parts(table: Table, folder: Path, default: str, columns: list[str], clock: Clock) -> np.ndarray:
-    """Parts a step of each column, shape (steps, columns)."""
-    inline = next((kind for kind in CLOCKS if kind in table), None)
+def read(table: Table, folder: Path, default: str, entries: list[str], clock: Clock) -> Given:
+    """Parts a step of each entry that the table names: in lists, in a CSV file, or by a 0 for all steps."""
+    shut = {key: np.zeros(clock.steps, np.uint32) for key, x in table.values.items() if key in entries and _is_zero(x)}
+    inline, more = next((kind for kind in CLOCKS if kind in table), None), {"unit"} if entries[:1] == ["gate"] else {"unit", "cap"}
     if inline and "file" not in table:
-        rows = _inline(table, inline, columns, clock)
+        rows, given = _inline(table, inline, more, entries, clock), Given(table.where, shut)
+    elif "file" not in table and shut and table.values.keys() - shut.keys() <= more and (entries[:1] != ["gate"] or len(shut) == len(entries)):
+        return Given(table.where, shut)
     else:
-        for key in table.values:
-            if key not in KEYS and not (key == "cap" and columns[:1] != ["gate"]):
-                raise table.fault(key, f"is not known beside a file; known are {', '.join(sorted(KEYS))}")
-        rows = _file(table, folder / table.text("file", default), columns, clock)
-    return _steps(rows, columns, clock)
+        if "file" not in table and any(isinstance(table.values.get(x), list) for x in entries):
+            raise StudyError(f"{table.where}: the lists have no times: add a list {', '.join(CLOCKS[:-1])} or {CLOCKS[-1]}")
+        path = folder / file_name(table, "file", default)
+        for key, x in table.values.items():
+            if key in entries and key not in shut:
+                raise table.fault(key, f"is {shown(x)}; beside a file it is 0, where nothing comes in any step")
+            if key not in (*KEYS, *more, *entries):
+                raise table.fault(key, f"is not known beside a file; known are {', '.join(sorted(KEYS))}, and names with 0{like(key, entries)}")
+        clock.latest = Fraction(0)
+        rows, others = _file(table, path, entries, clock)
+        given = Given(str(path), shut, others)
+        if clock.taken and clock.latest >= max(86400, clock.steps * clock.seconds):
+            given.notes.append(f"{path}: it has rows of several days, and the study is of the first; `start` with a date picks another")
+    for name in rows.names:
+        if name in shut:
+            raise table.fault(name, f"has 0 and a column in {given.where}; keep one")
+    given.parts |= _steps(rows, clock)
+    given.notes += _gaps(rows, clock)
+    return given
+
+
+def file_name(table: Table, key: str, default: str | None = None) -> str:
+    """The name of a file in a table."""
+    name = table.text(key, default)
+    if not name or "\0" in name:
+        raise table.fault(key, f"is {name!r}, which is no name of a file")
+    return name
+
+
+def _is_zero(x: Any) -> bool:
+    return isinstance(x, (int, Decimal, Fraction)) and not isinstance(x, bool) and x == 0
 
 
 def _number(text: str, where: str) -> Fraction:
     if not text:
-        raise StudyError(f"{where} is empty; write 0 where nothing came")
+        raise StudyError(f"{where} is empty; write 0 where nothing came, and fill in what a detector missed")
     try:
         x = exact(text)
     except ValueError:
-        raise StudyError(f"{where} is {text!r}, where a number is needed") from None
+        raise StudyError(f"{where} is {shown(text)}, where a number is needed") from None
     if x < 0:
         raise StudyError(f"{where} is {text}; it is at least 0")
     return x
 
 
-def _inline(table: Table, kind: str, columns: list[str], clock: Clock) -> Rows:
+def _inline(table: Table, kind: str, more: set[str], entries: list[str], clock: Clock) -> Rows:
     """Columns that stand in the TOML file itself, as lists."""
     unit = table.choice("unit", UNITS, "veh/h")
-    named = {key: x for key, x in table.values.items() if key not in (kind, "unit", "cap")}
+    named = {key: x for key, x in table.values.items() if key != kind and key not in more}
     for key, x in {kind: table.values[kind], **named}.items():
-        if key != kind and key not in columns:
-            raise table.fault(key, f"is no column; columns are {', '.join(columns)}")
-        if not isinstance(x, list) or len(x) != len(table.values[kind]) or not x:
-            raise table.fault(key, f"is {x!r}; it is a list as long as `{kind}`")
+        if key != kind and key not in entries:
+            raise table.fault(key, f"is no column; columns are {', '.join(entries)}{like(key, entries)}")
+        if not (key != kind and _is_zero(x)) and (not isinstance(x, list) or len(x) != len(table.values[kind]) or not x):
+            raise table.fault(key, f"is {shown(x)}; it is a list as long as `{kind}`" + (", or 0" if key != kind and not isinstance(x, list) else ""))
+    named = {key: x for key, x in named.items() if isinstance(x, list)}
     begins = [clock.second(kind, str(x), f"{table.where}: `{kind}`") for x in table.values[kind]]
     values = [[_number(str(x[i]), f"{table.where}: number {i + 1} of `{key}`") for key, x in named.items()] for i in range(len(begins))]
     return Rows(list(named), begins, values, [f"{table.where}: number {i + 1} of `{kind}`" for i in range(len(begins))], unit)
 
 
 def _lines(path: Path) -> list[tuple[int, list[str]]]:
-    """The fields of each line that is neither empty nor a comment, with its number."""
-    try:
-        text = path.read_bytes().decode("utf-8-sig")
-    except UnicodeDecodeError:
-        raise StudyError(f"{path}: it is not in UTF-8; save it as CSV (UTF-8)") from None
+    """The fields of each line of a CSV file that is neither empty nor a comment, with its number."""
+    return _separated(path)[1]
+
+
+def _separated(path: Path) -> tuple[str, list[tuple[int, list[str]]]]:
+    """The separator of a CSV file, and the fields of each line that is neither empty nor a comment, with its number."""
+    text = inputs.read_text(path, MOST)
     head = next((x for x in text.splitlines() if x.strip() and not x.lstrip().startswith("#")), "")
-    reader = csv.reader(io.StringIO(text, newline=""), delimiter=max(",;\t", key=head.count))
-    rows = [(reader.line_num, [x.strip() for x in row]) for row in reader]
-    return [(number, row) for number, row in rows if any(row) and not row[0].startswith("#")]
+    fits = (x for x in "\t;," if _even(path, text, x))
+    separator = next(fits, None) or max(",;\t", key=head.count)
+    return separator, list(_rows(path, text, separator))
 
 
-def _file(table: Table, path: Path, columns: list[str], clock: Clock) -> Rows:
-    lines = _lines(path)
-    if len(lines) < 2:
+def _even(path: Path, text: str, separator: str) -> bool:
+    """Whether the heading and the first row have as many fields, more than one, by this separator."""
+    try:
+        first = [len(row) for _, row in itertools.islice(_rows(path, text, separator), 2)]
+    except StudyError:
+        return False
+    return len(first) == 2 and first[0] == first[1] > 1
+
+
+def _rows(path: Path, text: str, separator: str) -> Iterator[tuple[int, list[str]]]:
+    reader = csv.reader(io.StringIO(text, newline=""), delimiter=separator)
+    try:
+        for row in reader:
+            fields = [x.strip() for x in row]
+            if any(fields) and not fields[0].startswith("#"):
+                yield reader.line_num, fields
+    except csv.Error as e:
+        raise StudyError(f"{path}, row {reader.line_num}: {e}") from None
+
+
+@dataclass
+class _Sheet:
+    """A CSV file: its headings as they are written and as what they stand for, its rows with their numbers, and which column has the times."""
+    path: Path
+    separator: str
+    written: list[str]
+    heading: list[str]
+    rows: list[tuple[int, list[str]]]
+    times: int
+
+
+def _file(table: Table, path: Path, entries: list[str], clock: Clock) -> tuple[Rows, list[str]]:
+    """The rows of a CSV file, and the names in it that stand for nothing."""
+    separator, found = _separated(path)
+    if len(found) < 2:
         raise StudyError(f"{path}: a heading and at least one row are needed; the first column is {', '.join(CLOCKS)}")
-    (_, heading), rows = lines[0], lines[1:]
-    heading = [x if i and x in columns else x.lower() if i == 0 or x.lower() in (*PLACES, *VALUES) else x for i, x in enumerate(heading)]
-    if heading[0] not in CLOCKS:
-        raise StudyError(f"{path}: the first column is {heading[0]!r}; it is {', '.join(CLOCKS)}")
+    (_, written), rows = found[0], found[1:]
     for number, row in rows:
-        if len(row) != len(heading):
-            raise StudyError(f"{path}, row {number}: {len(row)} fields under {len(heading)} headings")
+        if len(row) != len(written):
+            raise StudyError(f"{path}, row {number}: {len(row)} fields under {len(written)} headings")
+    called = _called(table, entries)
+    heading = [_heading(x, i, called, entries) for i, x in enumerate(written)]
+    sheet = _Sheet(path, separator, written, heading, rows, _times(path, heading, written, called))
+    places = _named(heading, written, called, [x for x in PLACES if x not in entries])
+    if len(places) > 1:
+        raise StudyError(f"{path}: columns {', '.join(repr(written[i]) for i in places)} may all be places; `columns` says which one is, or leaves the others out")
+    return _detectors(sheet, places[0], table, called, entries, clock) if places else (_columns(sheet, table, called, entries, clock), [])
+
+
+def _named(heading: list[str], written: list[str], called: Table, words: Collection[str]) -> list[int]:
+    """The columns with one of these headings: those that `columns` names, where it does."""
+    found = [i for i, x in enumerate(heading) if x in words]
+    return [i for i in found if written[i] in called] or found
+
+
+def _columns(sheet: _Sheet, table: Table, called: Table, entries: list[str], clock: Clock) -> Rows:
+    """A spreadsheet's form: a column for each place."""
+    path, heading, written = sheet.path, sheet.heading, sheet.written
+    for name in called.values:
+        if name not in written:
+            raise called.fault(name, f"is no column of {path}{fitting(name, written)}")
+    unit = table.choice("unit", UNITS, "veh/h")
+    taken = [i for i, x in enumerate(heading) if i != sheet.times and x != LEFT_OUT]
+    names = [heading[i] for i in taken]
+    for name in names:
+        if name not in entries:
+            more = f"`columns` may say what it is, or columns = {{ {_key(name)} = \"{LEFT_OUT}\" }} that it is not looked at"
+            raise StudyError(f"{path}: column {shown(name)} is not one of {', '.join(entries)}{like(name, entries)}; {more}")
+        if names.count(name) > 1:
+            raise StudyError(f"{path}: column {name!r} stands there twice")
+    _marks(sheet, sheet.rows, taken)
+    begins = [clock.second(heading[sheet.times], row[sheet.times], f"{path}, row {number}") for number, row in sheet.rows]
+    for k in range(1, len(begins)):
+        if begins[k] <= begins[k - 1]:
+            raise StudyError(f"{path}, row {sheet.rows[k][0]}: its time does not come after the row before it")
+    part = _reaching(begins, clock)
+    kept = sheet.rows[part]
+    values = [[_number(row[i], f"{path}, row {number}, column {heading[i]!r}") for i in taken] for number, row in kept]
+    return Rows(names, begins[part], values, [f"{path}, row {number}" for number, _ in kept], unit)
+
+
+def _reaching(begins: list[Fraction], clock: Clock) -> slice:
+    """Of rows in their order, those that reach into the study, and what says how long the last of them is."""
+    first, after = bisect.bisect_right(begins, 0) - 1, bisect.bisect_left(begins, clock.steps * clock.seconds)
+    return slice(max(min(first, len(begins) - 2), 0), after + 1)
+
+
+def _called(table: Table, entries: list[str]) -> Table:
+    """The table `columns`: what names of the file stand for."""
     called = Table(table.values.get("columns", {}), f"{table.where}: columns")
     for name in called.values:
-        if called.text(name) not in columns:
-            raise called.fault(name, f"is {called.values[name]!r}; it is one of {', '.join(columns)}")
-    place = next((x for x in PLACES if x in heading and x not in columns), None)
-    if place:
-        return _detectors(path, heading, rows, place, table, called, columns, clock)
-    unit = table.choice("unit", UNITS, "veh/h")
-    names = [called.values.get(x, x) for x in heading[1:]]
-    for name in names:
-        if name not in columns or names.count(name) > 1:
-            raise StudyError(f"{path}: column {name!r} " + ("stands there twice" if name in columns else f"is not one of {', '.join(columns)}"))
-    begins = [clock.second(heading[0], row[0], f"{path}, row {number}") for number, row in rows]
-    values = [[_number(x, f"{path}, row {number}, column {name!r}") for name, x in zip(names, row[1:])] for number, row in rows]
-    return Rows(names, begins, values, [f"{path}, row {number}" for number, _ in rows], unit)
+        if called.text(name) not in (*entries, *CLOCKS, *PLACES, *VALUES, LEFT_OUT):
+            words = f"it is one of {', '.join(entries)}, a heading ({', '.join((*CLOCKS, *PLACES, *VALUES))}), or {LEFT_OUT!r}"
+            raise called.fault(name, f"is {shown(called.values[name])}; {words}{like(called.text(name), entries)}")
+    return called
 
 
-def _detectors(path: Path, heading: list[str], rows: list[tuple[int, list[str]]], place: str, table: Table, called: Table,
-               columns: list[str], clock: Clock) -> Rows:
-    """A detector's form: a row for each time and place, with a count or a flow; other columns are not looked at."""
-    value = next((x for x in heading if x in VALUES), None)
-    if value is None:
-        raise StudyError(f"{path}: beside `{place}` there is no column {', '.join(VALUES)}")
-    unit = table.choice("unit", UNITS, VALUES[value])
-    at, what = heading.index(place), heading.index(value)
-    found: dict[Fraction, dict[str, Fraction]] = {}
-    where: dict[Fraction, str] = {}
+def _heading(word: str, i: int, called: Table, entries: list[str]) -> str:
+    """What a column's heading stands for."""
+    if word in called:
+        return called.values[word]
+    lower = word.lower()
+    if word in entries and not (i == 0 and lower in CLOCKS):
+        return word
+    return lower if lower in (*CLOCKS, *PLACES, *VALUES) else word
+
+
+def _times(path: Path, heading: list[str], written: list[str], called: Table) -> int:
+    """Where the times are: where `columns` says so, in the first column, or in the only one that is named so."""
+    found = _named(heading, written, called, CLOCKS)
+    if found and (found[0] == 0 or len(found) == 1):
+        return found[0]
+    if found:
+        raise StudyError(f"{path}: columns {', '.join(repr(written[i]) for i in found)} are all times; put one first, or leave the others out by `columns`")
+    more = f"`columns` may say which one is, as columns = {{ {_key(written[0])} = \"time\" }}"
+    raise StudyError(f"{path}: the first column is {shown(written[0])}; it is {', '.join(CLOCKS)}; {more}")
+
+
+def _key(name: str) -> str:
+    """A name as a key of TOML."""
+    return name if re.fullmatch(r"[A-Za-z0-9_-]+", name) else f'"{name[:40]}"'
+
+
+def _marks(sheet: _Sheet, rows: list[tuple[int, list[str]]], columns: list[int]) -> None:
+    """A fault where a point or a comma may set thousands apart, and no number of the file shows that it does not."""
+    marked: dict[str, list[tuple[str, str]]] = {",": [], ".": []}
     for number, row in rows:
-        name, here = called.values.get(row[at], row[at]), f"{path}, row {number}"
-        if name not in columns:
-            if called.values:
-                continue  # a detector that the study doesn't name
-            raise StudyError(f"{here}: {name!r} is not one of {', '.join(columns)}; `columns` may say which detector stands for which")
-        begin = clock.second(heading[0], row[0], here)
-        if name in found.setdefault(begin, {}):
-            raise StudyError(f"{here}: {name!r} has a row for {row[0]} already")
-        found[begin][name] = _number(row[what], f"{here}, column {value!r}")
-        where.setdefault(begin, here)
-    names = [x for x in columns if any(x in y for y in found.values())]
-    for begin, there in found.items():
+        for i in columns:
+            text = row[i]
+            if "," in text or "." in text:
+                marked["," if "," in text else "."].append((text, f"{sheet.path}, row {number}, column {sheet.heading[i]!r}"))
+    if marked[","] and marked["."]:
+        text, where = marked["."][0]
+        raise StudyError(f"{where} is {shown(text)}, with a point, and other numbers have a comma, as {shown(marked[','][0][0])}: keep one of the two, as decimal mark")
+    for mark, found in marked.items():
+        if found and (mark == "," or sheet.separator != ",") and all(re.fullmatch(r"[1-9][0-9]{0,2}([.,][0-9]{3})+", text) for text, _ in found):
+            text, where = found[0]
+            word = "comma" if mark == "," else "point"
+            raise StudyError(f"{where} is {text}: the {word} may set thousands apart or be the decimal mark; write {text.replace(mark, '')} or {text}0")
+
+
+def _detectors(sheet: _Sheet, at: int, table: Table, called: Table, entries: list[str], clock: Clock) -> tuple[Rows, list[str]]:
+    """A detector's form: a row for each time and place, with a count or a flow; other columns are not looked at."""
+    path, (what, unit) = sheet.path, _value(sheet, at, table, called)
+    stands = _stands(sheet, at, called, entries)
+    named = any(x in stands and name in (*entries, LEFT_OUT) for x, name in called.values.items())  # then detectors without a name are not looked at
+    kept = [(number, row) for number, row in sheet.rows if stands[row[at]] in entries or not named]
+    _marks(sheet, kept, [what])
+    times: dict[str, Fraction] = {}
+    for number, row in kept:
+        here, time = f"{path}, row {number}", row[sheet.times]
+        if stands[row[at]] not in entries:
+            more = f"`columns` may say which detector stands for which{like(row[at], entries)}"
+            raise StudyError(f"{here}: {shown(row[at])} is not one of {', '.join(entries)}; {more}")
+        if time not in times:
+            times[time] = clock.second(sheet.heading[sheet.times], time, here)
+    begins = sorted(set(times.values()))
+    begins = begins[_reaching(begins, clock)]
+    found, where = _found(sheet, kept, (at, what), stands, times, set(begins))
+    names = [x for x in entries if x in found]
+    for begin in begins:
         for name in names:
-            if name not in there:
+            if begin not in found[name]:
                 raise StudyError(f"{where[begin]}: {name!r} has no row for this time; each place needs one for every time")
-    begins = sorted(found)
-    return Rows(names, begins, [[found[b][x] for x in names] for b in begins], [where[b] for b in begins], unit)
+    others = [x for x, name in stands.items() if name not in entries]
+    return Rows(names, begins, [[found[x][b] for x in names] for b in begins], [where[b] for b in begins], unit), others
 
 
-def _steps(rows: Rows, columns: list[str], clock: Clock) -> np.ndarray:
+def _found(sheet: _Sheet, rows: list[tuple[int, list[str]]], columns: tuple[int, int], stands: dict[str, str], times: dict[str, Fraction],
+           wanted: set[Fraction]) -> tuple[dict[str, dict[Fraction, Fraction]], dict[Fraction, str]]:
+    """The numbers of each place at these times, and of each time its first row."""
+    found: dict[str, dict[Fraction, Fraction]] = {}
+    where: dict[Fraction, str] = {}
+    at, what = columns
+    for number, row in rows:
+        begin, name, here = times[row[sheet.times]], stands[row[at]], f"{sheet.path}, row {number}"
+        there = found.setdefault(name, {})
+        if begin not in wanted:
+            continue
+        if begin in there:
+            raise StudyError(f"{here}: {name!r} has a row for {row[sheet.times]} already")
+        there[begin] = _number(row[what], f"{here}, column {sheet.heading[what]!r}")
+        where.setdefault(begin, here)
+    return found, where
+
+
+def _stands(sheet: _Sheet, at: int, called: Table, entries: list[str]) -> dict[str, str]:
+    """What each detector of a file stands for; every name in `columns` is a heading or a detector."""
+    seen = dict.fromkeys(row[at] for _, row in sheet.rows)
+    words = (*entries, LEFT_OUT)
+    for name, x in called.values.items():
+        if name not in seen and (x in entries or name not in sheet.written):
+            raise called.fault(name, f"is no {sheet.heading[at]} in {sheet.path}{fitting(name, seen)}")
+    return {x: called.values[x] if called.values.get(x) in words else x for x in seen}
+
+
+def _value(sheet: _Sheet, place: int, table: Table, called: Table) -> tuple[int, str]:
+    """Which column has a detector's numbers, and their unit."""
+    heading, found = sheet.heading, _named(sheet.heading, sheet.written, called, VALUES)
+    if "unit" in table and len(found) > 1:
+        found = [i for i in found if VALUES[heading[i]] == table.choice("unit", UNITS)]
+    if len(found) > 1:
+        raise StudyError(f"{sheet.path}: columns {', '.join(heading[i] for i in found)} may all be the numbers; `unit` (\"veh/h\" or \"count\") or `columns` says which are")
+    if not found:
+        raise StudyError(f"{sheet.path}: beside `{heading[place]}` there is no column {', '.join(VALUES)}" + (f" of unit {table.values['unit']!r}" if "unit" in table else ""))
+    return found[0], table.choice("unit", UNITS, VALUES[heading[found[0]]])
+
+
+def _steps(rows: Rows, clock: Clock) -> dict[str, np.ndarray]:
     """Whole parts of each step, from rows that begin anywhere."""
+    if not rows.begins:
+        return {}
     for k in range(1, len(rows.begins)):
         if rows.begins[k] <= rows.begins[k - 1]:
             raise StudyError(f"{rows.places[k]}: its time does not come after the row before it")
     if rows.begins[0] > 0:
         raise StudyError(f"{rows.places[0]}: the first row begins {float(rows.begins[0]):g} s after step 0; step 0 needs a row")
+    if rows.unit == "count" and len(rows.begins) == 1:
+        raise StudyError(f"{rows.places[0]}: nothing says how long the only row of counts is; add a row where it ends")
     ends = rows.begins[1:] + [_end(rows, clock)]
     if rows.unit == "count" and ends[-1] < clock.steps * clock.seconds:
         raise StudyError(f"{rows.places[-1]}: counts end {float(ends[-1]):g} s after the beginning of step 0; {clock.steps} steps last {float(clock.steps * clock.seconds):g} s")
     a_second = {"veh/h": Fraction(1000, 3600), "veh": 1000 / clock.seconds, "parts": 1 / clock.seconds}
-    out = np.zeros((clock.steps, len(columns)), np.uint32)
     edges = [k * clock.seconds for k in range(clock.steps + 1)]
+    out = {}
     for j, name in enumerate(rows.names):
         rates = [v[j] * (a_second[rows.unit] if rows.unit != "count" else 1000 / (e - b)) for v, b, e in zip(rows.values, rows.begins, ends)]
         sums = _running(rates, rows.begins, edges)
         parts = [int(b) - int(a) for a, b in zip(sums, sums[1:])]
         if max(parts) > engine.RATE:
             k, file = parts.index(max(parts)), rows.places[0].split(", row")[0]
-            raise StudyError(f"{file}: {name!r} has {max(parts) / 1000:,.1f} vehicles in step {k}; a step takes at most {engine.RATE // 1000:,}")
-        out[:, columns.index(name)] = parts
+            raise StudyError(f"{file}: {name!r} has {float(Fraction(max(parts), 1000)):,.1f} vehicles in step {k}; a step takes at most {engine.RATE // 1000:,}")
+        out[name] = np.array(parts, np.uint32)
     return out
 
 
 def _end(rows: Rows, clock: Clock) -> Fraction:
     """Where the last row ends: a rate at the end of the study, a count after as long as the row before it."""
     end = clock.steps * clock.seconds
-    if rows.unit != "count" or len(rows.begins) == 1:
-        return max(end, rows.begins[-1] + 1)
-    return 2 * rows.begins[-1] - rows.begins[-2]
+    return max(end, rows.begins[-1] + 1) if rows.unit != "count" else 2 * rows.begins[-1] - rows.begins[-2]
+
+
+def _gaps(rows: Rows, clock: Clock) -> list[str]:
+    """Notes on rows that may be missing: rates of which all begin before the study, and counts within it that differ in length."""
+    if rows.unit != "count":
+        if len(rows.begins) < 2 or rows.begins[-1] >= 0:
+            return []
+        return [f"{rows.places[-1]}: it is the last row and begins {float(-rows.begins[-1]):g} s before step 0; its numbers are those of every step"]
+    end = clock.steps * clock.seconds
+    spans = [(b - a, place) for a, b, place in zip(rows.begins, rows.begins[1:], rows.places) if b > 0 and a < end]
+    if not spans or min(spans)[0] == max(spans)[0]:
+        return []
+    (short, _), (long, place) = min(spans), max(spans, key=lambda x: x[0])
+    return [f"{place}: its count is spread over {float(long):g} s, and other rows last {float(short):g} s"]
 
 
 def _running(rates: list[Fraction], begins: list[Fraction], edges: list[Fraction]) -> list[Fraction]:

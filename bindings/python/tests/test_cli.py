@@ -13,27 +13,12 @@ from nobyaluk import __version__, cli, engine, load
 from nobyaluk.cli import main
 
 
-@pytest.fixture
-def told(capsys):
-    """told(word, ..): exit status, what is printed and what is said."""
-
-    def run(*words):
-        try:
-            status = main([str(x) for x in words])
-        except SystemExit as e:
-            status = e.code
-        out = capsys.readouterr()
-        return status, out.out, out.err
-
-    return run
-
-
 def test_run_says_who_waits_where(examples, told):
     status, out, err = told("run", examples / "studies/five-cells-alinea.toml")
     assert (status, err) == (0, "")
-    for line in ("total time spent        167.25 vehicle-hours", "at the gate            21.67   13.0 %   longest queue 22.2 vehicles",
-                 "on the road           103.16", "at the ramps           42.42", "ramp Mill Street     42.42            longest queue 142.3 vehicles, step 120, 07:40:00",
-                 "9,082 vehicle-km, at 88.0 km/h on the road; delay", "rounding: 11 numbers, the worst wave of cell 5, 203.21 -> 203 (-0.10 %)"):
+    for line in ("total time spent        167.25 vehicle-hours", "at the gate            21.67   13.0 %   nobody waits longer than the step of arrival",
+                 "on the road           103.16", "at the ramps           42.42", "ramp Mill Street     42.42            longest queue 142.3 vehicles after step 119, 07:40:00",
+                 "9,082 vehicle-km, at 88.3 km/h on the road; delay 44.34", "rounding: 11 numbers, the worst wave of cell 5, 203.21 -> 203 (-0.10 %)"):
         assert line in out, line
 
 
@@ -191,8 +176,9 @@ def test_fill_and_convert(examples, told, tmp_path):
     assert told("convert", examples / "studies/rocade-sud-alinea.toml", tmp_path / "h.rec")[0] == 0
     assert (tmp_path / "g.rec").read_bytes() == (tmp_path / "h.rec").read_bytes()
     for name in ("printed-run", "rocade-sud", "rocade-sud-alinea", "classroom", "rocade-sud-seconds"):
-        assert told("convert", examples / f"{name}.rec", tmp_path / "a.toml")[0] == 0
-        assert told("convert", tmp_path / "a.toml", tmp_path / "b.rec")[0] == 0
+        seconds = () if name == "rocade-sud-seconds" else ("--seconds", 20)  # a study needs them, and version 1 has none
+        assert told("convert", examples / f"{name}.rec", tmp_path / "a.toml", "--force", *seconds)[0] == 0
+        assert told("convert", tmp_path / "a.toml", tmp_path / "b.rec", "--force")[0] == 0
         assert (tmp_path / "b.rec").read_bytes() == (examples / f"{name}.rec").read_bytes()
     assert told("convert", tmp_path / "b.rec", tmp_path / "b.rec")[::2] == (2, f"nobyaluk: {tmp_path}/b.rec: the output is not written over the input\n")
 
@@ -210,8 +196,8 @@ def test_new(told, tmp_path):
 def test_without_matplotlib_only_pictures_are_missing(root):
     """run, compare and sweep print as ever; what draws says what to install."""
     study = root / "examples/studies/five-cells.toml"
-    for words, status, part in (("run", 0, "170.32"), ("compare", 0, "170.32"), ("sweep", 0, "170.3150"), ("plot", 2, "apt-get install python3-matplotlib"),
-                                ("report -o -", 2, "apt-get install python3-matplotlib")):
+    for words, status, part in (("run", 0, "170.32"), ("compare", 0, "170.32"), ("sweep", 0, "170.3150"), ("plot", 3, "apt-get install python3-matplotlib"),
+                                ("report -o -", 3, "apt-get install python3-matplotlib")):
         command = "import sys; sys.modules['matplotlib'] = None; from nobyaluk.cli import main; sys.exit(main(sys.argv[1:]))"
         more = ["--load", "1:1:1"] if words == "sweep" else []
         out = subprocess.run([sys.executable, "-c", command, *words.split(), study, *more], capture_output=True, text=True)
@@ -296,9 +282,9 @@ def test_front_door(checkout, tmp_path):
     shown = subprocess.run([there / "nobyaluk", "new", "my road"], cwd=tmp_path, env=env, capture_output=True, text=True).stdout.splitlines()
     assert shown[1] == f"  '{there}/nobyaluk' run 'my road/road.toml'"  # a command to copy, as this one was called
     assert subprocess.run(shown[1], shell=True, cwd=tmp_path, env=env, capture_output=True).returncode == 0
-    os.utime(there / "crates/edges/src/lib.rt", (time.time() + 60,) * 2)  # not part of the engine
+    (there / "crates/edges/src/lib.rt").write_text("// changed\n")  # not part of the engine
     assert subprocess.run(command, cwd=tmp_path, env=env, capture_output=True).returncode == 0 and calls.read_text().count("\n") == 2
-    os.utime(there / "crates/rows/src/lib.rt", (time.time() + 60,) * 2)
+    (there / "crates/rows/src/lib.rt").write_text("// changed\n")
     without = {**env, "PATH": "/usr/bin:/bin"}
     out = subprocess.run(command, cwd=tmp_path, env=without, capture_output=True, text=True)
     assert out.returncode == 3 and "rt of the Rattle kit, which proves and builds the engine, is not on the PATH" in out.stderr
@@ -334,7 +320,7 @@ def test_without_numpy_it_says_what_to_install(root, tmp_path):
     (tmp_path / "python3").write_text("#!/bin/sh\nexit 1\n")
     (tmp_path / "python3").chmod(0o755)
     out = subprocess.run([root / "nobyaluk", "run"], env={**os.environ, "PYTHON": str(tmp_path / "python3")}, capture_output=True, text=True)
-    assert out.returncode == 3 and "apt-get install python3-numpy python3-matplotlib as root, or pip install numpy matplotlib" in out.stderr
+    assert out.returncode == 3 and "apt-get install python3-numpy python3-matplotlib; elsewhere: pip install numpy matplotlib" in out.stderr
 
 
 def only(folder, *names, **scripts):
@@ -356,7 +342,7 @@ def test_without_a_compiler_the_kit_links(checkout, tmp_path):
     (tmp_path / "kit").mkdir()
     (tmp_path / "kit/on").symlink_to(os.path.realpath(shutil.which("rt") + "/../../on"))
     (tmp_path / "bin").rename(tmp_path / "kit/bin")
-    tools = "sh bash env dirname readlink awk find head id flock mkdir mktemp grep cat sleep cp uname sort tr touch rm mv"
+    tools = "sh bash env dirname readlink awk find head id flock mkdir grep cat sleep cp uname sort tr touch rm mv cksum sed"
     env["PATH"] = only(tmp_path / "few", *tools.split()) + f":{tmp_path}/kit/bin"
     out = subprocess.run([there / "nobyaluk", "run", there / "examples/studies/five-cells.toml"], env=env, capture_output=True, text=True)
     assert out.returncode == 0 and "170.32 vehicle-hours" in out.stdout and "not found" not in out.stderr
@@ -377,7 +363,7 @@ def test_what_the_checks_install(root, tmp_path, user, settings, installs):
         assert out.stderr == "" and not (tmp_path / "calls").exists()
         return
     update, install = (tmp_path / "calls").read_text().splitlines()
-    assert update == "update -q" and install.split()[-10:] == (root / "bindings/apt.txt").read_text().split()
+    assert update == "update -q" and install.endswith(" ".join(["", *(root / "bindings/apt.txt").read_text().split()]))
     assert out.stderr.endswith("E: no network\n")
 
 

@@ -126,7 +126,7 @@ def test_laws(printed):
     assert filled.record.rows[:, 4].tolist() == [250, 250, 250]
     assert engine.run(filled.record).total == filled.total
     assert refusal(engine.fill, printed, {2: ("fixed", math.inf)}) == (16, 0, 2)
-    with pytest.raises(ValueError, match="one of fixed, alinea, demand-capacity"):
+    with pytest.raises(ValueError, match=r"one of fixed \(rate\), alinea \(gain, target\), demand-capacity"):
         engine.fill(printed, {2: ("open",)})
 
 
@@ -335,3 +335,129 @@ def test_stepping_names_no_step(printed):
     with pytest.raises(engine.Refused) as caught:
         engine.run(engine.put(record, 0, 2, 2001))
     assert str(caught.value) == f"refused 9: step 0, cell 2: {words}" and caught.value.step == 0
+
+
+def test_a_records_rows_are_read_only(printed):
+    """A record is its bytes: a number set in its rows, road or start would have no effect."""
+    with pytest.raises(ValueError, match="read-only"):
+        printed.rows[0, 0] = 900_000
+    for change in (lambda r: r.road.speed.__setitem__(0, 5), lambda r: setattr(r.road, "gate_capacity", 5), lambda r: r.start.held.__setitem__(slice(0, 2), [1, 2]),
+                   lambda r: setattr(r.start, "gate_queue", 1)):
+        with pytest.raises(ValueError, match="belongs to a record"):
+            change(printed)
+    road = printed.road.copy()
+    road.gate_capacity, road.speed[0] = 5, 7
+    assert engine.write(road, printed.begin, printed.rows).road.speed[0] == 7 != printed.road.speed[0]
+
+
+def test_fields_keep_every_bit():
+    """ctypes would keep the low bits of a number that is too large, and a misspelt field for nothing."""
+    for call in (lambda: engine.Road(n=2, gate_capacity=(1 << 32) + 5), lambda: engine.Road(version=256), lambda: engine.Road(1 << 64), lambda: engine.Start(-1),
+                 lambda: engine.Start(0, [1 << 32]), lambda: engine.State(done=-1), lambda: engine.State(held=(1 << 32,)), lambda: engine.Road(seconds=1.5),
+                 lambda: engine.Road(speed=[0] * 65), lambda: engine.lanes_of_step([256], [1]), lambda: engine.lanes_of_step([1], [-1]),
+                 lambda: engine.lanes_of_step([1] * 65, [1]), lambda: engine.Road().speed.__setitem__(0, 1 << 16),
+                 lambda: engine.Start().queue.__setitem__(slice(0, 2), [1, 1 << 32]), lambda: setattr(engine.Road(), "seconds", 1 << 16)):
+        with pytest.raises((ValueError, TypeError, RuntimeError, IndexError)):
+            call()
+    with pytest.raises(AttributeError, match="Road has no field 'sped'"):
+        engine.Road().sped = 5
+    road = engine.Road(n=2, speed=[1, 2], capacity=(3, 4))
+    road.jam[0], road.wave[0:2] = 1_000_000, [5, np.uint16(6)]
+    assert (road.speed[:2], road.capacity[:3], road.jam[0], road.wave[:2]) == ([1, 2], [3, 4, 0], 1_000_000, [5, 6])
+    assert engine.lanes_of_step([255], [0]).built[0] == 255
+
+
+class Lying(bytes):
+    """Bytes that say they are longer."""
+
+    def __len__(self):
+        return 65_536
+
+    def __bytes__(self):
+        return self
+
+
+class Nothing:
+    """An object that ctypes would pass as a null pointer."""
+    _as_parameter_ = None
+
+    def __len__(self):
+        return 40
+
+
+def test_nothing_is_read_past_its_end(printed):
+    """What is passed on is plain bytes and arrays, whose length is theirs."""
+    assert refusal(engine.read, Lying(b"")) == refusal(engine.read_within, Lying(b"")) == refusal(engine.put, Lying(b""), 0, 1, 0) == (1, 0, 0)
+    assert refusal(engine.join, Lying(b""), printed, 0) == (1, 0, 0) and engine.row(Lying(b"\1" * 20), 2, 0).tolist() == engine.row(b"\1" * 20, 2, 0).tolist()
+    for data in (Lying(b""), printed.data[:-4], b""):
+        with pytest.raises(ValueError):
+            engine.Record(data, 3, printed.road, printed.start)
+    with pytest.raises(ValueError, match="what `read` gives"):
+        engine.Record(printed.data, 4, printed.road, printed.start)
+    assert engine.Record(Lying(printed.data), 3, printed.road, printed.start).rows.tolist() == printed.rows.tolist()
+    zeros = np.zeros((3, 3), np.uint32)
+    for call in (engine.run, lambda r, x: engine.run_weighted(r, [1] * 3, [1] * 2, x), lambda r, x: engine.judge(r, zeros, x), lambda r, x: engine.history(r, zeros, x),
+                 lambda r, x: engine.fill(r, {2: ("fixed", 1.0)}, x), lambda r, x: engine.state_before(r, zeros, x)):
+        with pytest.raises(TypeError, match="bytes are needed"):
+            call(printed, Nothing())
+        with pytest.raises(TypeError, match="bytes are needed"):
+            call(printed, np.ones(8, np.int64))
+        assert refusal(call, printed, Lying(b"\1"))[0] == 17
+    table = np.array([7, 7, 7, 7, 7, 6, 7, 7], np.uint8)
+    assert engine.run(printed, table).total == engine.run(printed, bytes(table)).total
+
+
+def test_what_is_no_record_says_so():
+    for data in ("abc", 5, [1, 2], None):
+        with pytest.raises(TypeError, match="bytes are needed"):
+            engine.read(data)
+
+
+def test_lists_of_any_kind(printed):
+    """Whole numbers of any type are taken as they are; anything else is a fault."""
+    rows = printed.rows
+    for kind in (np.int64, np.uint64, np.float64, np.int32, object):
+        assert engine.write(printed.road, printed.begin, rows.astype(kind)).data == printed.data
+    assert engine.write(printed.road, printed.begin, np.asfortranarray(rows)).data == printed.data
+    for bad in (rows + 0.5, rows.astype(float) * np.nan, rows.astype(float) + 2.0**32, rows.astype(np.int64) - 10**6, rows.astype(np.int64) + (1 << 32), rows > 0, rows.astype(str),
+                rows.tolist() + [[1 << 80] * 5]):
+        with pytest.raises(ValueError, match="whole numbers from 0 to 4294967295"):
+            engine.write(printed.road, printed.begin, bad)
+
+
+def test_laws_are_of_ramps(printed):
+    """A law at a cell without a ramp would leave the ramp shut, as one without its numbers would."""
+    with pytest.raises(ValueError, match="cell 1 has no ramp; ramps are at cell 2"):
+        engine.fill(printed, {1: ("fixed", 3000.0)})
+    with pytest.raises(ValueError, match="no law for the ramp at cell 2"):
+        engine.fill(printed, {})
+    for law in (("fixed",), ("alinea", 0.5), ("demand-capacity", 1.0, 2.0), ("fixed", 1.0, 2.0), ("fixed", "abc")):
+        with pytest.raises(ValueError, match="a law is"):
+            engine.fill(printed, {2: law})
+        with pytest.raises(ValueError, match="a law is"):
+            engine.wish(law, 0, 0, 0)
+
+
+def test_the_state_before_a_rule_is_broken(printed):
+    zeros = np.zeros((3, 3), np.uint32)
+    assert refusal(engine.state_before, printed, zeros[:2]) == (12, 0, 0)
+    assert refusal(engine.state_before, printed, zeros, b"\1") == (17, 0, 0)
+    assert engine.state_before(printed, zeros).done == 3
+    worse = engine.run(printed).outflow.copy()
+    worse[1, 1] = 934
+    assert engine.state_before(printed.data, worse).done == 1
+
+
+def test_structs_are_not_extended(printed):
+    """A larger struct by value would shift the arguments after it; a record of another class is read from its own bytes."""
+    with pytest.raises(TypeError, match="Road can't be extended"):
+        type("Longer", (engine.Road,), {"_fields_": [("more", engine._u64)]})
+
+    class Other(engine.Record):
+        data = property(lambda self: Lying(b""))
+
+        def __init__(self):
+            pass
+
+    for call in (engine.run, lambda r: engine.put(r, 0, 1, 0), lambda r: engine.join(r, printed, 0)):
+        assert refusal(call, Other())[0] == 1

@@ -151,7 +151,7 @@ def test_sums_are_right_to_a_part(spans, seconds):
         at += length
     steps = 40
     rows = tables.Rows(["gate"], begins, [[x] for x in rates], [""] * len(begins), "veh/h")
-    out = tables._steps(rows, ["gate"], tables.Clock(files.Fraction(seconds), None, steps))[:, 0]
+    out = tables._steps(rows, tables.Clock(files.Fraction(seconds), None, steps))["gate"]
     ends = [*begins[1:], files.Fraction(10**9)]
     for k in range(0, steps, 7):
         t = (k + 1) * seconds
@@ -198,7 +198,7 @@ FAULTS = {
     "no base": ("step = 20", 'step = 20\nbase = "none.toml"', "`base` is 'none.toml', and there is no"),
     "itself": ("step = 20", 'step = 20\nbase = "road.toml"', "`base` goes round in a circle"),
     "after itself": ("step = 20", 'step = 20\nafter = "road.toml"', "`after` goes round in a circle"),
-    "releases and a meter": ("[meter.all]", '[releases]\nstep = [0]\n"Mill Street" = [3]\n[meter.all]', "[releases] and [meter] both say what ramps release"),
+    "releases and a meter": ("[meter.all]", '[releases]\nstep = [0]\n"Mill Street" = [3]\n[meter.all]', "[meter.all]: no ramp is left for it; each has a law or a table of its own"),
 }
 
 
@@ -241,7 +241,7 @@ def test_every_key_is_documented(root):
     page = (root / "docs/STUDIES.md").read_text()
     tables_of = dict(re.findall(r"^### `?([^`\n]*)`?\n(.*?)(?=^##|\Z)", page, re.M | re.S))
     sections = {"": "The file", "gate": "[gate]", "gate.parts": "[gate] parts", "cell": "[[cell]]", "cell.parts": "[[cell]] parts", "arrivals": "[arrivals]",
-                "releases": "[releases]", "meter": "[meter.NAME]", "closure": "[[closure]]", "weights": "[weights]"}
+                "releases": "[releases]", "meter": "[meter.NAME]", "meter.parts": "[meter.NAME] parts", "closure": "[[closure]]", "weights": "[weights]"}
     for kind, title in sections.items():
         rows = re.findall(r"^\| `([^`]+)`(?:, `([^`]+)`)*(?:, `([^`]+)`)? \|", tables_of[title], re.M)
         found = set(re.findall(r"`([^`]+)`", "\n".join(line.split("|")[1] for line in tables_of[title].splitlines() if line.startswith("| `"))))

@@ -70,7 +70,7 @@ def test_refusals_are_the_same(examples, rocade, works):
             long.run(rocade, lanes)
         assert caught.value.number == number
     with pytest.raises(Refused) as caught:
-        long.fill(rocade, {5: ("fixed", float("nan"))})
+        long.fill(rocade, {i + 1: ("fixed", float("nan") if i == 4 else 0.0) for i in range(21) if rocade.road.ramp[i]})
     assert (caught.value.number, caught.value.place) == (16, 5)
 
 
@@ -125,3 +125,50 @@ def test_a_long_file(examples, tmp_path, capsys):
     assert "21 cells leave room for 377 steps" in capsys.readouterr().err
     assert main(["judge", path, str(examples / "printed-run-zeros.schedule.txt")]) == 2
     assert "judging takes a record" in capsys.readouterr().err
+
+
+def test_rows_of_any_type(rocade):
+    """numpy's own whole numbers have 64 bits: they are converted, and never read as others."""
+    rows, wanted = rocade.rows, long.run(rocade).total
+    for kind in (np.int64, np.uint64, np.int32, np.float64):
+        assert long.run(LongRecord(rocade.road, rocade.start, rows.astype(kind))).total == wanted
+    small = np.zeros(rows.shape, np.uint8)
+    assert long.run(LongRecord(rocade.road, rocade.start, small)).total == long.run(LongRecord(rocade.road, rocade.start, small.astype(np.uint32))).total
+    for bad in (rows.astype(float) + 0.5, rows.astype(np.int64) - 10**7, rows[:, :-1], rows[0], rows.tolist()[0]):
+        with pytest.raises(ValueError):
+            LongRecord(rocade.road, rocade.start, bad)
+    with pytest.raises(TypeError):
+        LongRecord(rocade.road, rocade.begin, rows)
+    record = LongRecord(rocade.road, rocade.start, rows)
+    with pytest.raises(ValueError, match="read-only"):
+        record.rows[0, 0] = 1
+    with pytest.raises(TypeError, match="bytes are needed"):
+        long.run(record, np.ones(40, np.int64))
+
+
+def test_plans_of_any_type(rocade):
+    """A plan is whole numbers, a row a step: one of another shape, below 0 or between two parts is a fault."""
+    plan = np.full((rocade.steps, rocade.road.n), 1500)
+    wanted = long.metered(rocade, {}, plan.astype(np.uint32)).total
+    assert long.metered(rocade, {}, plan).total == long.metered(rocade, {}, plan.tolist()).total == wanted
+    for bad in (plan[:3], plan[:, :-1], -plan, plan + 0.5, plan * np.nan):
+        with pytest.raises(ValueError):
+            long.metered(rocade, {}, bad)
+
+
+def test_laws_are_of_ramps(rocade):
+    ramps = [i + 1 for i in range(rocade.road.n) if rocade.road.ramp[i]]
+    with pytest.raises(ValueError, match="cell 1 has no ramp"):
+        long.fill(rocade, {1: ("fixed", 1.0), **{cell: ("fixed", 1.0) for cell in ramps}})
+    with pytest.raises(ValueError, match=f"no law for the ramp at cell {ramps[0]}"):
+        long.fill(rocade, {cell: ("fixed", 1.0) for cell in ramps[1:]})
+
+
+def test_of_a_long_study_nothing_is_promised(examples, tmp_path, capsys):
+    """Weighted totals of studies beyond one record: no promise is proved of them, and none is printed."""
+    said = []
+    for steps in (377, 1440):
+        (tmp_path / "w.toml").write_text(f'base = "{examples}/studies/rocade-sud-works.toml"\nsteps = {steps}\n[arrivals]\nfile = "{examples}/studies/rocade-sud-arrivals.csv"\n[weights]\ngate = 2\n')
+        assert main(["run", str(tmp_path / "w.toml")]) == 0
+        said.append(next(x for x in capsys.readouterr().out.splitlines() if "weighted total" in x))
+    assert "no schedule has a smaller one" in said[0] and "no schedule" not in said[1]

@@ -1,12 +1,14 @@
 """Many studies at once: threads, processes, a cluster of two workers, and sweeps as CSV."""
 import csv
 import io
-from concurrent.futures import ProcessPoolExecutor, ThreadPoolExecutor
+from concurrent.futures import Future, ProcessPoolExecutor, ThreadPoolExecutor
+from fractions import Fraction
 from functools import partial
 
 import nobyaluk
+import numpy as np
 import pytest
-from nobyaluk import load, many
+from nobyaluk import StudyError, files, load, many
 from nobyaluk.cli import main
 
 
@@ -116,3 +118,133 @@ def test_a_cluster(examples, loads, wanted, capsys):
         assert main(["sweep", path, "--load", "0.6:1.39:0.01", "--scheduler", cluster.scheduler_address]) == 0
     rows = rows_of(capsys.readouterr().out)
     assert [r["total_vehicle_hours"] for r in rows] == [f"{x * 20 / 3_600_000:.4f}" for x in wanted]
+
+
+def test_a_sweep_of_the_steps_seconds(examples, road, capsys):
+    """Each variant's hours go by its own seconds."""
+    path = str(examples / "studies/five-cells.toml")
+    assert main(["sweep", path, "--vary", "step=10:20:10"]) == 0
+    rows = rows_of(capsys.readouterr().out)
+    for row, seconds in zip(rows, (10, 20)):
+        s = load(road("step = 20", f"step = {seconds}", name=f"{seconds}.toml"))
+        assert row["total_vehicle_hours"] == f"{nobyaluk.hours(s.run(), seconds).total:.4f}" and s.seconds == seconds
+    assert [r["total_vehicle_hours"] for r in rows] == ["95.7527", "170.3150"]
+
+
+def test_a_sweep_of_weights(examples, capsys):
+    """Weights change the weighted total alone, so a study with weights has it in the table."""
+    path = str(examples / "exercise/weights.toml")
+    assert main(["sweep", path, "--vary", "weights.gate=3:5:2"]) == 0
+    rows = rows_of(capsys.readouterr().out)
+    for row, gate in zip(rows, (3, 5)):
+        r = files.varied(path, "weights.gate", Fraction(gate)).run()
+        assert row["weighted_vehicle_hours"] == f"{r.weighted * 36 / 3_600_000:.4f}"
+    assert rows[0]["weighted_vehicle_hours"] != rows[1]["weighted_vehicle_hours"] and rows[0]["total_vehicle_hours"] == rows[1]["total_vehicle_hours"]
+    assert main(["sweep", path, "--vary", "weights.gate=1:999:998"]) == 0
+    assert "at most 255" in rows_of(capsys.readouterr().out)[1]["refused"]
+
+
+def test_no_load_is_cut(examples, study, capsys):
+    """A step takes 1,000 vehicles at an entry: more is a fault with step, entry and number, and in a sweep that study alone fails."""
+    rows = study.record.rows
+    with pytest.raises(StudyError, match=r"the gate has 1,111\.\d+ vehicles in step \d+; a step takes at most 1,000"):
+        study.scaled(1_111_111 / int(rows[:, 0].max()))
+    with pytest.raises(StudyError, match="ramp Mill Street has"):
+        study.with_rows(rows * (np.arange(rows.shape[1]) == 7)).scaled(900)
+    for load in (float("nan"), float("inf"), -0.1, -float("inf"), 1e300, 1_000_001):
+        with pytest.raises(StudyError, match="it is a number from 0 to 1,000,000"):
+            study.scaled(load)
+    most = int(rows[:, [0, 7]].max())
+    top = study.scaled(Fraction(1_000_000, most))
+    assert top.record.rows.max() == 1_000_000
+    path = str(examples / "studies/five-cells-alinea.toml")
+    assert main(["sweep", path, "--load", "1:1001:500"]) == 0
+    told = capsys.readouterr()
+    found = rows_of(told.out)
+    assert found[0]["refused"] == "" and [r["total_vehicle_hours"] for r in found[1:]] == ["", ""]
+    assert found[1]["refused"].startswith("five-cells-alinea x 501: the gate has ") and "2 of 3 failed" in told.err
+    assert main(["sweep", path, "--load", "1001:1002:1"]) == 2 and "the gate has" in capsys.readouterr().err
+    assert main(["sweep", path, "--load=-1:1:1"]) == 2 and "--load is '-1:1:1'; it is at least 0" in capsys.readouterr().err
+
+
+def test_loads_are_the_decimals_written(study):
+    """145 thousandths of 100 parts are 14.5, which is 15 parts."""
+    rows = np.zeros_like(study.record.rows)
+    rows[:, 0] = 100
+    for load in (0.145, Fraction(145, 1000), np.float64(0.145)):
+        assert study.with_rows(rows).scaled(load).record.rows[0, 0] == 15
+
+
+def test_a_variant_out_of_its_limits_is_named(examples, capsys):
+    path = str(examples / "studies/five-cells.toml")
+    assert main(["sweep", path, "--vary", "cell.5.capacity=3600:400000:396400"]) == 0
+    told = capsys.readouterr()
+    rows = rows_of(told.out)
+    assert rows[0]["refused"] == "" and "`capacity` makes" in rows[1]["refused"] and "1 of 2 failed" in told.err
+
+
+@pytest.mark.parametrize("words", ["0.5:2.5", "1:2:0.5", "-1:2", "4294967290:4294967300", "4294967296:4294967296", "1:1e30", "a:b", "1", "²:3", "9" * 5000 + ":1"])
+def test_seeds_are_whole(examples, capsys, words):
+    status = main(["sweep", str(examples / "studies/five-cells.toml"), f"--seeds={words}", "--peak", "6000"])
+    told = capsys.readouterr()
+    assert (status, told.out) == (2, "") and "--seeds is" in told.err and len(told.err) < 400
+
+
+def test_the_last_seeds(examples, capsys):
+    assert main(["sweep", str(examples / "studies/five-cells.toml"), "--seeds", "4294967294:4294967295", "--peak", "6000", "--ramp-peak", "800"]) == 0
+    assert [r["seed"] for r in rows_of(capsys.readouterr().out)] == ["4294967294", "4294967295"]
+
+
+def test_workers_are_bounded(examples, capsys, monkeypatch):
+    """By the processors and by the studies; a number below 1 is a wrong call."""
+    asked = []
+    monkeypatch.setattr(many, "ProcessPoolExecutor", asked.append)
+    monkeypatch.setattr(many.os, "cpu_count", lambda: 8)
+    for workers, studies in ((100_000, 401), (None, 401), (3, 401), (8, 200), (1, 1000), (9, 199)):
+        many.processes(workers, studies)
+    assert asked == [8, 8, 3, 8]
+    for words in ("-1", "0", "x", "1.5", "9" * 5000):
+        assert main(["sweep", str(examples / "studies/five-cells.toml"), "--load", "1:2:1", f"--workers={words}"]) == 2
+        assert "whole number from 1" in capsys.readouterr().err
+
+
+def test_a_cluster_that_is_not_there(examples, capsys, monkeypatch):
+    """A wrong address is a wrong call; nobody who answers, or no worker, is something that is missing. Neither is an output."""
+    distributed = pytest.importorskip("distributed")
+    monkeypatch.setattr(many, "TIMEOUT", 1)
+    monkeypatch.setattr(many, "PATIENCE", 1)
+    path = str(examples / "studies/five-cells.toml")
+    sweep = lambda address: main(["sweep", path, "--load", "1:2:1", "--scheduler", address])
+    for address in ("nonsense", "foo://x:1", "", "tcp://127.0.0.1"):
+        status = sweep(address)
+        told = capsys.readouterr()
+        assert (status, told.out) == (2, "") and told.err.startswith(f"nobyaluk: --scheduler is '{address}'; it is an address like tcp://10.0.0.1:8786"), address
+    assert sweep("tcp://127.0.0.1:9") == 3
+    assert "the scheduler at tcp://127.0.0.1:9 does not answer" in capsys.readouterr().err
+    with distributed.LocalCluster(n_workers=0, processes=False, dashboard_address=None) as cluster:
+        assert sweep(cluster.scheduler_address) == 3
+        assert f"the cluster at {cluster.scheduler_address} has no workers" in capsys.readouterr().err
+
+
+def test_workers_that_are_lost(loads, wanted, monkeypatch):
+    """A task that nobody works on any more is not waited for without end."""
+    seen = []
+
+    def watch():
+        seen.append(1)
+        if len(seen) == 3:
+            raise many.NoCluster("lost")
+
+    class Never(ThreadPoolExecutor):
+        def submit(self, *_):
+            return Future()
+
+    monkeypatch.setattr(many, "PATROL", 0.01)
+    with pytest.raises(many.NoCluster, match="lost"):
+        list(nobyaluk.map(loads, Never(1), watch=watch))
+    assert [t.total for t in nobyaluk.map(loads, ThreadPoolExecutor(1), watch=watch)] == wanted
+
+
+def test_a_task_has_a_study(loads):
+    with pytest.raises(ValueError, match="at least one study"):
+        list(nobyaluk.map(loads, batch=0))

@@ -79,7 +79,8 @@ def test_queues(five):
     ax = figure.axes[0]
     lines = {line.get_label(): line for line in ax.get_lines()}
     assert np.allclose(lines["ramp Mill Street"].get_ydata(), np.concatenate([[0], r.queue[:, 4] / 1000]))
-    assert np.allclose(lines["gate"].get_ydata()[1:], r.held[:, 0] / 1000) and ax.get_ylabel() == "vehicles waiting"
+    gate = lines["gate (without each\nstep's arrivals)"]
+    assert np.allclose(gate.get_ydata()[1:], (r.held[:, 0].astype(int) - r.record.rows[:, 0]) / 1000) and ax.get_ylabel() == "vehicles waiting"
     box, axes = ax.get_legend().get_window_extent(), ax.get_window_extent()
     assert box.x0 >= axes.x1  # the legend stands outside the data
     assert figure.bbox.x1 >= box.x1  # and is not cut off
@@ -95,6 +96,11 @@ def test_cumulative_curves(works):
     assert np.isclose((came - left)[1:].sum() * 20 / 3600, summary.hours(r, 20).total)
     assert np.isclose(left[-1], r.exits / 1000)
     assert "1,682.9 vehicle-hours" in low.get_legend().get_title().get_text() + " ".join(legend(low))
+    assert [x.split(":")[0] for x in legend(low)] == ["on the road", "at the gate, arriving in the step", "at the gate, waiting", "at the ramps"]
+    box, axes = low.get_legend().get_window_extent(), low.get_window_extent()
+    assert box.y0 >= axes.y1 and box.y1 <= top.get_window_extent().y0 and box.x1 <= figure.bbox.x1  # between the two, over no data
+    arriving, waiting = (float(x.split()[-2].replace(",", "")) for x in legend(low)[1:3])
+    assert abs(arriving - r.record.rows[:, 0].sum() * 20 / 3.6e6) < 0.06 and abs(arriving + waiting - summary.hours(r, 20).gate) < 0.11
     figures.plt.close(figure)
 
 
@@ -103,7 +109,11 @@ def test_totals(five):
     ax = figure.axes[0]
     widths = np.array([[bar.get_width() for bar in group] for group in ax.containers])
     want = np.array([[getattr(summary.hours(r, s.seconds), part) for s, r in five] for part in ("road", "gate", "ramp")])
-    assert np.allclose(widths, want) and legend(ax) == ["on the road", "at the gate", "at the ramps"]
+    assert np.allclose([widths[0], widths[1] + widths[2], widths[3]], want)
+    assert np.allclose(widths[1], [r.record.rows[:, 0].sum() * 20 / 3.6e6 for _, r in five])  # the step of arrival, apart
+    assert legend(ax) == ["on the road", "at the gate, arriving in the step", "at the gate, waiting", "at the ramps"]
+    box = ax.get_legend().get_window_extent()
+    assert box.x0 >= 0 and box.x1 <= figure.bbox.x1 and not box.overlaps(figure._suptitle.get_window_extent())
     right = max(t.get_window_extent().x1 for t in ax.texts)
     assert right <= figure.bbox.x1 and any("−1.8 %" in t.get_text() for t in ax.texts)
     figures.plt.close(figure)
@@ -161,3 +171,106 @@ def test_a_report_stands_alone(five, tmp_path):
         assert words in text
     ids = re.findall(r' id="([^"]+)"', text)
     assert all(x in ids for x in re.findall(r'xlink:href="#([^"]+)"', text))
+
+
+def text_of(figure):
+    """All texts of a drawn figure."""
+    from matplotlib.text import Text
+
+    return [t.get_text() for t in figure.findobj(Text)]
+
+
+@pytest.mark.parametrize("name", [r"$\frac{$", "$5 and $6", r"\$x", "_a", "50 %_^{}~#&", "a\nb\tc", "\x01\x7f", "W" * 300, "💡 東京 שלום"])
+def test_names_are_no_mathematics(five, works, name, recwarn, tmp_path):
+    """Dollars, backslashes and the like in a title or a ramp's name are drawn as they are, in every picture and in the report."""
+    from dataclasses import replace
+
+    s, r = five[1]
+    s = replace(s, title=name, name=name, ramps={name: 4}, cell_names=[name] * 5)
+    for kind in ("space-time", "queues"):
+        figure = drawn(kind, s, r)
+        assert figures.legible(name) in text_of(figure), kind
+        assert len(figures.svg(figure)) > 1000
+        figures.plt.close("all")
+    figure = drawn("totals", [(s, r)])
+    assert figures.legible(name, 40) in text_of(figure)
+    figures.save(figure, tmp_path / "t.pdf")
+    if "$" in name:
+        assert "<svg" in report.page([(s, r)])
+
+
+def test_names_on_one_line():
+    assert figures.legible("a\n b\x00c\u202ed") == "a b c d" and figures.legible("x" * 200) == "x" * 109 + "…" and figures.legible("$5 and $6") == "$5 and $6"
+
+
+def test_a_free_road_has_no_queue(road):
+    """What arrives in a step is no queue: nothing is drawn above 0."""
+    path = road("3000,    4000,    2400", "1000,    1000,    1000", "   300,     900,     200", "   200,     200,     200")
+    s = load(path)
+    ax = drawn("queues", s, s.run()).axes[0]
+    assert max(max(line.get_ydata(), default=0) for line in ax.get_lines()) == 0 and legend(ax)[-1] == "1 ramp without\na queue"
+    figures.plt.close("all")
+
+
+@pytest.mark.parametrize("km, refused", [(1e-6, "space-time density speed"), (1e20, "space-time density speed"), (400_000, "space-time density speed"),
+                                         (12, "speed"), (0.0011, "density")])
+def test_extreme_roads_are_refused_and_said_why(examples, km, refused):
+    """Cells of a millimetre, 70,000,000 km/h or 100,000 veh/km: no scale has that many ticks, and the words say what to check."""
+    from dataclasses import replace
+
+    s = load(examples / "studies/five-cells.toml")
+    r, s = s.run(), replace(s, lengths=[km] * 5)
+    for kind in figures.MORE:
+        if kind in refused.split():
+            with pytest.raises(StudyError, match="a picture takes 0.001 to 1,000 km|can't be drawn, at most 1,?0*,000: check the cells' lengths"):
+                drawn(kind, s, r)
+        else:
+            drawn(kind, s, r)
+        figures.plt.close("all")
+
+
+@pytest.mark.parametrize("top", [0.5, 10, 99, 151, 1000, 1e4, 6e7, 1e15])
+def test_ticks_are_few(top):
+    ticks = figures.round_ticks(top)
+    assert 2 <= len(ticks) <= 14 and ticks[0] == 0 and ticks[-1] <= top * 1.1
+
+
+def test_long_times_have_few_ticks(examples):
+    from dataclasses import replace
+    from fractions import Fraction
+
+    s = load(examples / "studies/five-cells.toml")
+    for seconds in (1, 20, 900, 86400):
+        figure = drawn("queues", replace(s, seconds=Fraction(seconds)), s.run())
+        assert 2 <= len(figure.axes[0].get_xticks()) <= 130
+        figures.plt.close(figure)
+
+
+def test_a_picture_is_written_whole_or_not_at_all(five, tmp_path):
+    from nobyaluk.output import NotWritten
+
+    path = tmp_path / "t.png"
+    path.write_text("old")
+    with pytest.raises(StudyError, match="a picture is a .png, .svg or .pdf file"):
+        figures.save(drawn("totals", five), tmp_path / "t.xyz")
+    (tmp_path / "folder.png").mkdir()
+    with pytest.raises(NotWritten):
+        figures.save(drawn("totals", five), tmp_path / "folder.png")
+    figures.save(drawn("totals", five), path)
+    assert path.read_bytes().startswith(b"\x89PNG") and sorted(x.name for x in tmp_path.iterdir()) == ["folder.png", "t.png"]
+
+
+def test_a_report_says_how_it_counts(five):
+    from dataclasses import replace
+
+    from nobyaluk import LongRecord
+    from nobyaluk import long as far
+
+    text = report.page(five[:1])
+    for words in ("may leave it in the next", "of it arriving", "On-ramps have priority over the mainline", "no capacity drop", "no schedule of outflows"):
+        assert words in text, words
+    s, r = five[0]
+    long = far.run(LongRecord(r.record.road, r.record.start, r.record.rows))
+    assert "no schedule of outflows" not in report.page([(s, long)]) and "nothing is proved of other schedules" in report.page([(s, long)])
+    s = replace(s, rounding=s.rounding[:1])
+    assert "1 number was rounded" in report.page([(s, r)])

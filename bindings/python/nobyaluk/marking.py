@@ -1,0 +1,276 @@
+"""Answers marked: the first broken rule by the proved judge, what a schedule costs, and what a wrong total comes from."""
+import csv
+import html
+import io
+from collections.abc import Callable, Iterator, Sequence
+from dataclasses import dataclass, field
+from fractions import Fraction
+
+import numpy as np
+
+from . import __version__, engine, summary, wrong_rules
+from .answers import Answer, Number
+from .engine import Refused
+from .forms import plain
+from .sheet import Exercise
+from .sheet_words import Words
+
+WRONG = {"alone": wrong_rules.shares_rounded_alone, "last": wrong_rules.one_after_another,
+         "first": lambda record, lanes: wrong_rules.one_after_another(record, lanes, last_first=False)}
+_SAY = Words("en")
+
+
+def _variants(e: Exercise, x: engine.Run | wrong_rules.Wrong) -> dict[str, int]:
+    """Of a run, right or wrong, the totals that leave something out or count too much; all by its own gate, road and ramp time."""
+    began = engine.present(e.study.record.road, e.study.record.start)
+    return {"ramp": x.gate + x.road, "gate": x.road + x.ramp, "cells": x.road, "start": x.total + began, "before": x.total + began - x.present}
+
+
+def mistakes(e: Exercise) -> list[tuple[str, int]]:
+    """Mistakes with the totals that they give, for the key: those that give another total than the right one."""
+    found = [*_variants(e, e.run).items(), *((key, rule(e.study.record, e.study.lanes).total) for key, rule in WRONG.items())]
+    return [(key, total) for key, total in found if total != e.run.total]
+
+
+@dataclass
+class Mark:
+    """What is said of one answer; empty where there is nothing to say."""
+    student: str
+    file: str = ""
+    exercise: str = ""
+    outflows: str = ""  # in a few words
+    rule: str = ""  # the first broken rule, or where a schedule departs from the engine's run
+    cost: int | None = None  # the accepted schedule's total, in part-steps
+    best: int | None = None  # the engine's
+    states: str = ""
+    times: dict[str, str] = field(default_factory=dict)
+    total: str = ""
+    right: bool | None = None  # whether the total is right
+    diagnosis: str = ""
+    whose: str = ""
+    notes: list[str] = field(default_factory=list)
+    fault: str = ""
+
+
+def mark(e: Exercise, answer: Answer, student: str) -> Mark:
+    """An answer against its exercise."""
+    m = Mark(student, answer.file, e.id, best=e.run.total, whose=answer.whose)
+    vehicles = _unit(e, answer, m)
+    schedule, done = _schedule(e, answer, vehicles, m)
+    own = _judge(e, schedule, done, m)
+    _states(e, answer, vehicles, schedule, done, m)
+    for key in ("gate", "road", "ramp"):
+        m.times[key] = _time(answer.times.get(key), getattr(e.run, key), vehicles)
+    _total(e, answer, vehicles, own, schedule if done == e.study.record.steps else None, m)
+    return m
+
+
+def _unit(e: Exercise, answer: Answer, m: Mark) -> bool:
+    """Whether the answer is in vehicles: as it says, or as its decimals show, or as more of its numbers are the engine's."""
+    decimals = any(x.is_of_vehicles for x in answer.numbers())
+    if answer.vehicles or answer.vehicles is False and not decimals:
+        return answer.vehicles
+    right = e.run.outflow.tolist()
+    pairs = [(x, right[k][p]) for k, row in enumerate(answer.outflows) for p, x in enumerate(row) if x is not None]
+    times = [(x, getattr(e.run, key)) for key, x in answer.times.items() if x is not None]
+    fits = [sum(x.parts(vehicles)[0] == y for x, y in (*pairs, *times)) for vehicles in (False, True)]
+    if decimals and fits[0] > fits[1]:  # one of a spreadsheet's, as 69874.0
+        m.notes.append("some numbers have decimals; read as thousandths, as the others are")
+        return False
+    if decimals and answer.vehicles is False:
+        m.notes.append("it says thousandths, but its decimals are of vehicles: read as vehicles")
+    elif not decimals and fits[1] > fits[0]:
+        m.notes.append("read as vehicles")
+    return decimals or fits[1] > fits[0]
+
+
+def _schedule(e: Exercise, answer: Answer, vehicles: bool, m: Mark) -> tuple[np.ndarray, int]:
+    """The outflows in parts, 0 from the first step on that is not filled in whole; and how many steps are."""
+    steps, places = e.run.outflow.shape
+    out, done = np.zeros((steps, places), np.uint32), 0
+    for k, row in enumerate(answer.outflows):
+        if any(x is None for x in row):
+            break
+        for p, x in enumerate(row):
+            parts = x.parts(vehicles)[0]
+            if parts.denominator != 1 or parts >= 1 << 32:
+                m.rule = f"step {k}, {e.study.place(p)}: {x.text} is no outflow in whole thousandths of a vehicle"
+                return out, k
+            out[k, p] = int(parts)
+        done += 1
+    return out, done
+
+
+def _judge(e: Exercise, schedule: np.ndarray, done: int, m: Mark) -> engine.Run | None:
+    """What the judge says of the steps that are filled in; the accepted schedule's run where all are."""
+    steps, record, lanes = e.study.record.steps, e.study.record, e.study.lanes
+    if not done:
+        m.outflows = "wrong" if m.rule else "none"
+        return None
+    try:
+        own = engine.judge(record, schedule, lanes)
+    except Refused as r:
+        if r.step is not None and r.step < done:
+            m.outflows = f"wrong from step {r.step}"
+            m.rule = f"{e.study.told(r)} ({summary.broken(record, schedule, lanes, r)})"
+            return None
+        own = None
+    if done < steps:
+        same = (schedule[:done] == e.run.outflow[:done]).all()
+        m.outflows = f"{'right' if same else 'allowed'} up to step {done - 1}, {steps - done} missing"
+        return None
+    lost = summary.loss(e.run, own)
+    m.cost, m.outflows = own.total, "right" if lost.step is None else "allowed"
+    if lost.step is not None:
+        m.rule = f"holds back first at {e.study.when(lost.step)}, {e.study.place(lost.place)}: sends {lost.sent}, and {lost.could} could go"
+    return own
+
+
+def _near(x: Number, right: int, vehicles: bool) -> bool:
+    value, slack = x.parts(vehicles)
+    return abs(value - right) <= slack
+
+
+def _states(e: Exercise, answer: Answer, vehicles: bool, schedule: np.ndarray, done: int, m: Mark) -> None:
+    """The first state that does not follow from the student's own outflows."""
+    given = sum(x is not None for table in (answer.held, answer.queue) for row in table for x in row)
+    if not given:
+        m.states = "none"
+        return
+    try:
+        held, queue = engine.states_until(e.study.record, schedule, e.study.lanes)
+    except Refused:
+        return
+    ramps, places = e.ramps, e.n + 1
+    for k in range(min(done, len(held), len(answer.held))):
+        for j, x in enumerate((*answer.held[k], *answer.queue[k])):
+            right = int(held[k, j] if j < places else queue[k, ramps[j - places]])
+            if x is not None and not _near(x, right, vehicles):
+                what = "queue of the gate" if j == 0 else f"held in cell {j}" if j < places else f"queue of the ramp at cell {ramps[j - places]}"
+                m.states = f"after step {k}, {what}: {x.text}, where its own outflows leave {right}"
+                return
+    missing = e.study.record.steps * (places + len(ramps)) - given
+    m.states = ("follow from its outflows" if done else "not looked at") + (f", {missing} missing" if missing else "")
+
+
+def _time(x: Number | None, right: int, vehicles: bool) -> str:
+    return "" if x is None else "right" if _near(x, right, vehicles) else f"{_shown(x, vehicles)}, not {right}"
+
+
+def _shown(x: Number, vehicles: bool) -> str:
+    """A time as the exercise has it, in part-steps."""
+    parts = x.parts(vehicles)[0]
+    return str(int(parts)) if parts.denominator == 1 else f"{float(parts):g}"
+
+
+def _bases(e: Exercise, own: engine.Run | None) -> Iterator[tuple[str, int, dict[str, int]]]:
+    """Runs that a total may be of: the engine's, the student's own, and those of wrong rules; each with its total and its variants."""
+    yield "", e.run.total, _variants(e, e.run)
+    if own is not None and own.total != e.run.total:
+        yield "of its own outflows", own.total, _variants(e, own)
+    for key, rule in WRONG.items():
+        wrong = rule(e.study.record, e.study.lanes)
+        yield _SAY(f"wrong.{key}"), wrong.total, _variants(e, wrong)
+
+
+def _total(e: Exercise, answer: Answer, vehicles: bool, own: engine.Run | None, schedule: np.ndarray | None, m: Mark) -> None:
+    """Whether the total is right; where not, what it comes from. Outflows of a wrong rule are recognised too, also with a right total."""
+    by_rule = next((_SAY(f"wrong.{key}") for key, rule in WRONG.items() if schedule is not None and own is None
+                    and (rule(e.study.record, e.study.lanes).outflow == schedule).all()), "")
+    m.diagnosis = f"outflows: {by_rule}" if by_rule else ""
+    x = answer.times.get("total")
+    if x is None:
+        return
+    m.total, m.right = _shown(x, vehicles), _near(x, e.run.total, vehicles)
+    if m.right:
+        return
+    found = diagnosis(e, lambda total: _near(x, total, vehicles), own) or _sums(e, answer, vehicles, x) or "not recognised"
+    m.diagnosis = "; ".join(filter(None, [found, m.diagnosis if by_rule and by_rule not in found else ""]))
+
+
+def diagnosis(e: Exercise, same: Callable[[int], bool], own: engine.Run | None = None) -> str:
+    """What a wrong total comes from, in words; nothing where it is not recognised. `same` says whether a total is the one given."""
+    for base, total, variants in _bases(e, own):
+        if base and same(total):
+            return base
+        if found := [_SAY(f"wrong.{key}") for key, wrong in variants.items() if wrong != total and same(wrong)]:
+            return f"{base}, and " * bool(base) + " or ".join(found)
+    return ""
+
+
+def _sums(e: Exercise, answer: Answer, vehicles: bool, x: Number) -> str:
+    """A total that is the sum of the times given, or a thousand times too large or too small."""
+    value = x.parts(vehicles)[0]
+    if value == 1000 * e.run.total or value * 1000 == e.run.total:
+        return "right but for its unit: off by a factor of 1,000"
+    parts = [answer.times.get(key) for key in ("gate", "road", "ramp")]
+    if all(parts) and value == sum((y.parts(vehicles)[0] for y in parts), Fraction(0)):
+        return "the sum of its times at gate, cells and ramps, of which one is wrong"
+    return ""
+
+
+HEADING = ["student", "file", "exercise", "outflows", "first broken rule", "schedule's total", "engine's total", "lost", "states", "gate time", "road time", "ramp time",
+           "total given", "total", "what a wrong total comes from", "whose waiting, as written", "notes"]
+
+
+def rows(marks: Sequence[Mark]) -> list[list[str]]:
+    """The table for the lecturer, times in thousandths of a vehicle times steps."""
+    out = []
+    for m in marks:
+        lost = "" if m.cost is None or m.best is None else str(m.cost - m.best)
+        verdict = "" if m.right is None else "right" if m.right else "wrong"
+        number = lambda x: "" if x is None else str(x)
+        out.append([m.student, m.file, m.exercise, m.outflows, m.rule, number(m.cost), number(m.best), lost, m.states, *(m.times.get(key, "") for key in ("gate", "road", "ramp")),
+                    m.total, verdict, m.diagnosis, m.whose, "; ".join(filter(None, [m.fault, *m.notes]))])
+    return out
+
+
+def as_csv(marks: Sequence[Mark]) -> str:
+    """The table as CSV; no field of it is a formula."""
+    f = io.StringIO()
+    csv.writer(f, lineterminator="\n").writerows([HEADING, *([plain(x) for x in row] for row in rows(marks))])
+    return f.getvalue()
+
+
+STYLE = """
+body { font: 14px/1.4 system-ui, "DejaVu Sans", sans-serif; color: #1b1b1b; margin: 1.5rem; } h1 { font-size: 1.5rem; margin: 0 0 .3rem; overflow-wrap: anywhere; }
+table { border-collapse: collapse; font-size: 13px; font-variant-numeric: tabular-nums; margin: .8rem 0; width: 100%; } .note { color: #555; font-size: .9rem; }
+th, td { text-align: left; vertical-align: top; padding: .3rem .5rem; border-bottom: 1px solid #ccc; } td.number { text-align: right; white-space: nowrap; }
+thead th { position: sticky; top: 0; background: #fff; border-bottom: 2px solid #888; }
+td.right { background: #e2f1e4; } td.wrong { background: #fbe5dd; } td.part { background: #fdf5d6; } tr.fault td { background: #f3e6ee; }
+td { overflow-wrap: anywhere; } @page { size: A4 landscape; margin: 10mm; }
+"""
+
+
+def _kind(m: Mark, column: int) -> str:
+    """A cell's colour: right, allowed or partly, wrong."""
+    if column == 1:
+        return "right" if m.outflows == "right" else "part" if m.outflows.startswith(("allowed", "right")) else "wrong"
+    if column == 6:
+        return "" if m.right is None else "right" if m.right else "wrong"
+    return "number" if column in (2, 5) else ""
+
+
+def page(marks: Sequence[Mark], title: str) -> str:
+    """The table as one HTML page, with the numbers of how many are right."""
+    heading = ["student", "outflows", "costs (engine’s)", "states", "time at gate, cells, ramps", "total given", "total", "whose waiting, as written", "notes"]
+    body = []
+    for m in marks:
+        cost = "" if m.cost is None else f"{m.cost:,} ({m.best:,})"
+        times = "; ".join(f"{_SAY(f'time.{key}')}: {x}" for key, x in m.times.items() if x)
+        total = "" if m.right is None else "right" if m.right else f"wrong, {m.best:,} is right: {m.diagnosis}"
+        if m.right and m.diagnosis:
+            total += f"; {m.diagnosis}"
+        given, notes = f"{int(m.total):,}" if m.total.isdecimal() else m.total, "; ".join(filter(None, [m.fault, *m.notes]))
+        cells = [m.student, f"{m.outflows}{': ' if m.rule else ''}{m.rule}", cost, m.states, times, given, total, m.whose, notes]
+        tds = "".join(f"<td{f' class={kind}' if (kind := _kind(m, j)) and not m.fault else ''}>{html.escape(x)}</td>" for j, x in enumerate(cells))
+        body.append(f"<tr{' class=fault' if m.fault else ''}>{tds}</tr>")
+    read = [m for m in marks if not m.fault]
+    outflows, totals = sum(m.outflows == "right" for m in read), sum(bool(m.right) for m in read)
+    told = (f"{len(marks)} students or files: {len(read)} marked, {outflows} with right outflows, {totals} with the right total."
+            " Times are in thousandths of a vehicle × steps.")
+    head = f"<meta charset=utf-8><meta name=viewport content='width=device-width'><title>{html.escape(title)}</title><style>{STYLE}</style>"
+    table = f"<table><thead><tr>{''.join(f'<th>{html.escape(x)}</th>' for x in heading)}</tr></thead><tbody>{''.join(body)}</tbody></table>"
+    proof = ("Outflows are judged by the proved engine, and a wrong total is compared with its numbers of gate, road and ramp time. Wrong rules, which are computed to recognise"
+             f" them, and this table are not proved. nobyaluk {__version__}.")
+    return f"<!doctype html><html lang=en><head>{head}</head><body><h1>{html.escape(title)}</h1><p class=note>{told}</p>{table}<p class=note>{proof}</p></body></html>\n"
