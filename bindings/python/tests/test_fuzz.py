@@ -19,7 +19,7 @@ from hypothesis import HealthCheck, given, settings
 from hypothesis import strategies as st
 from nobyaluk import cli, files
 
-CASES = int(os.environ.get("NOBYALUK_CASES", "900"))
+CASES = int(os.environ.get("NOBYALUK_CASES", "1125"))
 SECONDS = 20  # a case may take
 STATUSES = {0, 1, 2, 4}
 STUDY = """title = "Four cells"
