@@ -37,6 +37,19 @@ static void grants(void) {
     hold("24", nobyaluk_grant(5, guarantees, 3, wishes, 3, given, 3) == 24 && !memcmp(given, fair, sizeof given));
 }
 
+/* the gate's queue after the steps is 2500, 2142 and 1890, with 1000 arrivals in each; ramp 2's is 1700, 1900 and 2100 */
+static void longest(const uint8_t *record, size_t bytes) {
+    uint32_t list[9];
+    nobyaluk_longest a = nobyaluk_run_longest(record, bytes, NULL, 0, list, 9);
+    hold("the longest queues", a.ended.total == 33098 && a.gate == 2500 && a.waiting == 1500 && a.ramps[0] == 0 && a.ramps[1] == 2100 && a.ramps[2] == 0);
+    a = nobyaluk_run_longest(record, bytes, NULL, 0, list, 8);
+    hold("11", a.ended.number == 11 && a.gate == 0 && a.waiting == 0 && a.ramps[1] == 0);
+    static uint8_t filled[NOBYALUK_BYTES];
+    memcpy(filled, record, bytes);
+    a = nobyaluk_fill_longest(filled, bytes, NULL, 0, NULL, 0, NULL, 0, list, 9);
+    hold("a ramp that stays shut", a.ended.number == 0 && a.ramps[1] == 3000);
+}
+
 static void puts_release(uint8_t *record, size_t bytes) {
     uint32_t rows[15];
     hold("a caller's limits", nobyaluk_read_within(record, bytes, 2, 124).number == 0 && nobyaluk_read_within(record, bytes, 8, 4096).steps == 3);
@@ -103,6 +116,7 @@ int main(void) {
     rules();
     counts(record, bytes);
     joins(record, bytes);
+    longest(record, bytes);
     puts_release(record, bytes);
     return wrong;
 }

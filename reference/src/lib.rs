@@ -16,6 +16,7 @@ pub mod lanes_text;
 pub mod laws;
 pub mod limits;
 pub mod load;
+pub mod longest;
 pub mod meter;
 pub mod model;
 pub mod print;

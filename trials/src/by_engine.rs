@@ -3,6 +3,7 @@
 use crate::freeway::{Ended, Freeway, Laws, Row, Told};
 use reference::answer::Answer;
 use reference::load::Loaded;
+use reference::longest::Queues;
 use reference::model::{Road, Start, State};
 use reference::put::Put;
 use reference::record::{Caller, Reading};
@@ -122,6 +123,15 @@ fn ended(ended: nobyaluk::Ended) -> Ended {
     }
 }
 
+fn longest(longest: nobyaluk::Longest) -> (Ended, Queues) {
+    let queues = Queues {
+        gate: longest.gate,
+        waiting: longest.waiting,
+        ramps: longest.ramps,
+    };
+    (ended(longest.ended), queues)
+}
+
 impl Freeway for Engine {
     fn read(&self, record: &[u8]) -> Reading {
         reading_of(nobyaluk::read(record))
@@ -147,6 +157,10 @@ impl Freeway for Engine {
         (ended(weighed.ended), weighed.weighted)
     }
 
+    fn run_longest(&self, record: &[u8], lanes: &[u8], list: &mut [u32]) -> (Ended, Queues) {
+        longest(nobyaluk::run_longest_into(record, lanes, list))
+    }
+
     fn judge(&self, record: &[u8], lanes: &[u8], schedule: &[u32]) -> Ended {
         ended(nobyaluk::judge(record, lanes, schedule))
     }
@@ -164,6 +178,23 @@ impl Freeway for Engine {
     fn fill(&self, record: &mut [u8], laws: &Laws, lanes: &[u8], list: &mut [u32]) -> Ended {
         let (kinds, numbers): (Vec<u8>, Vec<[f64; 3]>) = laws.iter().map(flat).unzip();
         ended(nobyaluk::fill_kinds_into(
+            record,
+            &kinds,
+            numbers.as_flattened(),
+            lanes,
+            list,
+        ))
+    }
+
+    fn fill_longest(
+        &self,
+        record: &mut [u8],
+        laws: &Laws,
+        lanes: &[u8],
+        list: &mut [u32],
+    ) -> (Ended, Queues) {
+        let (kinds, numbers): (Vec<u8>, Vec<[f64; 3]>) = laws.iter().map(flat).unzip();
+        longest(nobyaluk::fill_kinds_longest_into(
             record,
             &kinds,
             numbers.as_flattened(),

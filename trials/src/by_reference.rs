@@ -4,6 +4,7 @@ use crate::freeway::{Ended, Freeway, Laws, Row, Told};
 use reference::answer::Answer;
 use reference::join;
 use reference::load::{self, Loaded};
+use reference::longest::{self, Queues};
 use reference::model::{self, Road, Start, State};
 use reference::put::{self, Put};
 use reference::record::{self, Caller, Reading};
@@ -56,6 +57,11 @@ impl Freeway for Reference {
         (ended(answer), weighted)
     }
 
+    fn run_longest(&self, record: &[u8], lanes: &[u8], list: &mut [u32]) -> (Ended, Queues) {
+        let (answer, queues) = longest::run(record, lanes, list);
+        (ended(answer), queues)
+    }
+
     fn judge(&self, record: &[u8], lanes: &[u8], schedule: &[u32]) -> Ended {
         ended(judge::judge(record, lanes, schedule))
     }
@@ -90,6 +96,18 @@ impl Freeway for Reference {
 
     fn fill(&self, record: &mut [u8], laws: &Laws, lanes: &[u8], list: &mut [u32]) -> Ended {
         ended(fill::fill(record, &laws.map(|law| law.law()), lanes, list))
+    }
+
+    fn fill_longest(
+        &self,
+        record: &mut [u8],
+        laws: &Laws,
+        lanes: &[u8],
+        list: &mut [u32],
+    ) -> (Ended, Queues) {
+        let laws = laws.map(|law| law.law());
+        let (answer, queues) = longest::fill(record, &laws, lanes, list);
+        (ended(answer), queues)
     }
 
     fn step(&self, road: Road, state: State, row: &[u32], built: &Lanes, open: &Lanes) -> Stepped {

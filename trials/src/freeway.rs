@@ -2,6 +2,7 @@
 
 use reference::answer::Answer;
 use reference::load::Loaded;
+use reference::longest::Queues;
 use reference::model::{Road, Start, State};
 use reference::put::Put;
 use reference::record::{Caller, Reading};
@@ -46,11 +47,21 @@ pub trait Freeway {
         weights: &Weights,
         list: &mut [u32],
     ) -> (Ended, u64);
+    /// Runs, and gives the longest queues over the steps done.
+    fn run_longest(&self, record: &[u8], lanes: &[u8], list: &mut [u32]) -> (Ended, Queues);
     fn judge(&self, record: &[u8], lanes: &[u8], schedule: &[u32]) -> Ended;
     /// Judges, and puts what each place holds and what waits at each ramp after each
     /// step made into two lent lists.
     fn history(&self, record: &[u8], told: Told) -> Ended;
     fn fill(&self, record: &mut [u8], laws: &Laws, lanes: &[u8], list: &mut [u32]) -> Ended;
+    /// Fills, and gives the longest queues over the steps done.
+    fn fill_longest(
+        &self,
+        record: &mut [u8],
+        laws: &Laws,
+        lanes: &[u8],
+        list: &mut [u32],
+    ) -> (Ended, Queues);
     fn step(&self, road: Road, state: State, row: &[u32], built: &Lanes, open: &Lanes) -> Stepped;
     fn write(
         &self,

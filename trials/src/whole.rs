@@ -4,6 +4,7 @@
 use crate::freeway::{Ended, Freeway, Told};
 use crate::lent::{self, Lent};
 use reference::load::Loaded;
+use reference::longest::Queues;
 use reference::model::{Road, State};
 use reference::put::Put;
 use reference::record::Reading;
@@ -154,6 +155,14 @@ impl Whole {
         self.put_state(&answer.state);
     }
 
+    fn put_longest(&mut self, (ended, queues): &(Ended, Queues), list: Lent<u32>) {
+        self.put("longest gate queue", [queues.gate]);
+        self.put("longest without arrivals", [queues.waiting]);
+        self.put("longest ramp queues", queues.ramps);
+        self.put_ended(ended);
+        self.put_lent("outflows", list);
+    }
+
     fn put_written(&mut self, written: &Written, target: Lent<u8>) {
         self.put("number", [written.number]);
         self.put_size("place", written.place);
@@ -194,6 +203,9 @@ pub fn answer(freeway: &impl Freeway, case: &Case) -> Whole {
             let mut list = lent::numbers(*length);
             whole.put_ended(&freeway.run(record, lanes, list.list()));
             whole.put_lent("outflows", list);
+            let mut list = lent::numbers(*length);
+            let longest = freeway.run_longest(record, lanes, list.list());
+            whole.put_longest(&longest, list);
             again(freeway, record, &mut whole);
         }
         Case::Judge {
@@ -375,6 +387,10 @@ fn fill(freeway: &impl Freeway, input: &FillInput, whole: &mut Whole) {
     let ended = freeway.fill(record.list(), &input.laws, &input.lanes, list.list());
     whole.put_ended(&ended);
     whole.put_lent("outflows", list);
+    whole.put_lent("record", record);
+    let (mut record, mut list) = (lent::given(&input.record), lent::numbers(input.length));
+    let longest = freeway.fill_longest(record.list(), &input.laws, &input.lanes, list.list());
+    whole.put_longest(&longest, list);
     whole.put_lent("record", record);
 }
 

@@ -2,10 +2,10 @@
 
 use crate::lent::{
     fill_into, grant_into, history_into, join_into, load_into, put_into, read, row_numbers,
-    rows_into, run_into, run_weighted_into, wanted_into, write_into,
+    rows_into, run_into, run_longest_into, run_weighted_into, wanted_into, write_into,
 };
 use crate::refused::Refused;
-use crate::types::{Ended, Law, Reading, Road, Start, Weights, BYTES, CELLS, STEPS};
+use crate::types::{Ended, Law, Longest, Reading, Road, Start, Weights, BYTES, CELLS, STEPS};
 
 /// A run without refusal, with its tables: one row a step, n + 1 numbers a row, gate first.
 #[derive(Clone, Debug, PartialEq, Eq)]
@@ -53,6 +53,12 @@ pub fn run_weighted(record: &[u8], lanes: &[u8], weights: Weights) -> Result<(Ru
     let weighed = run_weighted_into(record, lanes, weights, &mut outflow).ok()?;
     let run = with_states(record, lanes, weighed.ended, outflow)?;
     Ok((run, weighed.weighted))
+}
+
+/// Runs so with the longest queues of gate and on-ramps, without the states after each step.
+pub fn run_longest(record: &[u8], lanes: &[u8]) -> Result<Longest, Refused> {
+    let mut outflow = table(&read(record));
+    run_longest_into(record, lanes, &mut outflow).ok()
 }
 
 /// Fills a record's releases by a law for each cell, and runs it; after a refusal the record is as it was.

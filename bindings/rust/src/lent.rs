@@ -3,8 +3,8 @@
 // Every `unsafe` below passes pointers and counts of slices that live through the call; what is written is borrowed mutably.
 use crate::raw;
 use crate::types::{
-    Ended, Granted, Lanes, Law, Loaded, Reading, Released, Road, Row, Start, State, Stepped,
-    Wanted, Weighed, Weights, Written,
+    Ended, Granted, Lanes, Law, Loaded, Longest, Reading, Released, Road, Row, Start, State,
+    Stepped, Wanted, Weighed, Weights, Written,
 };
 
 /// The linked library's [`VERSION`](crate::VERSION).
@@ -76,6 +76,29 @@ pub fn run_weighted_into(
     }
 }
 
+/// Runs so with the longest queues of gate and on-ramps.
+///
+/// ```
+/// use nobyaluk::run_longest_into;
+/// let record = std::fs::read("../../examples/printed-run.rec")?;
+/// let longest = run_longest_into(&record, &[], &mut [0; 9]).ok()?;
+/// assert_eq!((longest.gate, longest.waiting, longest.ramps[1]), (2_500, 1_500, 2_100));
+/// # Ok::<(), Box<dyn std::error::Error>>(())
+/// ```
+#[must_use = "it may be a refusal: `ok()`"]
+pub fn run_longest_into(record: &[u8], lanes: &[u8], list: &mut [u32]) -> Longest {
+    unsafe {
+        raw::nobyaluk_run_longest(
+            record.as_ptr(),
+            record.len(),
+            lanes.as_ptr(),
+            lanes.len(),
+            list.as_mut_ptr(),
+            list.len(),
+        )
+    }
+}
+
 /// Judges a schedule, a row of n + 1 outflows a step, gate first.
 #[must_use = "it may be a refusal: `ok()`"]
 pub fn judge(record: &[u8], lanes: &[u8], schedule: &[u32]) -> Ended {
@@ -135,6 +158,43 @@ pub fn fill_kinds_into(
 ) -> Ended {
     unsafe {
         raw::nobyaluk_fill(
+            record.as_mut_ptr(),
+            record.len(),
+            kinds.as_ptr(),
+            kinds.len(),
+            numbers.as_ptr(),
+            numbers.len(),
+            lanes.as_ptr(),
+            lanes.len(),
+            list.as_mut_ptr(),
+            list.len(),
+        )
+    }
+}
+
+/// Fills by a law for each cell, with the longest queues of gate and on-ramps.
+#[must_use = "it may be a refusal: `ok()`"]
+pub fn fill_longest_into(
+    record: &mut [u8],
+    laws: &[Law],
+    lanes: &[u8],
+    list: &mut [u32],
+) -> Longest {
+    let (kinds, numbers): (Vec<u8>, Vec<[f64; 3]>) = laws.iter().map(|law| law.flat()).unzip();
+    fill_kinds_longest_into(record, &kinds, numbers.as_flattened(), lanes, list)
+}
+
+/// The same by kinds and numbers, as [`fill_kinds_into`] takes them.
+#[must_use = "it may be a refusal: `ok()`"]
+pub fn fill_kinds_longest_into(
+    record: &mut [u8],
+    kinds: &[u8],
+    numbers: &[f64],
+    lanes: &[u8],
+    list: &mut [u32],
+) -> Longest {
+    unsafe {
+        raw::nobyaluk_fill_longest(
             record.as_mut_ptr(),
             record.len(),
             kinds.as_ptr(),

@@ -8,9 +8,9 @@
 //! | operation | with lists of its own | on lent lists, the engine's own answer |
 //! |---|---|---|
 //! | reading | | [`read`] |
-//! | running, with weights | [`run`], [`run_weighted`] | [`run_into`], [`run_weighted_into`] |
+//! | running, with weights, with the longest queues | [`run`], [`run_weighted`], [`run_longest`] | [`run_into`], [`run_weighted_into`], [`run_longest_into`] |
 //! | judging, with the states | | [`judge`], [`history_into`] |
-//! | filling by meter laws | [`fill`] | [`fill_into`], [`fill_kinds_into`] |
+//! | filling by meter laws, with the longest queues | [`fill`] | [`fill_into`], [`fill_kinds_into`], [`fill_longest_into`], [`fill_kinds_longest_into`] |
 //! | writing; rows | [`write`](fn@write); [`rows`], [`row`] | [`write_into`]; [`rows_into`], [`row_numbers`] |
 //! | a stated load | [`load`] | [`load_into`] |
 //! | releases for a wanted queue | [`wanted`], [`put_wanted`] | [`wanted_into`] |

@@ -1,8 +1,8 @@
 //! The functions of the archive, as bindings/c/nobyaluk.h has them.
 
 use crate::types::{
-    Ended, Granted, Lanes, Loaded, Reading, Released, Road, Row, Start, State, Stepped, Wanted,
-    Weighed, Weights, Written,
+    Ended, Granted, Lanes, Loaded, Longest, Reading, Released, Road, Row, Start, State, Stepped,
+    Wanted, Weighed, Weights, Written,
 };
 extern "C" {
     pub fn nobyaluk_version() -> u32;
@@ -30,6 +30,14 @@ extern "C" {
         list: *mut u32,
         count: usize,
     ) -> Weighed;
+    pub fn nobyaluk_run_longest(
+        record: *const u8,
+        bytes: usize,
+        lanes: *const u8,
+        lanes_count: usize,
+        list: *mut u32,
+        count: usize,
+    ) -> Longest;
     pub fn nobyaluk_judge(
         record: *const u8,
         bytes: usize,
@@ -62,6 +70,18 @@ extern "C" {
         list: *mut u32,
         count: usize,
     ) -> Ended;
+    pub fn nobyaluk_fill_longest(
+        record: *mut u8,
+        bytes: usize,
+        kinds: *const u8,
+        kinds_count: usize,
+        numbers: *const f64,
+        numbers_count: usize,
+        lanes: *const u8,
+        lanes_count: usize,
+        list: *mut u32,
+        count: usize,
+    ) -> Longest;
     pub fn nobyaluk_write(
         road: Road,
         steps: usize,

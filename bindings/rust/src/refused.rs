@@ -1,9 +1,11 @@
 //! A refusal in words, and answers as results.
-use crate::types::{Ended, Granted, Loaded, Reading, Released, Stepped, Wanted, Weighed, Written};
+use crate::types::{
+    Ended, Granted, Loaded, Longest, Reading, Released, Stepped, Wanted, Weighed, Written,
+};
 use std::fmt;
 
 /// The table of refusals: number, what its place is, in words, who says it.
-const TABLE: &str = include_str!("../../../docs/refusals.tsv");
+const TABLE: &str = include_str!(concat!(env!("OUT_DIR"), "/refusals.tsv"));
 
 /// A refusal by its number, with what the table says its place is.
 ///
@@ -89,6 +91,13 @@ impl Ended {
 
 impl Weighed {
     /// The weighted run without a refusal, or the refusal.
+    pub fn ok(self) -> Result<Self, Refused> {
+        self.ended.ok().map(|_| self)
+    }
+}
+
+impl Longest {
+    /// The run with its longest queues without a refusal, or the refusal.
     pub fn ok(self) -> Result<Self, Refused> {
         self.ended.ok().map(|_| self)
     }

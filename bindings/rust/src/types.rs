@@ -102,6 +102,18 @@ pub struct Weighed {
     pub ended: Ended,
 }
 
+/// What running and filling answer with the longest queues, after any step done: of the gate; of the gate without the step's
+/// arrivals, the most that were there before a step and did not leave in it; and of each cell's on-ramp, 0 past cell n. All are 0
+/// where no step was done, and the queues of the start do not count.
+#[repr(C)]
+#[derive(Clone, Copy, Debug, PartialEq, Eq)]
+pub struct Longest {
+    pub gate: u32,
+    pub waiting: u32,
+    pub ramps: [u32; 64],
+    pub ended: Ended,
+}
+
 /// What stepping answers; after a refusal the state is the one given.
 #[repr(C)]
 #[derive(Clone, Copy, Debug, PartialEq, Eq)]

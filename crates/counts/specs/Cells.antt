@@ -8,12 +8,11 @@ use native.Mathlib.Omega.{arith}
 use lib.ListN.{length, take, length-take, List·getD-eq-default}
 use lib.Seq.{take-all}
 use Rattle.numbers.specs.Tests.{order}
-use Rattle.rows.specs.Sum.{sumOf}
-use Rattle.rows.specs.Rows.{listOf}
-use Rattle.rows.specs.RowsLaws.{sum-list-none, sum-list-more, sum-list-min}
-use Rattle.road.specs.declared.Road.{Road}
-use Rattle.road.specs.declared.State.{State}
-use Rattle.road.specs.Road.{mostCells}
+use Rattle.model.specs.Numbers.{sumOf, listOf}
+use Rattle.numbers.specs.RowsLaws.{sum-list-none, sum-list-more, sum-list-min}
+use Rattle.model.specs.declared.Road.{Road}
+use Rattle.model.specs.declared.State.{State}
+use Rattle.model.specs.Road.{mostCells}
 use Rattle.model.specs.Move.{exitAt, exitsOf}
 
 -- a part as the code takes it: the first n entries of an array, or all of them where n is more

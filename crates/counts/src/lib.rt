@@ -1,18 +1,53 @@
-// What a state holds: present on the road, at the ramps and in all, and its exits.
-use road::Road;
-use road::State;
+// Present, exits and present with weights, of a state; the total in vehicle-seconds; and the longest queues of a run.
+use model::Ended;
+use model::Longest;
+use model::Refusal;
+use model::Road;
+use model::State;
+use model::Weights;
+use numbers::wide;
+use outflows::Ledger;
 ghost use mathlib.Core.Path.{_≡_};
-ghost use Prim.Native.Nat.{_-_, _^_, min, _≤_, _<_};
-ghost use lib.ListN.{take};
-ghost use Rattle.rows.specs.Sum.{sumOf};
-ghost use Rattle.flow.specs.Flow.{onwardOf};
-ghost use Rattle.road.specs.Road.{mostCells};
+ghost use Prim.Native.Nat.{min, _-_, _^_, _≤_, _<_, _+_, _*_, max};
+ghost use Rattle.model.specs.Road.{mostLong, mostCells, withoutState};
+ghost use Rattle.model.specs.Words.{vehicleSeconds, vehicleSecondsOf};
+ghost use lib.ListN.{take, length};
+ghost use Rattle.model.specs.Numbers.{sumOf, at, fillOf};
+ghost use Rattle.model.specs.Flow.{onwardOf};
 ghost use Rattle.model.specs.Move.{heldSum, queueSum, presentOf, exitsOf};
+ghost use mathlib.Core.Bool.{cond};
+ghost use Rattle.model.specs.declared.State.{State};
+ghost use Rattle.model.specs.Weights.{weighedSum, weightedOf};
+ghost use Rattle.counts.specs.WeightBounds.{mostWeighed, mostWeighted, mostWeightedTotal};
+ghost use Rattle.counts.specs.WeightSums.{Waiting};
+ghost use Rattle.model.specs.Longest.{queuesOf, longestQueues};
+ghost use Rattle.counts.specs.Longest.{noQueues};
+ghost use Rattle.counts.specs.LongestLaws.{raisedBy};
 
-fn wide(x: u32) -> u64
-    ensures { λ r. ⌜ r ≡ x ⌝ }
+// A vehicle's parts.
+const PARTS: u64 = 1000;
+
+// Part-steps of so many seconds in vehicle-seconds, rounded down: whole vehicles and the rest apart, so that no product wraps.
+fn in_seconds(total: u64, seconds: u16) -> u64
+    ensures { λ r. ⌜ r ≡ min (vehicleSeconds total seconds) mostLong ⌝ }
 {
-    x as u64
+    let wide = seconds as u64;
+    if wide == 0 {
+        return 0;
+    }
+    let vehicles = total / PARTS;
+    let rest = total % PARTS * wide / PARTS;
+    if (Road::LONG - rest) / wide < vehicles {
+        return Road::LONG;
+    }
+    vehicles * wide + rest
+}
+
+// The total that `total` gives × seconds ÷ 1,000, rounded down; where that passes 64 bits, the greatest number of 64 bits.
+pub fn vehicle_seconds(seconds: u16, state: State) -> u64
+    ensures { λ r. ⌜ r ≡ vehicleSecondsOf seconds state ⌝ }
+{
+    in_seconds(state.total(), seconds)
 }
 
 // The entries of an array that belong to cells: 64 at most.
@@ -27,7 +62,7 @@ fn of_cells(counts: [u32; 64], n: usize) -> u64
     ensures { λ p. ⌜ (p ≡ sumOf (take n counts)) × (p < 2 ^ 38) ⌝ }
 {
     let k = cells(n);
-    rows::sum(&counts[..k])
+    numbers::sum(&counts[..k])
 }
 
 // Present on the road: all held counts.
@@ -76,4 +111,146 @@ pub fn exits(r: Road, s: State) -> u64
         i += 1;
     }
     sum
+}
+
+// A count times its weight.
+fn weighed(weight: u8, count: u32) -> u64
+    ensures { λ r. ⌜ (r ≡ weight * count) × (r ≤ mostWeighed) ⌝ }
+{
+    weight as u64 * count as u64
+}
+
+// The counts of the first n cells, each times its weight; the first cell's weight is at `from`.
+fn weighed_cells(weights: &[u8], from: usize, counts: &[u32], n: usize) -> u64
+    requires { ⌜ (n ≤ mostCells) × ((n ≤ length (now counts)) × (from + n ≤ length (now weights))) ⌝ }
+    ensures { λ r. ⌜ (r ≡ weighedSum (λ i. at (now (weights .entry)) (from + i)) (at (now (counts .entry))) n) × (r ≤ mostCells * mostWeighed) ⌝ }
+{
+    let mut sum: u64 = 0;
+    let mut i = 0;
+    while i < n {
+        sum += weighed(weights[from + i], counts[i]);
+        i += 1;
+    }
+    sum
+}
+
+// The gate queue, all held counts and all ramp queues, each times its weight, on lent columns.
+fn weighed_places<'a, 'b>(
+    n: usize,
+    gate_queue: u32,
+    held: &'a [u32; 64],
+    queue: &'a [u32; 64],
+    places: &'b [u8; 65],
+    ramps: &'b [u8; 64],
+) -> u64
+    requires { ⌜ n ≤ mostCells ⌝ }
+    ensures present { λ r. ⌜ ((s : State) → Waiting «gate_queue» (now (held .entry)) (now (queue .entry)) s
+        → r ≡ weightedOf (at (now (places .entry))) (at (now (ramps .entry))) n s) ⌝ }
+    ensures bound { λ r. ⌜ r ≤ mostWeighted ⌝ }
+{
+    let gate = weighed(places[0], gate_queue);
+    let road = weighed_cells(places, 1, held, n);
+    let ramp = weighed_cells(ramps, 0, queue, n);
+    gate + road + ramp
+}
+
+// The gate queue, all held counts and all ramp queues, each times its weight; n above 64 counts as 64.
+pub fn weighted(r: Road, s: State, weights: Weights) -> u64
+    ensures { λ p. ⌜ p ≡ weightedOf (at (weights .places)) (at (weights .ramps)) (r .n) s ⌝ }
+{
+    let n = cells(r.n);
+    weighed_places(
+        n,
+        s.gate_queue,
+        &s.held,
+        &s.queue,
+        &weights.places,
+        &weights.ramps,
+    )
+}
+
+// A weighted total with the present of one more step, on lent columns, where weights are asked for.
+pub fn added<'a, 'b>(
+    total: u64,
+    weighs: bool,
+    n: usize,
+    gate_queue: u32,
+    held: &'a [u32; 64],
+    queue: &'a [u32; 64],
+    places: &'b [u8; 65],
+    ramps: &'b [u8; 64],
+) -> u64
+    requires { ⌜ (total ≤ mostWeightedTotal) × (n ≤ mostCells) ⌝ }
+    ensures sum { λ r. ⌜ ((s : State) → Waiting «gate_queue» (now (held .entry)) (now (queue .entry)) s
+        → r ≡ total + cond weighs (weightedOf (at (now (places .entry))) (at (now (ramps .entry))) n s) 0) ⌝ }
+    ensures bound { λ r. ⌜ r ≤ total + mostWeighted ⌝ }
+{
+    if weighs {
+        return total + weighed_places(n, gate_queue, held, queue, places, ramps);
+    }
+    total
+}
+
+// The longest gate queues so far, with and without the step's arrivals.
+pub struct AtGate {
+    pub gate: u32,
+    pub waiting: u32,
+}
+
+fn less(a: u32, b: u32) -> u32
+    ensures { λ r. ⌜ r ≡ a - b ⌝ }
+{
+    if b < a { a - b } else { 0 }
+}
+
+fn larger(a: u32, b: u32) -> u32
+    ensures { λ r. ⌜ r ≡ max a b ⌝ }
+{
+    if a < b { b } else { a }
+}
+
+// Raises the longest queues of the first n cells to the queues given.
+fn raise_ramps(n: usize, queue: &[u32; 64], ramps: &mut [u32; 64])
+    requires { ⌜ n ≤ mostCells ⌝ }
+    ensures { λ _. ⌜ now (ramps .exit) ≡ fillOf (λ i. max (at (now (ramps .entry)) i) (at (now (queue .entry)) i)) n (now (ramps .entry)) ⌝ }
+{
+    let mut i = 0;
+    while i < n {
+        ramps[i] = larger(ramps[i], queue[i]);
+        i += 1;
+    }
+}
+
+// The longest queues with those after one step more, on a lent column; `before` and `after` are the ledgers of the states next to the step.
+pub fn raised(
+    known: AtGate,
+    before: Ledger,
+    after: Ledger,
+    n: usize,
+    queue: &[u32; 64],
+    ramps: &mut [u32; 64],
+) -> AtGate
+    requires { ⌜ n ≤ mostCells ⌝ }
+    ensures { λ g. ⌜ queuesOf (g .gate) (g .waiting) (now (ramps .exit)) ≡ raisedBy n (queuesOf (known .gate) (known .waiting) (now (ramps .entry)))
+        (before .«gate_queue» - (after .«gate_cumulative» - before .«gate_cumulative»)) (after .«gate_queue») (now (queue .entry)) ⌝ }
+{
+    raise_ramps(n, queue, ramps);
+    let sent = less(after.gate_cumulative, before.gate_cumulative);
+    AtGate {
+        gate: larger(known.gate, after.gate_queue),
+        waiting: larger(known.waiting, less(before.gate_queue, sent)),
+    }
+}
+
+// A refusal that names no state, with no step done.
+pub fn unbegun(refusal: Refusal, place: usize) -> Longest
+    ensures { λ e. ⌜ (e .ended ≡ withoutState refusal place) × (longestQueues e ≡ noQueues) ⌝ }
+{
+    let ended = Ended::without_state(refusal, place);
+    Longest {
+        ended: ended,
+        gate: 0,
+        waiting: 0,
+        ramps: [0; 64],
+    }
 }

@@ -1,5 +1,5 @@
 // Reads a record on standard input and prints its run whole.
-use road::Road;
+use model::Road;
 
 fn main() {
     let mut bytes = [0u8; Road::BYTES + 1];

@@ -4,20 +4,18 @@ use mathlib.Core.List.{List, _++_}
 use Prim.Native.Nat.{ℕ, _+_, _-_, _*_, _≤_, _<_}
 use native.Mathlib.Omega.{arith}
 use lib.ListN.{length, length-append, drop}
-use Rattle.numbers.specs.Lists.{at}
-use Rattle.rows.specs.Rows.{concatOf}
-use Rattle.rows.specs.Concat.{length-concat, concat-none, concat-more}
-use Rattle.rows.specs.Tables.{rowAt}
-use Rattle.rows.specs.TablesLaws.{mul-more, row-ends}
-use Rattle.rows.specs.Placed.{Puts, placed-none, placed-there, puts-more, length-placed}
-use Rattle.road.specs.Road.{mostCells}
-use Rattle.studies.specs.Study.{Study}
-use Rattle.fields.specs.Fields.{countSize, secondsSize, headerSize, cellSize, shortSize, numberSize, rowNumbers, rowSize, bytesOf}
+use Rattle.model.specs.Numbers.{at, concatOf, rowAt}
+use Rattle.numbers.specs.Concat.{length-concat, concat-none, concat-more}
+use Rattle.numbers.specs.TablesLaws.{mul-more, row-ends}
+use Rattle.numbers.specs.PlacedText.{Puts, placed-none, placed-there, puts-more, length-placed}
+use Rattle.model.specs.Road.{mostCells}
+use Rattle.model.specs.Schedules.{Study}
+use Rattle.model.specs.Record.{countSize, secondsSize, headerSize, cellSize, shortSize, numberSize, rowNumbers, rowSize, bytesOf}
 use Rattle.fields.specs.BytesLaws.{length-bytes}
-use Rattle.fields.specs.Stored.{Stored, stored-puts}
-use Rattle.header.specs.Header.{sizeOf}
-use Rattle.header.specs.HeaderLaws.{Counts}
-use Rattle.encoding.specs.Record.{headerOf, cellOf, numbersOf, recordSize, headerBytes, cellBytes, rowBytes, recordOf}
+use Rattle.fields.specs.BytesStored.{Stored, stored-puts}
+use Rattle.model.specs.Reading.{sizeOf}
+use Rattle.fields.specs.HeaderLaws.{Counts}
+use Rattle.model.specs.Encoding.{headerOf, cellOf, numbersOf, recordSize, headerBytes, cellBytes, rowBytes, recordOf}
 
 -- how long the parts are
 pub length-header : (version n T seconds capacity queue : ℕ) → length (headerOf version n T seconds capacity queue) ≡ headerSize version

@@ -1,15 +1,14 @@
 // The record's bytes, put into a target part by part.
-use road::Road;
-use road::Start;
+use model::Road;
+use model::Start;
 ghost use Prim.Native.Nat.{_+_, _*_, _≤_};
 ghost use lib.ListN.{length};
-ghost use Rattle.rows.specs.Rows.{concatOf};
-ghost use Rattle.rows.specs.Tables.{rowAt};
-ghost use Rattle.rows.specs.Placed.{Puts};
-ghost use Rattle.road.specs.Road.{mostCells, startState};
-ghost use Rattle.fields.specs.Fields.{headerSize, cellSize, numberSize, rowNumbers, rowSize};
-ghost use Rattle.header.specs.HeaderLaws.{Counts};
-ghost use Rattle.encoding.specs.Record.{headerOf, cellOf, numbersOf, cellBytes, rowBytes, recordOf, given};
+ghost use Rattle.model.specs.Numbers.{concatOf, rowAt};
+ghost use Rattle.numbers.specs.PlacedText.{Puts};
+ghost use Rattle.model.specs.Road.{mostCells, startState};
+ghost use Rattle.model.specs.Record.{headerSize, cellSize, numberSize, rowNumbers, rowSize};
+ghost use Rattle.fields.specs.HeaderLaws.{Counts};
+ghost use Rattle.model.specs.Encoding.{headerOf, cellOf, numbersOf, cellBytes, rowBytes, recordOf, given};
 ghost use Rattle.encoding.specs.Encoding.{Rows, Fits};
 
 // The header: the count of bytes after its first field, the version, n, T, the version's seconds, the gate's capacity and queue.

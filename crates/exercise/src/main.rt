@@ -1,5 +1,5 @@
 // The program for exercises: as `ctm`, for records of at most 8 cells and 4,096 bytes; more is refusal 26.
-use road::Road;
+use model::Road;
 
 const CELLS: usize = 8;
 

@@ -4,23 +4,28 @@ use mathlib.Core.Path.{_≡_, refl, ap, _∙_}
 use mathlib.Core.List.{List}
 use Prim.Native.Nat.{ℕ}
 use native.Mathlib.Omega.{arith}
-use Rattle.road.specs.declared.Fault.{Fault}
-use Rattle.road.specs.declared.Stepped.{Stepped}
-use Rattle.road.specs.declared.Written.{Written}
-use Rattle.road.specs.declared.Loaded.{Loaded}
-use Rattle.road.specs.Refusals.{refusalNumber, FaultAnswer, faultAnswer}
-use Rattle.load.specs.Load.{LoadAnswer, loadAnswer}
-use Rattle.wanted.specs.Wanted.{WantedAnswer}
-use Rattle.wanted.specs.Theorems.{Ends}
-use Rattle.model.specs.Step.{Answer}
-use Rattle.stepping.specs.StepAnswers.{stepAnswer}
-use Rattle.writing.specs.Writing.{WriteAnswer, writeAnswer}
+use Rattle.model.specs.declared.Fault.{Fault}
+use Rattle.model.specs.declared.Stepped.{Stepped}
+use Rattle.model.specs.declared.Written.{Written}
+use Rattle.model.specs.declared.Loaded.{Loaded}
+use Rattle.model.specs.Refusals.{refusalNumber, FaultAnswer, faultAnswer}
+use Rattle.model.specs.Load.{LoadAnswer, loadAnswer}
+use Rattle.model.specs.Wanted.{WantedAnswer, Ends}
+use Rattle.model.specs.Stepping.{Answer, stepAnswer}
+use Rattle.model.specs.Writing.{WriteAnswer, writeAnswer}
+use Rattle.model.specs.Running.{EndAnswer}
+use Rattle.model.specs.Longest.{Queues}
+use Rattle.exports.specs.declared.NobyalukLongest.{NobyalukLongest}
 use Rattle.exports.specs.declared.NobyalukStepped.{NobyalukStepped}
 use Rattle.exports.specs.declared.NobyalukWritten.{NobyalukWritten}
 use Rattle.exports.specs.declared.NobyalukLoaded.{NobyalukLoaded}
 use Rattle.exports.specs.declared.NobyalukWanted.{NobyalukWanted}
 use Rattle.exports.specs.declared.NobyalukReleased.{NobyalukReleased}
-use Rattle.exports.specs.Answers.{steppedFor, writtenFor, loadedFor, wantedFor, releasedFor}
+use Rattle.exports.specs.Answers.{longestFor, steppedFor, writtenFor, loadedFor, wantedFor, releasedFor}
+
+-- of running and filling with their longest queues
+pub longest-is : {r : NobyalukLongest} (e f : EndAnswer) (q p : Queues) → r ≡ longestFor e q → e ≡ f → q ≡ p → r ≡ longestFor f p
+longest-is e f q p h x y = h ∙ ap (λ (a : EndAnswer). longestFor a q) x ∙ ap (longestFor f) y
 
 -- of writing and joining
 pub written-is : (w : Written) {number : ℕ} {a : WriteAnswer} → number ≡ refusalNumber (w .refusal) → writeAnswer w ≡ a

@@ -1,7 +1,7 @@
 // The flow rules of one place, on any numbers.
 ghost use mathlib.Core.Path.{_≡_};
-ghost use Rattle.flow.specs.Flow.{demandOf, gateDemandOf, supplyOf, roomOf, onwardOf, enteringOf, outflowOf};
-ghost use Rattle.lanes.specs.Lanes.{openCapacity};
+ghost use Rattle.model.specs.Flow.{demandOf, gateDemandOf, supplyOf, roomOf, onwardOf, enteringOf, outflowOf};
+ghost use Rattle.model.specs.Lanes.{openCapacity};
 
 // What a cell can send in a step.
 #[no_mangle]

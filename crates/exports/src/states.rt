@@ -4,9 +4,9 @@ use freeway::State;
 use freeway::Weights;
 ghost use mathlib.Core.Path.{_≡_};
 ghost use Prim.Native.Nat.{min};
-ghost use Rattle.numbers.specs.Lists.{at};
-ghost use Rattle.road.specs.Road.{mostLong, totalOf};
-ghost use Rattle.timing.specs.Seconds.{vehicleSecondsOf};
+ghost use Rattle.model.specs.Numbers.{at};
+ghost use Rattle.model.specs.Road.{mostLong, totalOf};
+ghost use Rattle.model.specs.Words.{vehicleSecondsOf};
 ghost use Rattle.model.specs.Move.{heldSum, queueSum, presentOf, exitsOf};
 ghost use Rattle.model.specs.Weights.{weightedOf};
 

@@ -7,10 +7,9 @@ use native.Mathlib.Nat.{suc-mul, pow-suc, div-add-mod', div-lt-iff-lt-mul, eq-or
 use native.Mathlib.Omega.{arith}
 use lib.ListN.{length, take, drop, length-append, length-drop}
 use lib.Seq.{getD-at, getD-take, getD-drop, take-add, drop-drop, length-take-le, ext-getD}
-use Rattle.numbers.specs.Lists.{at}
-use Rattle.rows.specs.Rows.{concatOf}
-use Rattle.rows.specs.Concat.{at-first, at-second, concat-at}
-use Rattle.fields.specs.Fields.{numberOf, bytesOf}
+use Rattle.model.specs.Numbers.{at, concatOf}
+use Rattle.numbers.specs.Concat.{at-first, at-second, concat-at}
+use Rattle.model.specs.Record.{numberOf, bytesOf}
 
 -- the bytes 1, 2, 3, 4 are 16,909,060
 on-paper : numberOf (1 ∷ 2 ∷ 3 ∷ 4 ∷ []) 0 4 ≡ 16909060

@@ -1,22 +1,25 @@
 -- Laws of the record's fields. Assumes nothing.
+use mathlib.Core.List.{List}
+use Prim.Native.Nat.{ℕ, _+_, _≤_, _*_, _^_, _<_}
+use lib.ListN.{length, take, drop, set}
 use mathlib.Core.Path.{_≡_, refl, ap, _∙_}
 use mathlib.Core.Bool.{Bool, true, false, cond}
-use mathlib.Core.List.{List}
-use Prim.Native.Nat.{ℕ, _+_, _*_, _^_, _≤_, _<_}
 use native.Mathlib.Nat.{pow-suc, pow-le-pow-right, mul-le-mul, mul-le-mul-right, suc-mul}
 use native.Mathlib.Numerals.{add-one}
 use native.Mathlib.Omega.{arith}
 use lib.Dec.{eqb}
 use borrow.Author.Tests.{eq-eqb, ne-eqb}
-use lib.ListN.{length, take, drop, set}
 use lib.Seq.{take-at}
-use Rattle.numbers.specs.Lists.{at}
-use Rattle.road.specs.Road.{mostCells, mostSteps, zeros}
-use Rattle.road.specs.RoadLaws.{length-zeros, zeros-at}
-use Rattle.rows.specs.Rows.{fillOf}
-use Rattle.rows.specs.RowsLaws.{fill-at, fill-more, fill-past, fill-list, length-fill, length-list, list-at}
-use Rattle.fields.specs.Fields.{shortSize, secondVersion, versionOf, secondsSize, cellSize, rowSize, rowStart}
-use Rattle.fields.specs.Fields.{numberOf, fieldOf, columnOf, entryOf, recordRow, HoldsRow}
+use Rattle.model.specs.Road.{mostCells, mostSteps, zeros}
+use Rattle.model.specs.Record.{versionOf, rowSize, rowStart, shortSize, secondVersion, secondsSize, cellSize, numberOf, fieldOf, columnOf, entryOf, recordRow}
+use Rattle.model.specs.Numbers.{at, fillOf}
+use Rattle.numbers.specs.Zeros.{length-zeros, zeros-at}
+use Rattle.numbers.specs.RowsLaws.{fill-at, fill-more, fill-past, fill-list, length-fill, length-list, list-at}
+
+-- what taking the row of step t of n cells asks: the bytes hold it
+pub record HoldsRow (s : List ℕ) (n t : ℕ) : Type 0 where
+  pub cells : n ≤ mostCells
+  pub row : rowStart (versionOf s) n t + rowSize n ≤ length s
 
 pub number-more : (s : List ℕ) (i w : ℕ) → numberOf s i (w + 1) ≡ numberOf s i w * 256 + at s (i + w)
 unfolding numberOf

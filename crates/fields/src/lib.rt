@@ -1,11 +1,14 @@
-// The layout of the model's record, and the numbers, columns and rows of its bytes, read and stored.
+// Numbers, columns and rows of a record's bytes, and the header's tests of 1, 2, 3, 19 and 26.
+use model::Road;
 ghost use mathlib.Core.Path.{_≡_};
 ghost use Prim.Native.Nat.{_+_, _*_, _^_, _≤_, _<_};
 ghost use lib.ListN.{length, take};
-ghost use Rattle.road.specs.Road.{mostCells};
-ghost use Rattle.fields.specs.Fields.{shortSize, numberSize, versionOffset, versionOf, secondsSize, secondsOf, headerSize, cellSize, rowStart};
-ghost use Rattle.fields.specs.Fields.{numberOf, columnOf, recordRow, HoldsRow};
-ghost use Rattle.fields.specs.Stored.{Stored};
+ghost use Rattle.model.specs.Road.{mostCells};
+ghost use Rattle.model.specs.Record.{shortSize, numberSize, versionOffset, versionOf, secondsSize, secondsOf, headerSize, cellSize, rowStart, numberOf, columnOf, recordRow};
+ghost use Rattle.fields.specs.FieldsLaws.{HoldsRow};
+ghost use Rattle.fields.specs.BytesStored.{Stored};
+ghost use Rattle.model.specs.Numbers.{oneOf};
+ghost use Rattle.model.specs.Reading.{bothVersions, lengthOk, cellsAndStepsOk, secondsOk, callerOk};
 
 // The versions of the layout: version 2 has two more bytes after byte 7, and all that follows stands two bytes later.
 pub const FIRST_VERSION: u8 = 1;
@@ -219,4 +222,50 @@ pub fn put_number(target: &mut [u8], at: usize, x: u32) -> usize
     target[at + 2] = (x / 256 % 256) as u8;
     target[at + 3] = (x % 256) as u8;
     at + NUMBER_SIZE
+}
+
+// Whether the length is within its limits and the first field counts the bytes after it.
+pub fn length_within(bytes: &[u8]) -> bool
+    ensures { λ r. ⌜ r ≡ lengthOk bothVersions (now (bytes .entry)) ⌝ }
+{
+    if bytes.len() < HEADER_SIZE {
+        return false;
+    }
+    if bytes.len() < header_size(version(bytes)) {
+        return false;
+    }
+    if Road::BYTES < bytes.len() {
+        return false;
+    }
+    number(bytes, 0, COUNT_SIZE) as usize == bytes.len() - COUNT_SIZE
+}
+
+// Whether a record may have this version.
+pub fn version_known(version: u8) -> bool
+    ensures { λ r. ⌜ r ≡ oneOf bothVersions version ⌝ }
+{
+    (version == FIRST_VERSION) | (version == SECOND_VERSION)
+}
+
+pub fn cells_and_steps_within(n: usize, steps: usize) -> bool
+    ensures { λ r. ⌜ r ≡ cellsAndStepsOk n steps ⌝ }
+{
+    (1 <= n) & ((n <= Road::CELLS) & ((1 <= steps) & (steps <= Road::STEPS)))
+}
+
+// Whether the step's seconds are within their limits, where the version has them.
+pub fn seconds_within(version: u8, seconds: u16) -> bool
+    ensures { λ r. ⌜ r ≡ secondsOk version seconds ⌝ }
+{
+    if version == SECOND_VERSION {
+        return (1 <= seconds) & (seconds <= Road::SECONDS);
+    }
+    true
+}
+
+// Whether a caller that takes at most `cells` cells and `most` bytes takes n cells and `size` bytes.
+pub fn caller_within(cells: usize, most: usize, n: usize, size: usize) -> bool
+    ensures { λ r. ⌜ r ≡ callerOk cells most n size ⌝ }
+{
+    (n <= cells) & (size <= most)
 }

@@ -5,20 +5,19 @@ use Prim.Native.Nat.{ℕ, zero, suc, _+_, _*_, _≤_, _<_}
 use native.Mathlib.Nat.{le-refl}
 use native.Mathlib.Omega.{arith}
 use lib.ListN.{length}
-use Rattle.numbers.specs.Lists.{at}
-use Rattle.rows.specs.RowsLaws.{length-fill}
-use Rattle.road.specs.Road.{mostCells}
-use Rattle.road.specs.RoadLaws.{length-zeros, zeros-at}
-use Rattle.studies.specs.Study.{Study, roadAt}
-use Rattle.meter.specs.declared.Law.{Law}
-use Rattle.meter.specs.Meter.{wishOf, wholeBelow, lawAt}
+use Rattle.model.specs.Numbers.{at}
+use Rattle.numbers.specs.RowsLaws.{length-fill}
+use Rattle.model.specs.Road.{mostCells}
+use Rattle.numbers.specs.Zeros.{length-zeros, zeros-at}
+use Rattle.model.specs.Schedules.{Study, roadAt, engineAfter, outflowsAt}
+use Rattle.model.specs.declared.Law.{Law}
+use Rattle.model.specs.Meter.{wishOf, wholeBelow, lawAt}
 use Rattle.model.specs.Places.{releaseAt, enteringAt}
-use Rattle.model.specs.Runs.{engineAfter, outflowsAt}
-use Rattle.model.specs.Roads.{step-row}
-use Rattle.model.specs.RunsLaws.{StudyOk, Shared, shared-less, engine-shared, outflows-shared}
-use Rattle.ramps.specs.Ramps.{Metered, capAt, meteredOf}
+use Rattle.theory.specs.Roads.{step-row}
+use Rattle.theory.specs.RunsLaws.{StudyOk, Shared, shared-less, engine-shared, outflows-shared}
+use Rattle.model.specs.Ramps.{Metered, capAt, meteredOf}
 use Rattle.ramps.specs.RampsLaws.{granted, filled-release, filled-most, last-release, last-entry}
-use Rattle.filling.specs.Filling.{meteredAfter, grantedIn, filledRows, filledStudy}
+use Rattle.model.specs.Filling.{meteredAfter, grantedIn, filledRows, filledStudy}
 use Rattle.filling.specs.FillingLaws.{filled-road, filled-run}
 
 -- the last release at the cell at i before step t, and what entered it from upstream in the last step; before the first step both are 0

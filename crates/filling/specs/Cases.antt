@@ -7,14 +7,14 @@ use Prim.Native.Nat.{ℕ, _≤_, _<_}
 use native.Mathlib.Omega.{arith}
 use lib.ListN.{length}
 use borrow.Author.Tests.{eq-eqb, ne-eqb, le-leb, lt-leb}
-use Rattle.numbers.specs.First.{unless}
+use Rattle.model.specs.Numbers.{unless}
 use Rattle.numbers.specs.Tests.{fault-elim, order}
-use Rattle.studies.specs.Study.{Study, tableSize}
-use Rattle.meter.specs.declared.Law.{Law}
-use Rattle.reading.specs.Reading.{readingOf, studyOf}
-use Rattle.schedules.specs.Schedules.{EndAnswer, ended, noState, lanesFault, tableOf}
-use Rattle.schedules.specs.Demand.{Taken}
-use Rattle.filling.specs.Filling.{meteredAfter, filledStudy, filledBytes, lawPlace, fillingOf, recordAfter, filledList}
+use Rattle.model.specs.Schedules.{Study, tableSize}
+use Rattle.model.specs.declared.Law.{Law}
+use Rattle.model.specs.Reading.{readingOf, studyOf}
+use Rattle.model.specs.Running.{EndAnswer, ended, noState, lanesFault, tableOf}
+use Rattle.model.specs.Demand.{Taken}
+use Rattle.model.specs.Filling.{meteredAfter, filledStudy, filledBytes, lawPlace, fillingOf, recordAfter, filledList}
 
 module _ (laws : List Law) (bytes lanes list : List ℕ) where
   abbrev a : Study

@@ -3,25 +3,44 @@ use mathlib.Core.Path.{_≡_, refl, sym, ap, _∙_}
 use mathlib.Core.List.{List}
 use Prim.Native.Nat.{ℕ, _≤_, _<_}
 use lib.ListN.{length}
-use Rattle.road.specs.Refusals.{FaultAnswer}
-use Rattle.road.specs.declared.State.{State}
-use Rattle.studies.specs.Study.{Study, tableSize}
-use Rattle.meter.specs.declared.Law.{Law}
-use Rattle.meter.specs.Meter.{lawFaultOf}
-use Rattle.model.specs.Step.{tableFault}
-use Rattle.reading.specs.Reading.{ReadAnswer, readingOf, studyBy, studyOf}
-use Rattle.patching.specs.Releases.{putTable}
-use Rattle.schedules.specs.Schedules.{EndAnswer, ended, noState, lanesFault, tableOf}
-use Rattle.schedules.specs.Demand.{Taken, Promised}
-use Rattle.filling.specs.Filling.{meteredAfter, grantedIn, filledStudy, filledBytes, lawPlace, fillingOf, recordAfter, filledList}
+use Rattle.model.specs.Refusals.{FaultAnswer}
+use Rattle.model.specs.declared.State.{State}
+use Rattle.model.specs.Schedules.{Study, tableSize}
+use Rattle.model.specs.declared.Law.{Law}
+use Rattle.model.specs.Meter.{lawFaultOf}
+use Rattle.model.specs.Stepping.{tableFault}
+use Rattle.model.specs.Reading.{ReadAnswer, readingOf, studyBy, studyOf}
+use Rattle.model.specs.Ramps.{putTable}
+use Rattle.model.specs.Running.{EndAnswer, ended, noState, lanesFault, tableOf}
+use Rattle.model.specs.Demand.{Taken, Promised}
+use Rattle.model.specs.Filling.{meteredAfter, grantedIn, filledStudy, filledBytes, lawPlace, fillingOf, recordAfter, filledList, OnlyReleases}
 use Rattle.filling.specs.Cases.{Leaves, fills-refused, fills-law, fills-closed, fills-short, fills-all}
-use Rattle.filling.specs.Theorems.{OnlyReleases, only-releases, filled-promised}
+use Rattle.model.specs.Longest.{Queues, longestFill}
+use Rattle.counts.specs.Longest.{noQueues}
+use Rattle.filling.specs.LongestFill.{longestFilled, longest-refused, longest-all}
+use Rattle.filling.specs.Theorems.{only-releases, filled-promised}
 
 -- the answer, the record and the list at exit, and what they are worth
 abbrev pub Promise : List Law → List ℕ → List ℕ → List ℕ → EndAnswer → List ℕ → List ℕ → Type 0
 Promise laws bytes lanes list e after out =
     (e ≡ fillingOf laws bytes lanes list) × ((after ≡ recordAfter laws bytes lanes list) × ((out ≡ filledList laws bytes lanes list)
     × ((Taken bytes lanes → Promised after lanes out e) × OnlyReleases bytes after)))
+
+-- with what is said of the longest queues
+abbrev pub LongestPromise : List Law → List ℕ → List ℕ → List ℕ → EndAnswer → List ℕ → List ℕ → Type 0 → Type 0
+LongestPromise laws bytes lanes list e after out longest =
+    (e ≡ fillingOf laws bytes lanes list) × ((after ≡ recordAfter laws bytes lanes list) × ((out ≡ filledList laws bytes lanes list)
+    × ((Taken bytes lanes → Promised after lanes out e) × (OnlyReleases bytes after × longest))))
+
+pub with-longest : {A B C D E F : Type 0} → A × (B × (C × (D × E))) → F → A × (B × (C × (D × (E × F))))
+with-longest p q = (p .0, (p .1 .0, (p .1 .1 .0, (p .1 .1 .1 .0, (p .1 .1 .1 .1, q)))))
+
+-- a refusal, which does no step
+pub refused-longest : (laws : List Law) (bytes lanes list : List ℕ) (number place : ℕ) {A : Type 0} {e : EndAnswer} {after out : List ℕ} {q : Queues}
+    → (number ≡ 0 → ⊥) → e ≡ noState number place → Promise laws bytes lanes list e after out → q ≡ noQueues
+    → LongestPromise laws bytes lanes list e after out (A → q ≡ longestFill laws bytes lanes list)
+refused-longest laws bytes lanes list number place d ee p eq =
+    (p .0, (p .1 .0, (p .1 .1 .0, (p .1 .1 .1 .0, (p .1 .1 .1 .1, λ asked. eq ∙ sym (longest-refused laws bytes lanes list number place d ee (p .0)))))))
 
 promise : {laws : List Law} {bytes lanes list : List ℕ} {e x : EndAnswer} {after out left written : List ℕ} → Leaves laws bytes lanes list x left written
     → e ≡ x → after ≡ left → out ≡ written → Promise laws bytes lanes list e after out
@@ -85,3 +104,7 @@ module _ (laws : List Law) (bytes lanes list : List ℕ) {x : ReadAnswer} (ex : 
         unfolding filledBytes
         promise-all l ee ea eo et =
             promise (fills-all laws bytes lanes list reads finite opens (rw ex at l)) (ee ∙ ap (ended 0 0 0 (x .road)) et ∙ rw ex) (rw ex at ea) (rw ex at eo)
+
+        pub longs-all : {A : Type 0} {q : Queues} → tableSize (studyBy bytes lanes (x .road) (x .state) (x .steps)) ≤ length list
+            → (A → q ≡ longestFilled laws (studyBy bytes lanes (x .road) (x .state) (x .steps))) → A → q ≡ longestFill laws bytes lanes list
+        longs-all l e asked = rw ex at (e asked) ∙ sym (longest-all laws bytes lanes list reads finite opens (rw ex at l))

@@ -7,20 +7,19 @@ use native.Mathlib.Nat.{le-refl}
 use native.Mathlib.Omega.{arith}
 use lib.Dec.{leb, eqb}
 use lib.ListN.{length}
-use Rattle.numbers.specs.First.{unless}
-use Rattle.studies.specs.Study.{Study, roadAt, tableSize}
-use Rattle.meter.specs.declared.Law.{Law}
-use Rattle.model.specs.Step.{tableFault}
-use Rattle.model.specs.StepLaws.{number-of}
-use Rattle.model.specs.RunsLaws.{Shared}
-use Rattle.reading.specs.Reading.{readingOf, studyOf}
-use Rattle.patching.specs.Releases.{putTable}
-use Rattle.patching.specs.ReleasesLaws.{put-same}
-use Rattle.schedules.specs.Schedules.{EndAnswer, ended, noState}
-use Rattle.schedules.specs.TableLaws.{table-shared}
-use Rattle.schedules.specs.Unclosed.{AllOpen, empty-one, open-passes, open-one}
-use Rattle.ramps.specs.Ramps.{Metered, unmetered, grantedAt, meteredOf}
-use Rattle.filling.specs.Filling.{meteredAfter, grantedIn, filledStudy, lawPlace, filledBytes, fillingOf, recordAfter, filledList}
+use Rattle.model.specs.Numbers.{unless}
+use Rattle.model.specs.Schedules.{Study, roadAt, tableSize}
+use Rattle.model.specs.declared.Law.{Law}
+use Rattle.model.specs.Stepping.{tableFault}
+use Rattle.theory.specs.StepLaws.{number-of}
+use Rattle.theory.specs.RunsLaws.{Shared}
+use Rattle.model.specs.Reading.{readingOf, studyOf}
+use Rattle.model.specs.Ramps.{putTable, Metered, unmetered, grantedAt, meteredOf}
+use Rattle.put.specs.ReleasesLaws.{put-same}
+use Rattle.model.specs.Running.{EndAnswer, ended, noState}
+use Rattle.theory.specs.TableLaws.{table-shared}
+use Rattle.theory.specs.NoClosures.{AllOpen, empty-one, open-passes, open-one}
+use Rattle.model.specs.Filling.{meteredAfter, grantedIn, filledStudy, lawPlace, filledBytes, fillingOf, recordAfter, filledList}
 use Rattle.filling.specs.FillingLaws.{filled-road}
 
 -- what the wishes of step k go by, and the release of the cell at i in it, on one road

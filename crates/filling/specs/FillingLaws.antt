@@ -3,20 +3,18 @@ use mathlib.Core.Path.{_≡_, refl}
 use mathlib.Core.List.{List}
 use Prim.Native.Nat.{ℕ, zero, suc, _^_, _≤_, _<_}
 use native.Mathlib.Omega.{arith}
-use Rattle.road.specs.Refusals.{fault}
-use Rattle.studies.specs.Study.{Study, roadAt}
+use Rattle.model.specs.Refusals.{fault}
+use Rattle.model.specs.Schedules.{Study, roadAt, Released, engineAfter}
 use Rattle.limits.specs.LimitsLaws.{RowOk}
-use Rattle.meter.specs.declared.Law.{Law}
-use Rattle.model.specs.Rules.{Released}
-use Rattle.model.specs.StepLaws.{number-of, fit-releases}
-use Rattle.model.specs.Runs.{engineAfter}
-use Rattle.model.specs.Roads.{step-row, row-back}
-use Rattle.model.specs.RunsLaws.{StudyOk, Reached}
-use Rattle.schedules.specs.Schedules.{runSays}
-use Rattle.schedules.specs.SchedulesLaws.{run-reached}
-use Rattle.ramps.specs.Ramps.{meteredOf}
+use Rattle.model.specs.declared.Law.{Law}
+use Rattle.theory.specs.StepLaws.{number-of, fit-releases}
+use Rattle.theory.specs.Roads.{step-row, row-back}
+use Rattle.theory.specs.RunsLaws.{StudyOk, Reached}
+use Rattle.model.specs.Running.{runSays}
+use Rattle.theory.specs.SchedulesLaws.{run-reached}
+use Rattle.model.specs.Ramps.{meteredOf}
 use Rattle.ramps.specs.RampsLaws.{granted-small, filled-fits, filled-row}
-use Rattle.filling.specs.Filling.{meteredAfter, grantedIn, filledRows, filledStudy}
+use Rattle.model.specs.Filling.{meteredAfter, grantedIn, filledRows, filledStudy}
 
 module _ (laws : List Law) (a : Study) where
   -- the road of a step stays

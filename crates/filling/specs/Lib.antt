@@ -1,12 +1,11 @@
-pub mod Filling
 pub mod FillingLaws
 pub mod Turn
-pub mod Filled
+pub mod FillingLoop
 pub mod Rerun
 pub mod Cases
+pub mod LongestFill
 pub mod ByLaw
 pub mod Theorems
 pub mod FilledPromise
 pub mod FilledUnclosed
-pub mod FilledNotEmpty
-pub mod Refilled
+pub mod FillingAgain

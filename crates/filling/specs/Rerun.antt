@@ -4,25 +4,23 @@ use mathlib.Core.List.{List}
 use Prim.Native.Nat.{ℕ, _≤_, _<_}
 use native.Mathlib.Omega.{arith}
 use lib.ListN.{length}
-use Rattle.studies.specs.Study.{Study, roadAt, tableSize}
+use Rattle.model.specs.Schedules.{Study, roadAt, tableSize, engineAfter}
 use Rattle.limits.specs.LimitsLaws.{row-ok}
-use Rattle.fields.specs.Fields.{recordRow}
-use Rattle.meter.specs.declared.Law.{Law}
-use Rattle.reading.specs.Reading.{ReadAnswer, readingOf, studyBy, studyOf}
-use Rattle.patching.specs.Releases.{releasedRow}
-use Rattle.patching.specs.ReleasesLaws.{PutTable, put-table, table-head}
-use Rattle.patching.specs.Same.{rows-replaced}
-use Rattle.model.specs.StepLaws.{number-of}
-use Rattle.model.specs.Runs.{engineAfter}
-use Rattle.model.specs.RunsLaws.{StudyOk, Shared, shared-less, engine-shared}
-use Rattle.schedules.specs.Schedules.{runSays, firstStep, ended, lanesFault, runEnd, runningOf, tableOf, runTable, listAfter}
-use Rattle.schedules.specs.SchedulesLaws.{step-none, end-all}
-use Rattle.schedules.specs.TableLaws.{table-shared}
-use Rattle.schedules.specs.Ends.{runs-long, writes-long}
-use Rattle.schedules.specs.Demand.{Taken}
-use Rattle.schedules.specs.Readable.{readable}
-use Rattle.ramps.specs.Ramps.{filledRow}
-use Rattle.filling.specs.Filling.{meteredAfter, grantedIn, filledRows, filledStudy, filledBytes}
+use Rattle.model.specs.Record.{recordRow}
+use Rattle.model.specs.declared.Law.{Law}
+use Rattle.model.specs.Reading.{ReadAnswer, readingOf, studyBy, studyOf}
+use Rattle.model.specs.Ramps.{releasedRow, filledRow}
+use Rattle.put.specs.ReleasesLaws.{PutTable, put-table, table-head}
+use Rattle.put.specs.SameReading.{rows-replaced}
+use Rattle.theory.specs.StepLaws.{number-of}
+use Rattle.theory.specs.RunsLaws.{StudyOk, Shared, shared-less, engine-shared}
+use Rattle.model.specs.Running.{runSays, firstStep, ended, lanesFault, runEnd, runningOf, tableOf, listAfter}
+use Rattle.theory.specs.SchedulesLaws.{runTable, step-none, end-all}
+use Rattle.theory.specs.TableLaws.{table-shared}
+use Rattle.theory.specs.RunEnds.{runs-long, writes-long}
+use Rattle.model.specs.Demand.{Taken}
+use Rattle.theory.specs.Readable.{readable}
+use Rattle.model.specs.Filling.{meteredAfter, grantedIn, filledRows, filledStudy, filledBytes}
 use Rattle.filling.specs.FillingLaws.{filled-run, releases-small, filled-ok, filled-passes}
 
 module _ (laws : List Law) (bytes lanes : List ℕ) (taken : Taken bytes lanes) where

@@ -5,42 +5,23 @@ use mathlib.Core.List.{List}
 use Prim.Native.Nat.{ℕ, _≤_, _<_}
 use native.Mathlib.Omega.{arith}
 use lib.ListN.{length}
-use Rattle.numbers.specs.Lists.{at}
-use Rattle.numbers.specs.First.{oneOf}
-use Rattle.road.specs.Refusals.{began}
-use Rattle.studies.specs.Study.{Study, roadAt, tableSize}
-use Rattle.fields.specs.Fields.{numberSize, versionOf, entryStart, recordRow}
-use Rattle.meter.specs.declared.Law.{Law}
-use Rattle.reading.specs.Reading.{readingOf, studyOf}
+use Rattle.model.specs.Numbers.{oneOf}
+use Rattle.model.specs.Refusals.{began}
+use Rattle.model.specs.Schedules.{Study, roadAt, tableSize}
+use Rattle.model.specs.declared.Law.{Law}
+use Rattle.model.specs.Reading.{readingOf, studyOf}
 use Rattle.model.specs.Places.{gateArrivals, arrivalsAt}
-use Rattle.patching.specs.Bytes.{Outside}
-use Rattle.patching.specs.Releases.{releaseNumber}
-use Rattle.model.specs.RunsLaws.{StudyOk, shared-less}
-use Rattle.schedules.specs.Schedules.{EndAnswer, runningOf, listAfter}
-use Rattle.schedules.specs.Ends.{runs-refused, writes-refused, runs-closed, writes-closed, runs-short, writes-short}
-use Rattle.schedules.specs.Readable.{readable}
-use Rattle.schedules.specs.Demand.{Taken, Promised}
-use Rattle.schedules.specs.Whole.{unbegun, promised}
+use Rattle.model.specs.Filling.{meteredAfter, filledBytes, lawPlace, fillingOf, recordAfter, filledList, OnlyReleases}
+use Rattle.theory.specs.RunsLaws.{StudyOk, shared-less}
+use Rattle.model.specs.Running.{EndAnswer, runningOf, listAfter}
+use Rattle.theory.specs.RunEnds.{runs-refused, writes-refused, runs-closed, writes-closed, runs-short, writes-short}
+use Rattle.theory.specs.Readable.{readable}
+use Rattle.model.specs.Demand.{Taken, Promised}
+use Rattle.theory.specs.DemandWhole.{unbegun, promised}
 use Rattle.ramps.specs.RampsLaws.{filled-gate, filled-arrivals}
-use Rattle.filling.specs.Filling.{meteredAfter, filledBytes, lawPlace, fillingOf, recordAfter, filledList}
 use Rattle.filling.specs.Rerun.{filled-table, filled-rows, filled-reads, same-study, filled-shared, filled-taken, filled-runs, filled-writes}
 use Rattle.filling.specs.Cases.{Leaves, fills-refused, fills-law, fills-closed, fills-short, fills-all, Case, case-of}
 use Rattle.filling.specs.ByLaw.{ByLaw, filled-by-law, shared-by-law}
-
--- a record that differs from another in its releases alone
-pub record OnlyReleases (bytes after : List ℕ) : Type 0 where
-  pub size : length after ≡ length bytes
-  -- every byte that is no release's is as it was
-  pub byte : (b : ℕ)
-      → ((t i : ℕ) → t < readingOf bytes .steps → i < readingOf bytes .road .n
-      → Outside b (entryStart (versionOf bytes) (readingOf bytes .road .n) t (releaseNumber i)) numberSize)
-      → at after b ≡ at bytes b
-  -- road, T and start read the same, and so do the arrivals
-  pub reads : readingOf after ≡ readingOf bytes
-  pub gate : (t : ℕ) → t < readingOf bytes .steps
-      → gateArrivals (recordRow after (readingOf bytes .road .n) t) ≡ gateArrivals (recordRow bytes (readingOf bytes .road .n) t)
-  pub arrivals : (t i : ℕ) → t < readingOf bytes .steps
-      → arrivalsAt (recordRow after (readingOf bytes .road .n) t) i ≡ arrivalsAt (recordRow bytes (readingOf bytes .road .n) t) i
 
 unchanged : (bytes : List ℕ) → OnlyReleases bytes bytes
 unchanged bytes = record { size = refl; byte = λ b o. refl; reads = refl; gate = λ t l. refl; arrivals = λ t i l. refl }

@@ -1,5 +1,5 @@
 -- One step of filling: what it asks, what it gives, and what is kept from step to step. Assumes nothing.
-use mathlib.Core.Path.{_≡_, refl, sym, ap, _∙_}
+use mathlib.Core.Path.{_≡_, sym, ap, _∙_}
 use mathlib.Core.List.{List}
 use Prim.Native.Nat.{ℕ, suc, _+_, _*_, _≤_, _<_}
 use native.Mathlib.Nat.{le-refl}
@@ -7,31 +7,29 @@ use native.Mathlib.Numerals.{add-one}
 use native.Mathlib.Omega.{arith}
 use lib.Ieee.{Float}
 use lib.ListN.{length}
-use Rattle.numbers.specs.Lists.{at}
-use Rattle.rows.specs.Rows.{fillOf}
-use Rattle.rows.specs.RowsLaws.{fill-at, length-fill}
-use Rattle.road.specs.declared.Road.{Road}
-use Rattle.road.specs.declared.State.{State}
+use Rattle.model.specs.Numbers.{at, fillOf}
+use Rattle.numbers.specs.RowsLaws.{fill-at, length-fill}
+use Rattle.model.specs.declared.Road.{Road}
+use Rattle.model.specs.declared.State.{State}
 use Rattle.limits.specs.LimitsLaws.{RowOk}
-use Rattle.fields.specs.Fields.{numberSize, numberOf, versionOf, rowStart, recordRow, HoldsRow}
-use Rattle.fields.specs.FieldsLaws.{row-at}
-use Rattle.meter.specs.declared.Law.{Law}
+use Rattle.model.specs.Record.{numberSize, numberOf, versionOf, rowStart, recordRow}
+use Rattle.fields.specs.FieldsLaws.{HoldsRow, row-at}
+use Rattle.model.specs.declared.Law.{Law}
 use Rattle.meter.specs.LawColumns.{InColumns}
 use Rattle.model.specs.Places.{gateArrivals, enteringAt}
 use Rattle.model.specs.Move.{heldOf, cumulativeOf, movedTo, countedOf}
-use Rattle.model.specs.Rules.{outflowsOf}
-use Rattle.model.specs.RulesLaws.{outflows-obey, demand-at-cell}
-use Rattle.columns.specs.Columns.{roadOf}
-use Rattle.moves.specs.Asked.{Steppable}
+use Rattle.model.specs.Schedules.{outflowsOf}
+use Rattle.theory.specs.RulesLaws.{outflows-obey, demand-at-cell}
+use Rattle.outflows.specs.Columns.{roadOf}
+use Rattle.stepping.specs.StepNeeds.{Steppable}
 use Rattle.passes.specs.Rest.{restOf}
-use Rattle.passes.specs.Supplies.{NoRamp, Supplies, supplyIn, supply-model}
-use Rattle.passes.specs.RampList.{Listed}
-use Rattle.passes.specs.Next.{Ready, Stepped}
-use Rattle.patching.specs.Releases.{putReleases}
-use Rattle.patching.specs.ReleasesLaws.{PutRow, put-releases}
-use Rattle.ramps.specs.Ramps.{Metered, metered, grantedAt, filledRow, meteredOf}
+use Rattle.passes.specs.Supplies.{NoRamp, Supplies, supplyIn, supply-model, demandIn}
+use Rattle.passes.specs.RampList.{Listed, AtRamps}
+use Rattle.passes.specs.Next.{NextAsks, demands-are, Stepped}
+use Rattle.model.specs.Ramps.{putReleases, Metered, metered, grantedAt, filledRow, meteredOf}
+use Rattle.put.specs.ReleasesLaws.{PutRow, put-releases}
 use Rattle.ramps.specs.RampsLaws.{granted-small, filled-release, last-release, last-entry}
-use Rattle.ramps.specs.Grants.{ramped, Lasts, Grants, Granted}
+use Rattle.ramps.specs.Grants.{Lasts, GrantAsks, Granted}
 
 -- the arrays of the loop over the steps beside the state's
 pub record Arrays : Type 0 where
@@ -57,6 +55,7 @@ arrays cell rest room release waits came demand = record {
 -- what is kept of them: the cells with a ramp are listed, with what the last step left there; the rests are those of b × F; all have an entry for each cell
 pub record Kept (n : ℕ) (share ramp : List ℕ) (m : Metered) (ramps : ℕ) (w : Arrays) : Type 0 where
   pub listed : Listed (NoRamp ramp) n ramps (w .cell)
+  pub ramped : AtRamps ramp ramps (w .cell)
   pub lasts : Lasts m ramps (w .cell) (w .release) (w .came)
   pub rests : (i : ℕ) → i < n → at (w .rest) i ≡ restOf (at share i) (at (m .state .cumulative) i)
   pub longReleases : n ≤ length (m .releases)
@@ -74,7 +73,7 @@ kept-on en es er em h = rw (en, es, er, em) h
 
 -- what filling a step asks: the bytes hold its row, which is within its limits, a step by the filled row may be made, the laws are in columns, and y
 -- has room for its outflows
-pub record FillsRow (laws : List Law) (bytes : List ℕ) (q : Road) (m : Metered) (k : ℕ) (kinds : List ℕ) (numbers : List Float) (ramps : ℕ) (w : Arrays)
+pub record FillAsks (laws : List Law) (bytes : List ℕ) (q : Road) (m : Metered) (k : ℕ) (kinds : List ℕ) (numbers : List Float) (ramps : ℕ) (w : Arrays)
     (y : List ℕ) : Type 0 where
   pub held : HoldsRow bytes (q .n) k
   pub row : RowOk q (recordRow bytes (q .n) k)
@@ -84,13 +83,13 @@ pub record FillsRow (laws : List Law) (bytes : List ℕ) (q : Road) (m : Metered
   pub places : length y ≡ q .n + 1
 
 -- that, by some laws and on some road with these columns
-pub record FillsLent (bytes : List ℕ) (k n gate : ℕ) (speed wave share ramp jam capacity kinds : List ℕ) (numbers : List Float) (s : State) (ramps : ℕ)
+pub record FillLent (bytes : List ℕ) (k n gate : ℕ) (speed wave share jam capacity kinds : List ℕ) (numbers : List Float) (s : State) (ramps : ℕ)
     (w : Arrays) (y : List ℕ) : Type 0 where
   pub laws : List Law
   pub road : Road
   pub releases : List ℕ
   pub entries : List ℕ
-  pub fills : FillsRow laws bytes (roadOf (ramped road ramp) n gate speed wave share jam capacity) (metered s releases entries) k kinds numbers ramps w y
+  pub fills : FillAsks laws bytes (roadOf road n gate speed wave share jam capacity) (metered s releases entries) k kinds numbers ramps w y
 
 -- what filling a step gives: the bytes with its releases, the state after it, its outflows, and what is kept
 pub record FilledRow (laws : List Law) (bytes : List ℕ) (q : Road) (m : Metered) (k : ℕ) (put : List ℕ) (t : State) (ramps : ℕ) (w : Arrays) (y : List ℕ)
@@ -101,7 +100,7 @@ pub record FilledRow (laws : List Law) (bytes : List ℕ) (q : Road) (m : Metere
   pub kept : Kept (q .n) (q .share) (q .ramp) (meteredOf laws q m (recordRow bytes (q .n) k)) ramps w
 
 module _ {laws : List Law} {bytes : List ℕ} {q : Road} {m : Metered} {k : ℕ} {kinds : List ℕ} {numbers : List Float} {ramps : ℕ} {w : Arrays} {y₀ : List ℕ}
-    (f : FillsRow laws bytes q m k kinds numbers ramps w y₀) where
+    (f : FillAsks laws bytes q m k kinds numbers ramps w y₀) where
   abbrev row : List ℕ
   row = recordRow bytes (q .n) k
 
@@ -125,13 +124,14 @@ module _ {laws : List Law} {bytes : List ℕ} {q : Road} {m : Metered} {k : ℕ}
     same-room : length room₁ ≡ length (w .room)
     same-room = ap length er ∙ length-fill (supplyIn (q .wave) (q .jam) (q .capacity) (m .state .held)) (q .n) (w .room)
 
-    pub grants-ask : Grants laws q m bytes k start ramps (w .cell) kinds numbers room₁ (w .release) (w .waits) (w .came)
+    pub grants-ask : GrantAsks laws q m bytes k start ramps (w .cell) kinds numbers room₁ (w .release) (w .waits) (w .came)
     grants-ask = record {
       step = f .step;
       row = f .row;
       held = f .held;
       starts = es;
       listed = f .kept .listed;
+      ramped = f .kept .ramped;
       columns = f .columns;
       lasts = f .kept .lasts;
       supplies = λ i l.
@@ -161,20 +161,6 @@ module _ {laws : List Law} {bytes : List ℕ} {q : Road} {m : Metered} {k : ℕ}
           let e : start ≡ rowStart (versionOf put) (q .n) k + numberSize * 0 = omega (arith, es, ap (λ (v : ℕ). rowStart v (q .n) k) (changed .version)) in
           ap (λ (p : ℕ). numberOf put p numberSize) e ∙ sym (row-at put (q .n) k 0 (omega arith)) ∙ ap gateArrivals (changed .row)
 
-      -- so the step is ready
-      pub step-ready : {arrivals : ℕ} → arrivals ≡ numberOf put start numberSize
-          → Ready q (m .state) (filledRow laws q m (recordRow bytes (q .n) k)) ramps arrivals (w .cell) release waits room (w .rest)
-      step-ready e = record {
-        steppable = f .step;
-        listed = f .kept .listed;
-        releases = λ j l. g .releases j l ∙ sym (filled-release laws q m row (f .row .numbers) (at (w .cell) j) (f .kept .listed .within j l));
-        waits = g .waiting;
-        rooms = g .rooms;
-        rests = f .kept .rests;
-        longRest = f .kept .longRest;
-        gate = e ∙ gate-is;
-      }
-
       -- what had come into a cell, with its release and what enters, is what it then holds and F
       entered : (j : ℕ) → j < ramps →
           at came (at (w .cell) j) + at (meteredOf laws q m row .entries) (at (w .cell) j)
@@ -199,28 +185,45 @@ module _ {laws : List Law} {bytes : List ℕ} {q : Road} {m : Metered} {k : ℕ}
             demand-at-cell q (f .step .input .road) (m .state) i inside,
           )
 
-      -- and after it the step is filled
-      pub row-filled : {t : State} {y rest demand : List ℕ} → Stepped q (m .state) (filledRow laws q m (recordRow bytes (q .n) k)) t y rest
-          → length demand ≡ length (w .demand) → FilledRow laws bytes q m k put t ramps (arrays (w .cell) rest room release waits came demand) y
-      unfolding meteredOf
-      row-filled st ed = record {
-        releases = g .puts;
-        state = st .state;
-        row = st .outflows;
-        kept = record {
+      -- so with the demands the step is ready
+      module _ {demand : List ℕ} (ed : demand ≡ fillOf (demandIn (q .speed) (q .capacity) (m .state .held)) (q .n) (w .demand)) where
+        pub step-ready : {arrivals : ℕ} → arrivals ≡ numberOf put start numberSize
+            → NextAsks q (m .state) (filledRow laws q m (recordRow bytes (q .n) k)) ramps arrivals (w .cell) release waits room (w .rest) demand
+        step-ready e = record {
+          steppable = f .step;
           listed = f .kept .listed;
-          lasts = record {
-            releases = λ j l. g .releases j l ∙ sym (last-release laws q m row (f .kept .longReleases) (at (w .cell) j) (f .kept .listed .within j l));
-            entries = entered;
+          releases = λ j l. g .releases j l ∙ sym (filled-release laws q m row (f .row .numbers) (at (w .cell) j) (f .kept .listed .within j l));
+          waits = g .waiting;
+          rooms = g .rooms;
+          rests = f .kept .rests;
+          longRest = f .kept .longRest;
+          demands = demands-are q (m .state) (w .demand) (f .kept .longDemand) ed;
+          gate = e ∙ gate-is;
+        }
+
+        -- and after it the step is filled
+        pub row-filled : {t : State} {y rest : List ℕ} → Stepped q (m .state) (filledRow laws q m (recordRow bytes (q .n) k)) t y rest
+            → FilledRow laws bytes q m k put t ramps (arrays (w .cell) rest room release waits came demand) y
+        unfolding meteredOf
+        row-filled st = record {
+          releases = g .puts;
+          state = st .state;
+          row = st .outflows;
+          kept = record {
+            listed = f .kept .listed;
+            ramped = f .kept .ramped;
+            lasts = record {
+              releases = λ j l. g .releases j l ∙ sym (last-release laws q m row (f .kept .longReleases) (at (w .cell) j) (f .kept .listed .within j l));
+              entries = entered;
+            };
+            rests = λ i l. st .rests i l ∙ ap (λ (u : State). restOf (at (q .share) i) (at (u .cumulative) i)) (st .state);
+            longReleases = omega (arith, length-fill (grantedAt laws q m row) (q .n) (m .releases), f .kept .longReleases);
+            longEntries = omega (arith, length-fill (enteringAt q (m .state) y) (q .n) (m .entries), f .kept .longEntries);
+            longRest = st .longRest;
+            longRoom = omega (arith, g .sameRoom, same-room, f .kept .longRoom);
+            longRelease = omega (arith, g .sameRelease, f .kept .longRelease);
+            longWaits = omega (arith, g .sameWaits, f .kept .longWaits);
+            longCame = omega (arith, g .sameCame, f .kept .longCame);
+            longDemand = omega (arith, f .kept .longDemand, ap length ed, length-fill (demandIn (q .speed) (q .capacity) (m .state .held)) (q .n) (w .demand));
           };
-          rests = λ i l. st .rests i l ∙ ap (λ (u : State). restOf (at (q .share) i) (at (u .cumulative) i)) (st .state);
-          longReleases = omega (arith, length-fill (grantedAt laws q m row) (q .n) (m .releases), f .kept .longReleases);
-          longEntries = omega (arith, length-fill (enteringAt q (m .state) y) (q .n) (m .entries), f .kept .longEntries);
-          longRest = st .longRest;
-          longRoom = omega (arith, g .sameRoom, same-room, f .kept .longRoom);
-          longRelease = omega (arith, g .sameRelease, f .kept .longRelease);
-          longWaits = omega (arith, g .sameWaits, f .kept .longWaits);
-          longCame = omega (arith, g .sameCame, f .kept .longCame);
-          longDemand = omega (arith, f .kept .longDemand);
-        };
-      }
+        }

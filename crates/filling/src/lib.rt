@@ -1,26 +1,28 @@
 // Filling: a record's releases, granted to its ramps by their meter laws, step by step.
-use columns::Ledger;
-use meter::Law;
-use road::Ended;
-use road::Refusal;
-use road::Road;
-use road::State;
+use counts::AtGate;
+use model::Ended;
+use model::Law;
+use model::Longest;
+use model::Refusal;
+use model::Road;
+use model::State;
+use outflows::Ledger;
 ghost use mathlib.Core.Path.{_≡_};
+ghost use mathlib.Core.Bool.{true};
 ghost use mathlib.Core.List.{List};
 ghost use Prim.Native.Nat.{ℕ};
-ghost use Rattle.road.specs.declared.Road.{Road};
-ghost use Rattle.meter.specs.declared.Law.{Law};
-ghost use Rattle.columns.specs.Columns.{roadOf, stateOf};
-ghost use Rattle.reading.specs.Reading.{studyBy};
-ghost use Rattle.patching.specs.Releases.{putTable};
-ghost use Rattle.schedules.specs.Schedules.{endAnswer, tableOf};
-ghost use Rattle.schedules.specs.Demand.{Taken, Promised};
-ghost use Rattle.ramps.specs.Ramps.{metered};
-ghost use Rattle.ramps.specs.Grants.{ramped};
-ghost use Rattle.filling.specs.Filling.{meteredAfter, grantedIn, filledStudy, fillingOf, recordAfter, filledList};
-ghost use Rattle.filling.specs.Turn.{arrays, FillsRow, FillsLent, FilledRow};
-ghost use Rattle.filling.specs.Filled.{Fillable};
-ghost use Rattle.filling.specs.Theorems.{OnlyReleases};
+ghost use Rattle.model.specs.declared.Road.{Road};
+ghost use Rattle.model.specs.declared.Law.{Law};
+ghost use Rattle.outflows.specs.Columns.{roadOf, stateOf};
+ghost use Rattle.model.specs.Reading.{studyBy};
+ghost use Rattle.model.specs.Ramps.{putTable, metered};
+ghost use Rattle.model.specs.Running.{ended, endAnswer, tableOf};
+ghost use Rattle.model.specs.Demand.{Taken, Promised};
+ghost use Rattle.model.specs.Longest.{longestQueues, longestFill};
+ghost use Rattle.model.specs.Filling.{meteredAfter, grantedIn, filledStudy, fillingOf, recordAfter, filledList, OnlyReleases};
+ghost use Rattle.filling.specs.Turn.{arrays, FillAsks, FillLent, FilledRow};
+ghost use Rattle.filling.specs.FillingLoop.{Fillable};
+ghost use Rattle.filling.specs.LongestFill.{longestFilled};
 
 // One step on lent columns: its releases are granted and put into the bytes, then the step is made with them.
 fn fill_row<'a, 'b>(
@@ -31,7 +33,6 @@ fn fill_row<'a, 'b>(
     speed: &'a [u16; 64],
     wave: &'a [u16; 64],
     share: &'a [u16; 64],
-    ramp: &'a [u16; 64],
     jam: &'a [u32; 64],
     capacity: &'a [u32; 64],
     kinds: &'b [u8; 64],
@@ -50,15 +51,15 @@ fn fill_row<'a, 'b>(
     demand: &mut [u32; 64],
     y: &mut [u32],
 ) -> Ledger
-    requires { ⌜ FillsLent (now bytes) k n «gate_capacity» (now speed) (now wave) (now share) (now ramp) (now jam) (now capacity) (now kinds) (now numbers)
+    requires { ⌜ FillLent (now bytes) k n «gate_capacity» (now speed) (now wave) (now share) (now jam) (now capacity) (now kinds) (now numbers)
         (stateOf l (now held) (now queue) (now cumulative)) ramps
         (arrays (now cell) (now rest) (now room) (now release) (now waiting) (now came) (now demand)) (now y) ⌝ }
-    ensures { λ t. ⌜ ((laws : List Law) (r : Road) (releases entries : List ℕ) → FillsRow laws (now (bytes .entry))
-        (roadOf (ramped r (now (ramp .entry))) n «gate_capacity» (now (speed .entry)) (now (wave .entry)) (now (share .entry)) (now (jam .entry)) (now (capacity .entry)))
+    ensures { λ t. ⌜ ((laws : List Law) (r : Road) (releases entries : List ℕ) → FillAsks laws (now (bytes .entry))
+        (roadOf r n «gate_capacity» (now (speed .entry)) (now (wave .entry)) (now (share .entry)) (now (jam .entry)) (now (capacity .entry)))
         (metered (stateOf l (now (held .entry)) (now (queue .entry)) (now (cumulative .entry))) releases entries) k (now (kinds .entry)) (now (numbers .entry)) ramps
         (arrays (now (cell .entry)) (now (rest .entry)) (now (room .entry)) (now (release .entry)) (now (waiting .entry)) (now (came .entry)) (now (demand .entry)))
         (now (y .entry)) → FilledRow laws (now (bytes .entry))
-        (roadOf (ramped r (now (ramp .entry))) n «gate_capacity» (now (speed .entry)) (now (wave .entry)) (now (share .entry)) (now (jam .entry)) (now (capacity .entry)))
+        (roadOf r n «gate_capacity» (now (speed .entry)) (now (wave .entry)) (now (share .entry)) (now (jam .entry)) (now (capacity .entry)))
         (metered (stateOf l (now (held .entry)) (now (queue .entry)) (now (cumulative .entry))) releases entries) k
         (now (bytes .exit)) (stateOf t (now (held .exit)) (now (queue .exit)) (now (cumulative .exit))) ramps
         (arrays (now (cell .entry)) (now (rest .exit)) (now (room .exit)) (now (release .exit)) (now (waiting .exit)) (now (came .exit)) (now (demand .exit)))
@@ -71,7 +72,6 @@ fn fill_row<'a, 'b>(
         start,
         ramps,
         cell,
-        ramp,
         kinds,
         numbers,
         held,
@@ -82,13 +82,12 @@ fn fill_row<'a, 'b>(
         waiting,
         came,
     );
-    let arrivals = fields::number(bytes, start, 4);
+    let arrivals = fields::number(bytes, start, fields::NUMBER_SIZE);
+    passes::demands(n, speed, capacity, held, demand);
     passes::next(
         n,
         gate_capacity,
-        speed,
         share,
-        capacity,
         l,
         ramps,
         arrivals,
@@ -96,16 +95,17 @@ fn fill_row<'a, 'b>(
         release,
         waiting,
         room,
+        demand,
         held,
         queue,
         cumulative,
         rest,
-        demand,
         y,
     )
 }
 
-// Fills the releases of every step under a table of lanes and writes its outflows; gives the final state.
+// Fills the releases of every step under a table of lanes and writes its outflows; gives the final state, and the longest queues where they are
+// asked for.
 fn fill_rows(
     bytes: &mut [u8],
     laws: [Law; 64],
@@ -113,13 +113,16 @@ fn fill_rows(
     r: Road,
     s: State,
     steps: usize,
+    longs: bool,
     out: &mut [u32],
-) -> State
+) -> Longest
     requires { ⌜ Fillable (now bytes) (studyBy (now bytes) (now table) r s steps) (now out) ⌝ }
-    ensures releases { λ t. ⌜ now (bytes .exit)
+    ensures releases { λ e. ⌜ now (bytes .exit)
         ≡ putTable (now (bytes .entry)) (r .n) (grantedIn laws (studyBy (now (bytes .entry)) (now (table .entry)) r s steps)) steps ⌝ }
-    ensures list { λ t. ⌜ now (out .exit) ≡ tableOf (filledStudy laws (studyBy (now (bytes .entry)) (now (table .entry)) r s steps)) (now (out .entry)) steps ⌝ }
-    ensures state { λ t. ⌜ t ≡ meteredAfter laws (studyBy (now (bytes .entry)) (now (table .entry)) r s steps) steps .state ⌝ }
+    ensures list { λ e. ⌜ now (out .exit) ≡ tableOf (filledStudy laws (studyBy (now (bytes .entry)) (now (table .entry)) r s steps)) (now (out .entry)) steps ⌝ }
+    ensures answer { λ e. ⌜ endAnswer (e .ended)
+        ≡ ended 0 0 0 r (meteredAfter laws (studyBy (now (bytes .entry)) (now (table .entry)) r s steps) steps .state) ⌝ }
+    ensures longest { λ e. ⌜ (longs ≡ true → longestQueues e ≡ longestFilled laws (studyBy (now (bytes .entry)) (now (table .entry)) r s steps)) ⌝ }
 {
     let n = r.n;
     let places = n + 1;
@@ -138,15 +141,20 @@ fn fill_rows(
     let mut release = [0u32; 64];
     let mut waiting = [0u32; 64];
     let mut demand = [0u32; 64];
+    let mut gate = AtGate {
+        gate: 0,
+        waiting: 0,
+    };
+    let mut most = [0u32; 64];
     let mut k = 0;
     let mut to = 0;
     while k < steps {
         if table.len() != 0 {
-            let left = lanes::step_capacities(capacity, table, n, k);
-            road.capacity = left;
+            let open_now = lanes::step_capacities(capacity, table, n, k);
+            road.capacity = open_now;
         }
         let end = to + places;
-        l = fill_row(
+        let next = fill_row(
             bytes,
             k,
             road.n,
@@ -154,7 +162,6 @@ fn fill_rows(
             &road.speed,
             &road.wave,
             &road.share,
-            &road.ramp,
             &road.jam,
             &road.capacity,
             &columns.kinds,
@@ -173,10 +180,61 @@ fn fill_rows(
             &mut demand,
             &mut out[to..end],
         );
+        if longs {
+            gate = counts::raised(gate, l, next, n, &queue, &mut most);
+        }
+        l = next;
         to = end;
         k += 1;
     }
-    l.state(held, queue, cumulative)
+    let ended = Ended::complete(r, l.state(held, queue, cumulative));
+    Longest {
+        ended: ended,
+        gate: gate.gate,
+        waiting: gate.waiting,
+        ramps: most,
+    }
+}
+
+// Fills a record's releases by its ramps' laws under a table of lanes and runs it in one pass, with its longest queues where they are asked for.
+fn fill_opened(
+    bytes: &mut [u8],
+    laws: [Law; 64],
+    table: &[u8],
+    longs: bool,
+    out: &mut [u32],
+) -> Longest
+    ensures answer { λ e. ⌜ endAnswer (e .ended) ≡ fillingOf laws (now (bytes .entry)) (now (table .entry)) (now (out .entry)) ⌝ }
+    ensures bytes { λ e. ⌜ now (bytes .exit) ≡ recordAfter laws (now (bytes .entry)) (now (table .entry)) (now (out .entry)) ⌝ }
+    ensures list { λ e. ⌜ now (out .exit) ≡ filledList laws (now (bytes .entry)) (now (table .entry)) (now (out .entry)) ⌝ }
+    ensures demand { λ e. ⌜ (Taken (now (bytes .entry)) (now (table .entry))
+        → Promised (now (bytes .exit)) (now (table .entry)) (now (out .exit)) (endAnswer (e .ended))) ⌝ }
+    ensures releases { λ e. ⌜ OnlyReleases (now (bytes .entry)) (now (bytes .exit)) ⌝ }
+    ensures longest { λ e. ⌜ (longs ≡ true → longestQueues e ≡ longestFill laws (now (bytes .entry)) (now (table .entry)) (now (out .entry))) ⌝ }
+{
+    let a = reading::read(bytes);
+    let refusal = a.refusal;
+    if refusal.number() != 0 {
+        return counts::unbegun(refusal, a.place);
+    }
+    let road = a.road;
+    let ramp = road.ramp;
+    let n = road.n;
+    let place = meter::law_fault(laws, ramp, n);
+    if place != 0 {
+        return counts::unbegun(Refusal::LawNumbers, place);
+    }
+    let state = a.state;
+    let steps = a.steps;
+    let q = opening::refused(table, n, steps);
+    let closed = q.refusal;
+    if closed.number() != 0 {
+        return counts::unbegun(closed, q.place);
+    }
+    if out.len() < steps * (n + 1) {
+        return counts::unbegun(Refusal::ListLength, 0);
+    }
+    fill_rows(bytes, laws, table, road, state, steps, longs, out)
 }
 
 // Fills a record's releases by its ramps' laws under a table of lanes and runs it in one pass: the refusals of reading, 16, 17, 18, 11.
@@ -187,28 +245,19 @@ pub fn fill(bytes: &mut [u8], laws: [Law; 64], table: &[u8], out: &mut [u32]) ->
     ensures demand { λ e. ⌜ (Taken (now (bytes .entry)) (now (table .entry)) → Promised (now (bytes .exit)) (now (table .entry)) (now (out .exit)) (endAnswer e)) ⌝ }
     ensures releases { λ e. ⌜ OnlyReleases (now (bytes .entry)) (now (bytes .exit)) ⌝ }
 {
-    let a = reading::read(bytes);
-    let refusal = a.refusal;
-    if refusal.number() != 0 {
-        return Ended::without_state(refusal, a.place);
-    }
-    let road = a.road;
-    let ramp = road.ramp;
-    let n = road.n;
-    let place = meter::law_fault(laws, ramp, n);
-    if place != 0 {
-        return Ended::without_state(Refusal::LawNumbers, place);
-    }
-    let state = a.state;
-    let steps = a.steps;
-    let q = opening::refused(table, n, steps);
-    let closed = q.refusal;
-    if closed.number() != 0 {
-        return Ended::without_state(closed, q.place);
-    }
-    if out.len() < steps * (n + 1) {
-        return Ended::without_state(Refusal::ListLength, 0);
-    }
-    let last = fill_rows(bytes, laws, table, road, state, steps, out);
-    Ended::complete(road, last)
+    let filled = fill_opened(bytes, laws, table, false, out);
+    filled.ended
+}
+
+// Fills so with the longest queues: filling's answer, record and list, and the longest queues of gate and on-ramps over the steps done.
+pub fn fill_longest(bytes: &mut [u8], laws: [Law; 64], table: &[u8], out: &mut [u32]) -> Longest
+    ensures answer { λ e. ⌜ endAnswer (e .ended) ≡ fillingOf laws (now (bytes .entry)) (now (table .entry)) (now (out .entry)) ⌝ }
+    ensures bytes { λ e. ⌜ now (bytes .exit) ≡ recordAfter laws (now (bytes .entry)) (now (table .entry)) (now (out .entry)) ⌝ }
+    ensures list { λ e. ⌜ now (out .exit) ≡ filledList laws (now (bytes .entry)) (now (table .entry)) (now (out .entry)) ⌝ }
+    ensures longest { λ e. ⌜ longestQueues e ≡ longestFill laws (now (bytes .entry)) (now (table .entry)) (now (out .entry)) ⌝ }
+    ensures demand { λ e. ⌜ (Taken (now (bytes .entry)) (now (table .entry))
+        → Promised (now (bytes .exit)) (now (table .entry)) (now (out .exit)) (endAnswer (e .ended))) ⌝ }
+    ensures releases { λ e. ⌜ OnlyReleases (now (bytes .entry)) (now (bytes .exit)) ⌝ }
+{
+    fill_opened(bytes, laws, table, true, out)
 }

@@ -1,10 +1,18 @@
 -- The outflow by one division. Students divide, the course narrows down by halves: both give the same number for every demand,
 -- share, F and room, within the limits and beyond them. Assumes nothing.
+use Prim.Native.Nat.{ℕ, zero, suc, _+_, _-_, _*_, _/_, min, _≤_, _<_}
 use mathlib.Core.Path.{_≡_, refl}
-use Prim.Native.Nat.{ℕ, zero, suc, _+_, _-_, _*_, _/_, _≤_, _<_, min}
 use native.Mathlib.Omega.{arith}
-use Rattle.flow.specs.Flow.{whole, thousandthsOf, onwardOf, enteringOf, outflowOf, dividedOf}
+use Rattle.model.specs.Flow.{whole, onwardOf, thousandthsOf, enteringOf, outflowOf}
 use Rattle.flow.specs.FlowLaws.{onward-within, within-onward, onward-entering, outflow-unique, outflow-exit}
+
+-- the same number by one division from the onward total, as on paper: the smaller of the demand and
+-- (1,000 × (onward total + room) + 999) ÷ share rounded down, less F (never below 0); with share 0, the demand
+unfoldable pub dividedOf : ℕ → ℕ → ℕ → ℕ → ℕ
+dividedOf zero cumulative room demand = demand
+dividedOf (suc b) cumulative room demand =
+    let share = suc b in
+    min demand ((whole * (onwardOf share cumulative + room) + 999) / share - cumulative)
 
 -- the table of examples/classroom.md
 on-paper : (dividedOf 500 0 50000 40000 ≡ 40000)

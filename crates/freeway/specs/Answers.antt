@@ -5,24 +5,23 @@ use mathlib.Core.Bool.{cond}
 use mathlib.Core.List.{List, [], _∷_}
 use Prim.Native.Nat.{ℕ}
 use lib.ListN.{getD}
-use Rattle.road.specs.declared.Refusal.{Refusal}
-use Rattle.road.specs.declared.Refusal.the-variants as refusal
-use Rattle.road.specs.declared.Fault.{Fault}
-use Rattle.road.specs.declared.Reading.{Reading}
-use Rattle.road.specs.declared.Stepped.{Stepped}
-use Rattle.road.specs.declared.Ended.{Ended}
-use Rattle.road.specs.declared.Written.{Written}
-use Rattle.road.specs.declared.Loaded.{Loaded}
-use Rattle.road.specs.declared.Wanted.{Wanted}
-use Rattle.road.specs.declared.Wanted.the-variants as wanted
-use Rattle.road.specs.Refusals.{refusalNumber, FaultAnswer, faultAnswer}
-use Rattle.load.specs.Load.{LoadAnswer, loadAnswer}
-use Rattle.wanted.specs.Wanted.{WantedAnswer, wantedAnswer}
-use Rattle.model.specs.Step.{Answer}
-use Rattle.stepping.specs.StepAnswers.{stepAnswer}
-use Rattle.reading.specs.Reading.{ReadAnswer, readAnswer}
-use Rattle.writing.specs.Writing.{WriteAnswer, writeAnswer}
-use Rattle.schedules.specs.Schedules.{EndAnswer, endAnswer}
+use Rattle.model.specs.declared.Refusal.{Refusal}
+use Rattle.model.specs.declared.Refusal.the-variants as refusal
+use Rattle.model.specs.declared.Fault.{Fault}
+use Rattle.model.specs.declared.Reading.{Reading}
+use Rattle.model.specs.declared.Stepped.{Stepped}
+use Rattle.model.specs.declared.Ended.{Ended}
+use Rattle.model.specs.declared.Written.{Written}
+use Rattle.model.specs.declared.Loaded.{Loaded}
+use Rattle.model.specs.declared.Wanted.{Wanted}
+use Rattle.model.specs.declared.Wanted.the-variants as wanted
+use Rattle.model.specs.Refusals.{refusalNumber, FaultAnswer, faultAnswer}
+use Rattle.model.specs.Load.{LoadAnswer, loadAnswer}
+use Rattle.model.specs.Wanted.{WantedAnswer, wantedAnswer}
+use Rattle.model.specs.Stepping.{Answer, stepAnswer}
+use Rattle.model.specs.Reading.{ReadAnswer, readAnswer}
+use Rattle.model.specs.Writing.{WriteAnswer, writeAnswer}
+use Rattle.model.specs.Running.{EndAnswer, endAnswer}
 
 -- where what was mapped is read back from what it is mapped to, no two are mapped to the same
 same : {A B : Type 0} (numbers : A → B) (back : B → A) → ((x : A) → back (numbers x) ≡ x) → (x y : A) → numbers x ≡ numbers y → x ≡ y

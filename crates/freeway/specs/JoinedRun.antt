@@ -2,14 +2,14 @@
 use mathlib.Core.Path.{_≡_, ap}
 use mathlib.Core.List.{List, []}
 use Prim.Native.Nat.{ℕ, _+_}
-use Rattle.reading.specs.Reading.{ReadAnswer, readingOf}
-use Rattle.model.specs.Step.{tableFault}
-use Rattle.joining.specs.Joining.{joiningOf}
+use Rattle.model.specs.Reading.{ReadAnswer, readingOf}
+use Rattle.model.specs.Stepping.{tableFault}
+use Rattle.model.specs.Joining.{joiningOf}
 use Rattle.joining.specs.Theorems.{joinedBytes, joined-reads}
-use Rattle.schedules.specs.Schedules.{runningOf, listAfter}
-use Rattle.schedules.specs.Readable.{taken-open}
-use Rattle.schedules.specs.Demand.{Taken, Promised}
-use Rattle.schedules.specs.Whole.{promised}
+use Rattle.model.specs.Running.{runningOf, listAfter}
+use Rattle.theory.specs.Readable.{taken-open}
+use Rattle.model.specs.Demand.{Taken, Promised}
+use Rattle.theory.specs.DemandWhole.{promised}
 
 module _ (up down : List ℕ) (share : ℕ) (target : List ℕ) (joined : joiningOf up down share target .number ≡ 0) where
   -- with the empty table it is opened always

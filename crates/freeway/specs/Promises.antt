@@ -6,67 +6,79 @@ use mathlib.Core.List.{List, [], _++_}
 use Prim.Native.Nat.{ℕ, _+_, _*_, _^_, _≤_, _<_, min}
 use lib.Ieee.{Float, nan, inf, le, lt}
 use lib.ListN.{length, take}
-use Rattle.numbers.specs.Lists.{at}
-use Rattle.flow.specs.Flow.{outflowOf, enteringOf, dividedOf}
+use Rattle.model.specs.Numbers.{at}
+use Rattle.model.specs.Flow.{outflowOf, enteringOf}
+use Rattle.flow.specs.Division.{dividedOf}
 use Rattle.flow.specs.FlowLaws as flow
 use Rattle.flow.specs.Division as paper
-use Rattle.road.specs.declared.Road.{Road}
-use Rattle.road.specs.declared.State.{State}
-use Rattle.road.specs.declared.Start.{Start}
-use Rattle.road.specs.declared.Refusal.{Refusal}
-use Rattle.road.specs.declared.Wanted.{Wanted}
-use Rattle.road.specs.Road.{mostRate, startIn, totalOf}
-use Rattle.road.specs.Refusals.{refusalNumber, fault}
-use Rattle.fields.specs.Fields.{secondVersion, versionOf, rowNumbers}
+use Rattle.model.specs.declared.Road.{Road}
+use Rattle.model.specs.declared.State.{State}
+use Rattle.model.specs.declared.Start.{Start}
+use Rattle.model.specs.declared.Refusal.{Refusal}
+use Rattle.model.specs.declared.Wanted.{Wanted}
+use Rattle.model.specs.Road.{mostRate, startIn, totalOf}
+use Rattle.model.specs.Refusals.{refusalNumber, fault}
+use Rattle.model.specs.Record.{secondVersion, versionOf, rowNumbers}
 use Rattle.limits.specs.LimitsLaws.{RoadOk}
-use Rattle.load.specs.Load.{loaded, loadingOf, loadedList}
+use Rattle.model.specs.Load.{loaded, loadingOf, loadedList}
 use Rattle.load.specs.Theorems as loads
-use Rattle.wanted.specs.Wanted as wanted
-use Rattle.wanted.specs.Wanted.{Obeys, answer, wantedAnswer, wantedOf, tableAfter}
+use Rattle.model.specs.Wanted.{Obeys, answer, wantedAnswer, wantedOf, tableAfter, Least}
 use Rattle.wanted.specs.Theorems as wants
-use Rattle.street.specs.Street.{Asked, grantsOf, grantingOf, grantsAfter}
+use Rattle.model.specs.Street.{Asked, grantsOf, grantingOf, grantsAfter, Fair}
 use Rattle.street.specs.Theorems as streets
-use Rattle.meter.specs.Meter.{wholeBelow, count}
+use Rattle.model.specs.Meter.{wholeBelow, count}
 use Rattle.meter.specs.MeterLaws as meters
-use Rattle.meter.specs.declared.Law.{Law}
-use Rattle.model.specs.Move.{presentOf, arrivalsOf, exitsOf, nextOf}
-use Rattle.model.specs.Rules.{Released, Sized, outflowsOf}
-use Rattle.model.specs.Runs.{engineAfter}
-use Rattle.model.specs.Improved.{Improved}
-use Rattle.model.specs.Conserve as conservation
-use Rattle.model.specs.Edges as edges
-use Rattle.header.specs.Header.{cellsOf}
-use Rattle.reading.specs.Reading.{readingOf, readingWithin, firstReadingOf, refusedOf, acceptedOf, studyOf}
-use Rattle.reading.specs.Found.{Accepted}
+use Rattle.model.specs.declared.Law.{Law}
+use Rattle.model.specs.Move.{presentOf, exitsOf, nextOf}
+use Rattle.theory.specs.Conservation.{arrivalsOf}
+use Rattle.model.specs.Schedules.{Released, outflowsOf, scheduleAfter, engineAfter, Obeying, scheduledAt}
+use Rattle.theory.specs.RulesLaws.{Sized}
+use Rattle.theory.specs.RunsLaws.{Fitting}
+use Rattle.theory.specs.BetterRoad.{Improved}
+use Rattle.theory.specs.Conservation as conservation
+use Rattle.theory.specs.Edges as edges
+use Rattle.model.specs.Reading.{cellsOf, readingOf, readingWithin, refusedOf, acceptedOf, studyOf}
+use Rattle.reading.specs.Versions.{firstReadingOf}
+use Rattle.reading.specs.Cases.{Accepted}
 use Rattle.reading.specs.Within as within
 use Rattle.reading.specs.Versions as versions
 use Rattle.reading.specs.Caller as callers
-use Rattle.put.specs.Put.{puttingOf, releasedRecord}
-use Rattle.put.specs.PutLaws.{Ramp}
+use Rattle.model.specs.Put.{puttingOf, releasedRecord, Ramp, Stands}
 use Rattle.put.specs.Theorems as puts
-use Rattle.writing.specs.Writing.{writingOf, targetAfter}
-use Rattle.writing.specs.Saved as saving
+use Rattle.model.specs.Writing.{writingOf, targetAfter}
+use Rattle.writing.specs.Theorems as saving
 use Rattle.taking.specs.TakenRows as taking
-use Rattle.joining.specs.Joining.{joinedRoad, joinedStart, joiningOf, joinedTarget}
+use Rattle.model.specs.Joining.{joinedRoad, joinedStart, joiningOf, joinedTarget}
 use Rattle.joining.specs.Theorems as joins
-use Rattle.schedules.specs.Schedules.{judgingOf, runningOf, listAfter, stepsMade}
-use Rattle.schedules.specs.Demand.{Taken, Promised, WeightedDemand, Reaches, Ahead}
-use Rattle.schedules.specs.Whole as whole
-use Rattle.schedules.specs.Weighing.{weighingOf}
-use Rattle.schedules.specs.Weighted as weighting
-use Rattle.schedules.specs.WeightsUnread as unread
-use Rattle.schedules.specs.ImprovedRuns as improving
-use Rattle.schedules.specs.RaisedNotEmpty as worked
-use Rattle.schedules.specs.Accounts as accounting
-use Rattle.schedules.specs.Judged as judged
-use Rattle.schedules.specs.Unclosed as unclosed
-use Rattle.filling.specs.Filling.{fillingOf, recordAfter, filledList}
+use Rattle.model.specs.Judging.{judgingOf}
+use Rattle.model.specs.Running.{runningOf, listAfter, stepsMade}
+use Rattle.model.specs.Demand.{Taken, Promised, WeightedDemand, Reaches, Ahead, AcceptsExactly}
+use Rattle.theory.specs.DemandWhole as whole
+use Rattle.model.specs.Weights.{weighingOf}
+use Rattle.theory.specs.DemandByWeights as weighting
+use Rattle.theory.specs.WeightsUnread as unread
+use Rattle.theory.specs.BetterRoadRuns as improving
+use Rattle.theory.specs.BetterRoadNotEmpty as worked
+use Rattle.theory.specs.Accounts as accounting
+use Rattle.theory.specs.JudgingExact as judged
+use Rattle.theory.specs.NoClosures as unclosed
+use Rattle.theory.specs.Finer.{scaled}
+use Rattle.theory.specs.WholeShares.{AllOn}
+use Rattle.theory.specs.AnyShares.{Most}
+use Rattle.theory.specs.NearRuns.{Deciding}
+use Rattle.theory.specs.Rounding as rounds
+use Rattle.theory.specs.Totals as totals
+use Rattle.model.specs.Filling.{fillingOf, recordAfter, filledList, OnlyReleases}
 use Rattle.filling.specs.Theorems as filling
 use Rattle.freeway.specs.Answers as answers
 use Rattle.freeway.specs.PutRun as putting
 use Rattle.freeway.specs.WantedRun as wantedRun
 use Rattle.freeway.specs.WantedPut as wantedPut
 use Rattle.freeway.specs.JoinedRun as joinedRun
+use Rattle.model.specs.Load as loadModel
+use Rattle.model.specs.Wanted as wanted
+use Rattle.model.specs.Street as streetModel
+use Rattle.model.specs.Put as putModel
 
 -- 01, forms. A number and values for each case of an answer, and no two cases with the same; of every other type of answer: `Answers`
 pub refusal-settled : (q p : Refusal) → refusalNumber q ≡ refusalNumber p → q ≡ p
@@ -96,8 +108,50 @@ starred = edges.starred-edges
 pub read-within : (s : List ℕ) → readingOf s .number ≡ 0 → Accepted s (readingOf s .steps) (readingOf s .road) (readingOf s .state)
 read-within s h = within.read-within s (readingOf s) refl h
 
+-- 'the rounding decides where they say nothing': after every step that both reach, no cumulative outflow is off by more than 2 k parts, divided by the
+-- share of its traffic that reaches the end, from that of the same study counted K times finer; sharper where all that leaves a cell goes on
+pub rounding : (bytes lanes : List ℕ) → Taken bytes lanes → (K : ℕ) → 0 < K → rounds.Within lanes K → (k : ℕ)
+    → Fitting (studyOf bytes lanes) k → Fitting (scaled K (studyOf bytes lanes)) k
+    → rounds.Near K k (studyOf bytes lanes .road) (engineAfter (studyOf bytes lanes) k) (engineAfter (scaled K (studyOf bytes lanes)) k)
+rounding bytes lanes taken K some within k own fine = rounds.rounding (rounds.countable bytes lanes taken K some within) k own fine
+
+pub rounding-whole : (bytes lanes : List ℕ) → Taken bytes lanes → (K : ℕ) → 0 < K → rounds.Within lanes K → (k : ℕ)
+    → Fitting (studyOf bytes lanes) k → AllOn (studyOf bytes lanes .road) → Fitting (scaled K (studyOf bytes lanes)) k
+    → rounds.NearWhole K k (studyOf bytes lanes .road) (engineAfter (studyOf bytes lanes) k) (engineAfter (scaled K (studyOf bytes lanes)) k)
+rounding-whole bytes lanes taken K some within k own on fine =
+    rounds.rounding-whole (rounds.countable bytes lanes taken K some within) k own on fine
+
+-- present and the total, where some of what leaves each cell goes on
+pub rounding-total : (bytes lanes : List ℕ) → Taken bytes lanes → (K : ℕ) → 0 < K → rounds.Within lanes K → totals.SomeOn (studyOf bytes lanes .road)
+    → (k : ℕ) → Fitting (studyOf bytes lanes) k → Fitting (scaled K (studyOf bytes lanes)) k
+    → totals.NearTotal K k (studyOf bytes lanes .road) (engineAfter (studyOf bytes lanes) k) (engineAfter (scaled K (studyOf bytes lanes)) k)
+rounding-total bytes lanes taken K some within on k own fine =
+    totals.rounding-total (rounds.countable bytes lanes taken K some within) on k own fine
+
+-- so far from every schedule of the finer study in which demand or room decides, as in the papers' rules
+pub rounding-papers : (bytes lanes : List ℕ) → Taken bytes lanes → (K : ℕ) → 0 < K → rounds.Within lanes K → (k : ℕ)
+    → Fitting (studyOf bytes lanes) k → (zs : ℕ → List ℕ) → Obeying (scaled K (studyOf bytes lanes)) zs k
+    → Deciding (scaled K (studyOf bytes lanes)) zs k
+    → rounds.Near K k (studyOf bytes lanes .road) (engineAfter (studyOf bytes lanes) k) (scheduleAfter (scaled K (studyOf bytes lanes)) zs k)
+rounding-papers bytes lanes taken K some within k own zs fine decide =
+    rounds.papers-near (rounds.countable bytes lanes taken K some within) k own zs fine decide
+
+-- demand 3 within that bound: no schedule that anyone draws for the finer study is further ahead
+pub rounding-schedules : (bytes lanes : List ℕ) → Taken bytes lanes → (K : ℕ) → 0 < K → rounds.Within lanes K → (k : ℕ)
+    → Fitting (studyOf bytes lanes) k → (zs : List ℕ) → Reaches (scaled K (studyOf bytes lanes)) zs k
+    → Most K (2 * k * K) (studyOf bytes lanes .road) (engineAfter (studyOf bytes lanes) k) (scheduledAt (scaled K (studyOf bytes lanes)) zs k)
+rounding-schedules bytes lanes taken K some within k own zs reaches =
+    rounds.finer-schedules (rounds.countable bytes lanes taken K some within) k own zs reaches
+
+pub rounding-schedules-total : (bytes lanes : List ℕ) → Taken bytes lanes → (K : ℕ) → 0 < K → rounds.Within lanes K
+    → totals.SomeOn (studyOf bytes lanes .road) → (k : ℕ) → Fitting (studyOf bytes lanes) k
+    → (zs : List ℕ) → Reaches (scaled K (studyOf bytes lanes)) zs k
+    → totals.SoonerOn K k (studyOf bytes lanes .road) (engineAfter (studyOf bytes lanes) k) (scheduledAt (scaled K (studyOf bytes lanes)) zs k)
+rounding-schedules-total bytes lanes taken K some within on k own zs reaches =
+    totals.finer-schedules-total (rounds.countable bytes lanes taken K some within) on k own zs reaches
+
 -- demand 2. A proposed schedule is accepted if it obeys the rules and otherwise refused
-pub accepts-exactly : (bytes lanes zs : List ℕ) → judged.AcceptsExactly bytes lanes zs (judgingOf bytes lanes zs)
+pub accepts-exactly : (bytes lanes zs : List ℕ) → AcceptsExactly bytes lanes zs (judgingOf bytes lanes zs)
 accepts-exactly bytes lanes zs = judged.accepts-exactly bytes lanes zs refl
 
 -- totals are the sums of present over the steps done, of gate, road and ramps apart and together; start plus arrivals equals present plus exits
@@ -141,7 +195,7 @@ pub whole-infinite : (cap : ℕ) → wholeBelow (inf false) cap ≡ cap
 whole-infinite = meters.whole-infinite
 
 -- filling changes only the record's releases
-pub only-releases : (laws : List Law) (bytes lanes list : List ℕ) → filling.OnlyReleases bytes (recordAfter laws bytes lanes list)
+pub only-releases : (laws : List Law) (bytes lanes list : List ℕ) → OnlyReleases bytes (recordAfter laws bytes lanes list)
 only-releases = filling.only-releases
 
 -- unless it is refused with 16, its list, road and state are those that rerunning that record gives
@@ -226,11 +280,11 @@ joined-compared = joinedRun.joined-promised
 
 -- request 10. The table found obeys, and no table that obeys has a smaller running sum after any step; it is the only such one
 pub least : (start ceiling rate : ℕ) (arrivals table : List ℕ) → wantedOf start ceiling rate arrivals (length table) .found ≡ true
-    → wants.Least start ceiling rate arrivals (tableAfter start ceiling rate arrivals table)
+    → Least start ceiling rate arrivals (tableAfter start ceiling rate arrivals table)
 least = wants.found-least
 
-pub least-only : (start ceiling rate : ℕ) (arrivals : List ℕ) {one other : List ℕ} → wants.Least start ceiling rate arrivals one
-    → wants.Least start ceiling rate arrivals other → one ≡ other
+pub least-only : (start ceiling rate : ℕ) (arrivals : List ℕ) {one other : List ℕ} → Least start ceiling rate arrivals one
+    → Least start ceiling rate arrivals other → one ≡ other
 least-only = wants.least-unique
 
 -- none exactly where, within the limits of 23, no table obeys; the lent table is then unchanged
@@ -254,7 +308,7 @@ wanted-refused-if = wants.refused-if
 
 -- there is no other end
 pub wanted-ends : (start ceiling rate : ℕ) (arrivals table : List ℕ)
-    → wants.Ends start ceiling rate arrivals table (wantedOf start ceiling rate arrivals (length table)) (tableAfter start ceiling rate arrivals table)
+    → wanted.Ends start ceiling rate arrivals table (wantedOf start ceiling rate arrivals (length table)) (tableAfter start ceiling rate arrivals table)
 wanted-ends = wants.ends
 
 -- 'running checks it': where a ramp has a table's releases, and its start queue and arrivals, and the table obeys, running never says 9 of that ramp
@@ -276,11 +330,11 @@ found-put = wantedPut.found-kept
 -- request 11. The limit is never passed, no ramp gets more than its wish, none less than the smaller of wish and guarantee, what remains goes in ramp
 -- order and nothing is wasted; no other grants are so
 pub fair : (limit : ℕ) (guarantees wishes : List ℕ) → Asked limit guarantees wishes
-    → streets.Fair limit guarantees wishes (grantsOf limit guarantees wishes)
+    → Fair limit guarantees wishes (grantsOf limit guarantees wishes)
 fair = streets.fair
 
 pub fair-only : {limit : ℕ} {guarantees wishes : List ℕ} → Asked limit guarantees wishes → (grants : List ℕ)
-    → streets.Fair limit guarantees wishes grants → grants ≡ grantsOf limit guarantees wishes
+    → Fair limit guarantees wishes grants → grants ≡ grantsOf limit guarantees wishes
 fair-only = streets.fair-unique
 
 -- whatever the others wish
@@ -290,7 +344,7 @@ whatever-others-wish = streets.whatever-others-wish
 
 -- 24 or the grants, and no other end; 24 leaves the grants' list unchanged
 pub granted-ends : (limit : ℕ) (guarantees wishes grants : List ℕ)
-    → streets.Ends limit guarantees wishes grants (grantingOf limit guarantees wishes (length grants)) (grantsAfter limit guarantees wishes grants)
+    → streetModel.Ends limit guarantees wishes grants (grantingOf limit guarantees wishes (length grants)) (grantsAfter limit guarantees wishes grants)
 granted-ends = streets.ends
 
 -- putting never refuses a granted release for its size
@@ -301,12 +355,12 @@ granted-put = putting.granted-put
 
 -- putting a release into a record changes nothing else in it
 pub put : (bytes : List ℕ) (step cell release : ℕ) → puttingOf bytes step cell release .number ≡ 0
-    → puts.Asked bytes step cell release × puts.Stands bytes (releasedRecord bytes step cell release) step cell release
+    → putModel.Asked bytes step cell release × Stands bytes (releasedRecord bytes step cell release) step cell release
 put = puts.puts
 
 -- each refusal with all that comes before it, and what it leaves of the record
 pub put-ends : (bytes : List ℕ) (step cell release : ℕ)
-    → puts.Ends bytes step cell release (puttingOf bytes step cell release) (releasedRecord bytes step cell release)
+    → putModel.Ends bytes step cell release (puttingOf bytes step cell release) (releasedRecord bytes step cell release)
 put-ends = puts.ends
 
 -- a run that makes that step has checked the release against queue and supply
@@ -339,7 +393,7 @@ pub peak-refused-if : (seed peak : ℕ) (list : List ℕ) → mostRate < peak
 peak-refused-if = loads.refused-if
 
 -- there is no other end but the seed's arrivals in their order, with the last number
-pub loaded-ends : (seed peak : ℕ) (list : List ℕ) → loads.Ends seed peak list (loadingOf seed peak (length list)) (loadedList seed peak list)
+pub loaded-ends : (seed peak : ℕ) (list : List ℕ) → loadModel.Ends seed peak list (loadingOf seed peak (length list)) (loadedList seed peak list)
 loaded-ends = loads.ends
 
 -- request 14. For every pair of limits 26 comes exactly where no refusal before it applies and n or the count of bytes is above the pair

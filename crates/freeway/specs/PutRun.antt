@@ -6,22 +6,21 @@ use Prim.Native.Nat.{ℕ, _+_, _*_, _≤_, _<_}
 use native.Mathlib.Nat.{le-refl}
 use native.Mathlib.Omega.{arith}
 use lib.ListN.{length, set}
-use Rattle.numbers.specs.Lists.{at}
-use Rattle.road.specs.Refusals.{fault}
-use Rattle.studies.specs.Study.{Study, roadAt}
-use Rattle.street.specs.Street as street
-use Rattle.street.specs.Street.{grantsOf}
+use Rattle.model.specs.Numbers.{at}
+use Rattle.model.specs.Refusals.{fault}
+use Rattle.model.specs.Schedules.{Study, roadAt, scheduledAt}
+use Rattle.model.specs.Street.{grantsOf}
 use Rattle.street.specs.StreetLaws.{grants-wish}
 use Rattle.fields.specs.FieldsLaws.{row-at}
-use Rattle.reading.specs.Reading.{ReadAnswer, readingOf, studyOf}
+use Rattle.model.specs.Reading.{ReadAnswer, readingOf, studyOf}
 use Rattle.model.specs.Places.{releaseAt, mostReleaseAt, supplyAt}
-use Rattle.put.specs.Put.{puttingOf, releasedRecord}
-use Rattle.put.specs.PutLaws.{Ramp}
-use Rattle.put.specs.Theorems.{Asked, Stands, puts, put-if}
-use Rattle.schedules.specs.Schedules.{scheduledAt, stepsMade, runningOf, listAfter}
-use Rattle.schedules.specs.Readable.{readable}
-use Rattle.schedules.specs.Demand.{Taken, Promised}
-use Rattle.schedules.specs.Whole.{promised}
+use Rattle.model.specs.Put.{puttingOf, releasedRecord, Ramp, Asked, Stands}
+use Rattle.put.specs.Theorems.{puts, put-if}
+use Rattle.model.specs.Running.{stepsMade, runningOf, listAfter}
+use Rattle.theory.specs.Readable.{readable}
+use Rattle.model.specs.Demand.{Taken, Promised}
+use Rattle.theory.specs.DemandWhole.{promised}
+use Rattle.model.specs.Street as street
 
 -- in the state that a table of outflows has before a step, a release at i is at most queue plus arrivals, and at most the supply
 pub record Checked (a : Study) (out : List ℕ) (step release i : ℕ) : Type 0 where

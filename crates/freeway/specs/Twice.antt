@@ -5,17 +5,17 @@ use mathlib.Core.List.{List, []}
 use Prim.Native.Nat.{ℕ, _<_}
 use lib.Dec.{eqb}
 use borrow.Author.Tests.{eqb-true}
-use Rattle.numbers.specs.Lists.{at}
-use Rattle.road.specs.Road.{startState, startIn}
-use Rattle.studies.specs.Study.{study}
-use Rattle.fields.specs.Fields.{recordRow}
-use Rattle.reading.specs.Reading.{ReadAnswer, readingOf}
-use Rattle.encoding.specs.Record.{recordOf}
+use Rattle.model.specs.Numbers.{at}
+use Rattle.model.specs.Road.{startState, startIn}
+use Rattle.model.specs.Schedules.{study}
+use Rattle.model.specs.Record.{recordRow}
+use Rattle.model.specs.Reading.{ReadAnswer, readingOf}
+use Rattle.model.specs.Encoding.{recordOf}
 use Rattle.writing.specs.WrittenAgain.{same-bytes}
-use Rattle.meter.specs.declared.Law.{Law}
-use Rattle.filling.specs.Filling.{fillingOf, recordAfter}
+use Rattle.model.specs.declared.Law.{Law}
+use Rattle.model.specs.Filling.{fillingOf, recordAfter}
 use Rattle.filling.specs.Theorems.{only-releases}
-use Rattle.filling.specs.Refilled.{filled-taken-by, filled-twice}
+use Rattle.filling.specs.FillingAgain.{filled-taken-by, filled-twice}
 
 -- each of a list's numbers is a byte
 abbrev pub Bytes : List ℕ → Type 0

@@ -9,26 +9,23 @@ use native.Mathlib.Nat.{le-refl, eq-or-lt-of-le, le-of-suc-le-suc}
 use native.Mathlib.Omega.{arith}
 use lib.ListN.{length, set}
 use lib.Seq.{getD-set-same, getD-set-other}
-use Rattle.numbers.specs.Lists.{at}
-use Rattle.rows.specs.Rows.{listOf}
-use Rattle.rows.specs.RowsLaws.{length-list, list-at}
-use Rattle.road.specs.Road.{mostRate}
-use Rattle.road.specs.Refusals.{FaultAnswer, fault}
-use Rattle.studies.specs.Study.{Study}
-use Rattle.wanted.specs.Wanted.{Obeys, wantedOf, tableAfter}
+use Rattle.model.specs.Numbers.{at, listOf}
+use Rattle.numbers.specs.RowsLaws.{length-list, list-at}
+use Rattle.model.specs.Road.{mostRate}
+use Rattle.model.specs.Refusals.{FaultAnswer, fault}
+use Rattle.model.specs.Schedules.{Study, scheduleAfter}
+use Rattle.model.specs.Wanted.{Obeys, wantedOf, tableAfter}
 use Rattle.wanted.specs.Theorems.{found-least, found-asked}
 use Rattle.model.specs.Places.{arrivalsAt, releaseAt}
-use Rattle.model.specs.Runs.{scheduleAfter}
-use Rattle.fields.specs.Fields.{numberSize, versionOf, entryStart, recordRow}
+use Rattle.model.specs.Record.{numberSize, versionOf, entryStart, recordRow}
 use Rattle.fields.specs.FieldsLaws.{length-row}
-use Rattle.reading.specs.Reading.{ReadAnswer, readingOf, studyBy, studyOf}
-use Rattle.patching.specs.Bytes.{Outside}
-use Rattle.put.specs.Put.{puttingOf, releasedRecord}
-use Rattle.put.specs.PutLaws.{Ramp}
-use Rattle.put.specs.Theorems.{Stands, puts, put-if}
-use Rattle.schedules.specs.Schedules.{runningOf}
-use Rattle.schedules.specs.Demand.{Taken}
-use Rattle.schedules.specs.Readable.{readable}
+use Rattle.model.specs.Reading.{ReadAnswer, readingOf, studyBy, studyOf}
+use Rattle.model.specs.Filling.{Outside}
+use Rattle.model.specs.Put.{puttingOf, releasedRecord, Ramp, Stands}
+use Rattle.put.specs.Theorems.{puts, put-if}
+use Rattle.model.specs.Running.{runningOf}
+use Rattle.model.specs.Demand.{Taken}
+use Rattle.theory.specs.Readable.{readable}
 use Rattle.freeway.specs.WantedRun.{Follows, ceiling-kept, running-never-nine}
 
 -- a record after the releases of k steps were put at one cell, one after the other

@@ -9,24 +9,22 @@ use native.Mathlib.Omega.{arith}
 use lib.Dec.{leb, eqb}
 use lib.ListN.{length}
 use borrow.Author.Tests.{le-leb, eqb-true, eqb-false}
-use Rattle.road.specs.Refusals.{fault, FaultAnswer}
-use Rattle.numbers.specs.Lists.{at}
-use Rattle.numbers.specs.First.{unless, firstFault}
+use Rattle.model.specs.Refusals.{fault, FaultAnswer}
+use Rattle.model.specs.Numbers.{at, unless, firstFault}
 use Rattle.numbers.specs.Tests.{order}
-use Rattle.studies.specs.Study.{Study, roadAt, tableSize}
+use Rattle.model.specs.Schedules.{Study, roadAt, tableSize, scheduleAfter, engineAfter, outflowsAt}
 use Rattle.model.specs.Places.{arrivalsAt, releaseAt, mostReleaseAt, supplyAt}
-use Rattle.model.specs.MoveLaws.{next-queue}
-use Rattle.model.specs.Rules.{Sized}
-use Rattle.model.specs.Runs.{scheduleAfter, engineAfter, outflowsAt}
-use Rattle.model.specs.Step.{lowestOf, releaseFault, releaseFaultAt}
-use Rattle.model.specs.RunsLaws.{StudyOk, schedule-sized, engine-schedule}
-use Rattle.reading.specs.Reading.{readingOf, studyOf}
-use Rattle.schedules.specs.Schedules.{runSays, firstStep, EndAnswer, runEnd, runningOf}
-use Rattle.schedules.specs.SchedulesLaws.{step-within, end-all, end-fault}
-use Rattle.schedules.specs.Ends.{runs-long, runs-short}
-use Rattle.schedules.specs.Readable.{readable}
-use Rattle.schedules.specs.Demand.{Taken}
-use Rattle.wanted.specs.Wanted.{queueAfter, Obeys}
+use Rattle.theory.specs.MoveLaws.{next-queue}
+use Rattle.theory.specs.RulesLaws.{Sized}
+use Rattle.model.specs.Stepping.{lowestOf, releaseFault, releaseFaultAt}
+use Rattle.theory.specs.RunsLaws.{StudyOk, schedule-sized, engine-schedule}
+use Rattle.model.specs.Reading.{readingOf, studyOf}
+use Rattle.model.specs.Running.{runSays, firstStep, EndAnswer, runEnd, runningOf}
+use Rattle.theory.specs.SchedulesLaws.{step-within, end-all, end-fault}
+use Rattle.theory.specs.RunEnds.{runs-long, runs-short}
+use Rattle.theory.specs.Readable.{readable}
+use Rattle.model.specs.Demand.{Taken}
+use Rattle.model.specs.Wanted.{queueAfter, Obeys}
 
 -- the ramp of the cell at i has this start queue, these arrivals and this table's releases
 pub record Follows (a : Study) (i start : ℕ) (arrivals table : List ℕ) : Type 0 where

@@ -2,15 +2,16 @@
 use mathlib.Core.Path.{_≡_, refl, sym, ap, _∙_}
 use mathlib.Core.List.{List}
 use Prim.Native.Nat.{ℕ, _<_}
-use Rattle.road.specs.declared.Road.{Road}
-use Rattle.road.specs.declared.Start.{Start}
-use Rattle.reading.specs.Reading.{ReadAnswer, studyOf}
-use Rattle.model.specs.Stamped.{stamped, Restamped}
-use Rattle.writing.specs.Writing.{writingOf}
-use Rattle.writing.specs.Saved.{Saved, savedOf, saved, saved-rows}
-use Rattle.schedules.specs.Schedules.{runningOf, judgingOf, listAfter}
-use Rattle.schedules.specs.Demand.{Taken}
-use Rattle.schedules.specs.Restamped.{EndsAlike, runs-alike, judges-alike, same-list}
+use Rattle.model.specs.declared.Road.{Road}
+use Rattle.model.specs.declared.Start.{Start}
+use Rattle.model.specs.Reading.{ReadAnswer, studyOf}
+use Rattle.theory.specs.VersionUnread.{stamped, Restamped}
+use Rattle.model.specs.Writing.{writingOf}
+use Rattle.writing.specs.Theorems.{Saved, savedOf, saved, saved-rows}
+use Rattle.model.specs.Running.{runningOf, listAfter}
+use Rattle.model.specs.Judging.{judgingOf}
+use Rattle.model.specs.Demand.{Taken}
+use Rattle.theory.specs.VersionsAlike.{EndsAlike, runs-alike, judges-alike, same-list}
 
 -- the same road in another version and with other seconds; both are written without a refusal, whatever the targets
 module _ (road : Road) (version seconds T : ℕ) (start : Start) (rows target other lanes : List ℕ)

@@ -1,50 +1,368 @@
-// What a buyer may call: types, leaves and operations whose contracts hold for all input.
-pub use counts::at_ramps;
-pub use counts::exits;
-pub use counts::on_road;
-pub use counts::present;
-pub use filling::fill;
-pub use flow::demand;
-pub use flow::entering;
-pub use flow::gate_demand;
-pub use flow::onward;
-pub use flow::outflow;
-pub use flow::outflow_by_halves;
-pub use flow::room;
-pub use flow::supply;
-pub use joining::join;
-pub use judging::history;
-pub use judging::judge;
-pub use lanes::open_capacity;
-pub use load::load;
-pub use meter::Alinea;
-pub use meter::DemandCapacity;
-pub use meter::Law;
-pub use meter::release;
-pub use meter::wish;
-pub use picking::row;
-pub use put::put;
-pub use reading::read;
-pub use reading::read_within;
-pub use road::Ended;
-pub use road::Fault;
-pub use road::Loaded;
-pub use road::Reading;
-pub use road::Refusal;
-pub use road::Road;
-pub use road::Start;
-pub use road::State;
-pub use road::Stepped;
-pub use road::Wanted;
-pub use road::Weighed;
-pub use road::Weights;
-pub use road::Written;
-pub use running::run;
-pub use running::run_weighted;
+// What a buyer may call, in the order of docs/MODEL.md: each contract holds for all input. The types with their methods are those of `model`.
+pub use model::Alinea;
+pub use model::DemandCapacity;
+pub use model::Ended;
+pub use model::Fault;
+pub use model::Law;
+pub use model::Loaded;
+pub use model::Longest;
+pub use model::Reading;
+pub use model::Refusal;
+pub use model::Road;
+pub use model::Start;
+pub use model::State;
+pub use model::Stepped;
+pub use model::Wanted;
+pub use model::Weighed;
+pub use model::Weights;
+pub use model::Written;
 pub use stepping::step;
-pub use street::grant;
-pub use taking::rows;
-pub use timing::vehicle_seconds;
-pub use wanted::wanted;
-pub use weighing::weighted;
-pub use writing::write;
+ghost use mathlib.Core.Path.{_≡_};
+ghost use Prim.Native.Nat.{_^_, _<_};
+ghost use lib.ListN.{length};
+ghost use Rattle.model.specs.Flow.{demandOf, gateDemandOf, supplyOf, roomOf, onwardOf, enteringOf, outflowOf};
+ghost use Rattle.model.specs.Move.{presentOf, heldSum, queueSum, exitsOf};
+ghost use Rattle.model.specs.Lanes.{openCapacity};
+ghost use Rattle.model.specs.Numbers.{at};
+ghost use Rattle.model.specs.Weights.{weightedOf, weighingOf};
+ghost use Rattle.model.specs.Reading.{readAnswer, readingOf, readingWithin};
+ghost use Rattle.model.specs.Running.{endAnswer, runningOf, listAfter};
+ghost use Rattle.model.specs.Demand.{Taken, Promised, WeightedDemand, AcceptsExactly};
+ghost use Rattle.model.specs.Longest.{longestQueues, longestRun, longestFill};
+ghost use Rattle.model.specs.Judging.{judgingOf};
+ghost use Rattle.model.specs.History.{historyOf, heldAfter, queueAfter};
+ghost use Rattle.model.specs.Writing.{writeAnswer, writingOf, targetAfter, ReadsBack};
+ghost use Rattle.model.specs.RowNumbers.{rowArray, takenCount, takenList};
+ghost use Rattle.model.specs.Joining.{joiningOf, joinedTarget, ReadsJoined};
+ghost use Rattle.model.specs.Meter.{wishOf, wholeBelow};
+ghost use Rattle.model.specs.Filling.{fillingOf, recordAfter, filledList, OnlyReleases};
+ghost use Rattle.model.specs.Wanted as wants;
+ghost use Rattle.model.specs.Wanted.{wantedAnswer, wantedOf, tableAfter};
+ghost use Rattle.model.specs.Street as streets;
+ghost use Rattle.model.specs.Refusals.{refusalNumber, faultAnswer};
+ghost use Rattle.model.specs.Street.{grantingOf, grantsAfter};
+ghost use Rattle.model.specs.Put as puts;
+ghost use Rattle.model.specs.Put.{puttingOf, releasedRecord};
+ghost use Rattle.model.specs.Load as loads;
+ghost use Rattle.model.specs.Load.{loadAnswer, loadingOf, loadedList};
+ghost use Rattle.model.specs.Words.{vehicleSecondsOf};
+
+// docs/MODEL.md, 'One step'
+
+// The demand of a cell.
+pub fn demand(speed: u16, capacity: u32, held: u32) -> u32
+    ensures { λ r. ⌜ r ≡ demandOf speed capacity held ⌝ }
+{
+    flow::demand(speed, capacity, held)
+}
+
+// The demand of the gate.
+pub fn gate_demand(capacity: u32, queue: u32) -> u32
+    ensures { λ r. ⌜ r ≡ gateDemandOf capacity queue ⌝ }
+{
+    flow::gate_demand(capacity, queue)
+}
+
+// The supply of a cell; a cell that holds more than its jam count has none.
+pub fn supply(wave: u16, capacity: u32, jam: u32, held: u32) -> u32
+    ensures { λ r. ⌜ r ≡ supplyOf wave capacity jam held ⌝ }
+{
+    flow::supply(wave, capacity, jam, held)
+}
+
+// What a release leaves of a cell's supply; a release above the supply leaves nothing.
+pub fn room(supply: u32, release: u32) -> u32
+    ensures { λ r. ⌜ r ≡ roomOf supply release ⌝ }
+{
+    flow::room(supply, release)
+}
+
+// The onward total of a place with this cumulative outflow.
+pub fn onward(share: u16, cumulative: u32) -> u64
+    ensures { λ r. ⌜ r ≡ onwardOf share cumulative ⌝ }
+{
+    flow::onward(share, cumulative)
+}
+
+// What an outflow lets into the next cell: the growth of the onward total.
+pub fn entering(share: u16, cumulative: u32, outflow: u32) -> u64
+    ensures { λ r. ⌜ r ≡ enteringOf share cumulative outflow ⌝ }
+{
+    flow::entering(share, cumulative, outflow)
+}
+
+// The outflow: the greatest up to the demand that lets no more than the room into the next cell, by one division. Of a whole share all goes on.
+pub fn outflow(share: u16, cumulative: u32, room: u32, demand: u32) -> u32
+    ensures { λ r. ⌜ r ≡ outflowOf share cumulative room demand ⌝ }
+{
+    flow::outflow(share, cumulative, room, demand)
+}
+
+// The same number by halves, as the course narrows it down between 0 and the demand.
+pub fn outflow_by_halves(share: u16, cumulative: u32, room: u32, demand: u32) -> u32
+    ensures { λ r. ⌜ r ≡ outflowOf share cumulative room demand ⌝ }
+{
+    flow::outflow_by_halves(share, cumulative, room, demand)
+}
+
+// The gate queue, all held counts and all ramp queues together.
+pub fn present(r: Road, s: State) -> u64
+    ensures { λ p. ⌜ p ≡ presentOf r s ⌝ }
+{
+    counts::present(r, s)
+}
+
+// Present on the road: all held counts.
+pub fn on_road(r: Road, s: State) -> u64
+    ensures { λ p. ⌜ (p ≡ heldSum r s) × (p < 2 ^ 38) ⌝ }
+{
+    counts::on_road(r, s)
+}
+
+// Present at the ramps: all ramp queues.
+pub fn at_ramps(r: Road, s: State) -> u64
+    ensures { λ p. ⌜ (p ≡ queueSum r s) × (p < 2 ^ 38) ⌝ }
+{
+    counts::at_ramps(r, s)
+}
+
+// The sum over cells of F less the onward total; n above 64 counts as 64.
+pub fn exits(r: Road, s: State) -> u64
+    ensures { λ x. ⌜ x ≡ exitsOf r s ⌝ }
+{
+    counts::exits(r, s)
+}
+
+// docs/MODEL.md, 'Lanes closed during works'
+
+// What the open lanes leave of a cell's capacity; 0 where no lane is built.
+pub fn open_capacity(capacity: u32, built: u8, usable: u8) -> u32
+    ensures { λ c. ⌜ c ≡ openCapacity capacity built usable ⌝ }
+{
+    lanes::open_capacity(capacity, built, usable)
+}
+
+// docs/MODEL.md, 'Weights'
+
+// The gate queue, all held counts and all ramp queues, each times its weight; n above 64 counts as 64.
+pub fn weighted(r: Road, s: State, weights: Weights) -> u64
+    ensures { λ p. ⌜ p ≡ weightedOf (at (weights .places)) (at (weights .ramps)) (r .n) s ⌝ }
+{
+    counts::weighted(r, s, weights)
+}
+
+// docs/MODEL.md, 'Reading, and reading for a caller with limits of its own'
+
+// Reads a record of any length, with no limits but the model's.
+pub fn read(bytes: &[u8]) -> Reading
+    ensures { λ a. ⌜ readAnswer a ≡ readingOf (now (bytes .entry)) ⌝ }
+{
+    reading::read(bytes)
+}
+
+// Reads a record of any length for a caller that takes at most `cells` cells and `most` bytes; refusals 1, 2, 3, 19, 4 and 26 come first.
+pub fn read_within(bytes: &[u8], cells: usize, most: usize) -> Reading
+    ensures { λ a. ⌜ readAnswer a ≡ readingWithin cells most (now (bytes .entry)) ⌝ }
+{
+    reading::read_within(bytes, cells, most)
+}
+
+// docs/MODEL.md, 'Stepping'
+
+// `step` of `stepping` is re-exported: a body here would copy road and state once more, 110 instructions on 5,890.
+
+// docs/MODEL.md, 'Running'
+
+// Runs a record under a table of lanes: the refusals of reading, 17, 18, 11, then 9 or 10 with its step and cell.
+pub fn run(bytes: &[u8], table: &[u8], out: &mut [u32]) -> Ended
+    ensures answer { λ e. ⌜ endAnswer e ≡ runningOf (now (bytes .entry)) (now (table .entry)) (now (out .entry)) ⌝ }
+    ensures list { λ e. ⌜ now (out .exit) ≡ listAfter (now (bytes .entry)) (now (table .entry)) (now (out .entry)) ⌝ }
+    ensures demand { λ e. ⌜ (Taken (now (bytes .entry)) (now (table .entry)) → Promised (now (bytes .entry)) (now (table .entry)) (now (out .exit)) (endAnswer e)) ⌝ }
+{
+    running::run(bytes, table, out)
+}
+
+// Runs a record with weights of waiting: running's answer and list, and the weighted sum of present over the steps done.
+pub fn run_weighted(bytes: &[u8], table: &[u8], weights: Weights, out: &mut [u32]) -> Weighed
+    ensures answer { λ e. ⌜ endAnswer (e .ended) ≡ runningOf (now (bytes .entry)) (now (table .entry)) (now (out .entry)) ⌝ }
+    ensures list { λ e. ⌜ now (out .exit) ≡ listAfter (now (bytes .entry)) (now (table .entry)) (now (out .entry)) ⌝ }
+    ensures weighted { λ e. ⌜ e .weighted ≡ weighingOf (at (weights .places)) (at (weights .ramps)) (now (bytes .entry)) (now (table .entry)) (now (out .entry)) ⌝ }
+    ensures demand { λ e. ⌜ (Taken (now (bytes .entry)) (now (table .entry))
+        → Promised (now (bytes .entry)) (now (table .entry)) (now (out .exit)) (endAnswer (e .ended))) ⌝ }
+    ensures weights { λ e. ⌜ (Taken (now (bytes .entry)) (now (table .entry))
+        → WeightedDemand (now (bytes .entry)) (now (table .entry)) (at (weights .places)) (at (weights .ramps)) (now (out .exit)) (endAnswer (e .ended)) (e .weighted)) ⌝ }
+{
+    running::run_weighted(bytes, table, weights, out)
+}
+
+// Runs a record with its longest queues: running's answer and list, and the longest queues of gate and on-ramps over the steps done.
+pub fn run_longest(bytes: &[u8], table: &[u8], out: &mut [u32]) -> Longest
+    ensures answer { λ e. ⌜ endAnswer (e .ended) ≡ runningOf (now (bytes .entry)) (now (table .entry)) (now (out .entry)) ⌝ }
+    ensures list { λ e. ⌜ now (out .exit) ≡ listAfter (now (bytes .entry)) (now (table .entry)) (now (out .entry)) ⌝ }
+    ensures longest { λ e. ⌜ longestQueues e ≡ longestRun (now (bytes .entry)) (now (table .entry)) (now (out .entry)) ⌝ }
+    ensures demand { λ e. ⌜ (Taken (now (bytes .entry)) (now (table .entry))
+        → Promised (now (bytes .entry)) (now (table .entry)) (now (out .exit)) (endAnswer (e .ended))) ⌝ }
+{
+    running::run_longest(bytes, table, out)
+}
+
+// docs/MODEL.md, 'Judging'
+
+// Judges a proposed schedule under a table of lanes: the refusals of reading, 17, 18, 12, then 9 or 10 and 13 or 14 step by step.
+pub fn judge(bytes: &[u8], table: &[u8], schedule: &[u32]) -> Ended
+    ensures answer { λ e. ⌜ endAnswer e ≡ judgingOf (now (bytes .entry)) (now (table .entry)) (now (schedule .entry)) ⌝ }
+    ensures accepts { λ e. ⌜ AcceptsExactly (now (bytes .entry)) (now (table .entry)) (now (schedule .entry)) (endAnswer e) ⌝ }
+{
+    judging::judge(bytes, table, schedule)
+}
+
+// docs/MODEL.md, 'History'
+
+// Judges a schedule under a table of lanes and writes its states: the refusals of reading, 17, 18, 12, 11, then as judging.
+pub fn history(
+    bytes: &[u8],
+    table: &[u8],
+    schedule: &[u32],
+    held: &mut [u32],
+    queue: &mut [u32],
+) -> Ended
+    ensures answer { λ e. ⌜ endAnswer e ≡ historyOf (now (bytes .entry)) (now (table .entry)) (now (schedule .entry)) (now (held .entry)) (now (queue .entry)) ⌝ }
+    ensures held { λ e. ⌜ now (held .exit) ≡ heldAfter (now (bytes .entry)) (now (table .entry)) (now (schedule .entry)) (now (held .entry)) (now (queue .entry)) ⌝ }
+    ensures queue { λ e. ⌜ now (queue .exit) ≡ queueAfter (now (bytes .entry)) (now (table .entry)) (now (schedule .entry)) (now (held .entry)) (now (queue .entry)) ⌝ }
+{
+    judging::history(bytes, table, schedule, held, queue)
+}
+
+// docs/MODEL.md, 'Writing'
+
+// Writes a record into the target, or leaves it as it is: 2, 3, 19, 1, 4, 5, 6, then 15.
+pub fn write(road: Road, steps: usize, start: Start, rows: &[u32], target: &mut [u8]) -> Written
+    ensures answer { λ a. ⌜ writeAnswer a ≡ writingOf road steps start (now (rows .entry)) (now (target .entry)) ⌝ }
+    ensures target { λ a. ⌜ now (target .exit) ≡ targetAfter road steps start (now (rows .entry)) (now (target .entry)) ⌝ }
+    ensures back { λ a. ⌜ (writeAnswer a .number ≡ 0 → ReadsBack road steps start (now (rows .entry)) (writeAnswer a .count) (now (target .exit))) ⌝ }
+{
+    writing::write(road, steps, start, rows, target)
+}
+
+// docs/MODEL.md, 'The numbers of a row'
+
+// The numbers of step t's row as the layout of n cells places them, 0 where the bytes hold none.
+pub fn row(bytes: &[u8], n: usize, t: usize) -> [u32; 129]
+    ensures { λ r. ⌜ r ≡ rowArray (now (bytes .entry)) n t ⌝ }
+{
+    taking::row(bytes, n, t)
+}
+
+// Puts the rows of the first steps into a list, one after the other, and answers how many numbers they have; 0 where there is no room for them.
+pub fn rows(bytes: &[u8], n: usize, steps: usize, list: &mut [u32]) -> usize
+    ensures count { λ c. ⌜ c ≡ takenCount n steps (length (now (list .entry))) ⌝ }
+    ensures list { λ c. ⌜ now (list .exit) ≡ takenList (now (bytes .entry)) n steps (now (list .entry)) ⌝ }
+{
+    taking::rows(bytes, n, steps, list)
+}
+
+// docs/MODEL.md, 'Joining'
+
+// Joins two records into the target, or leaves it as it is: what reading refuses, upstream first, then 5, 20, 21, 22 and 15.
+pub fn join(upstream: &[u8], downstream: &[u8], share: u16, target: &mut [u8]) -> Written
+    ensures answer { λ a. ⌜ writeAnswer a ≡ joiningOf (now (upstream .entry)) (now (downstream .entry)) share (now (target .entry)) ⌝ }
+    ensures target { λ a. ⌜ now (target .exit) ≡ joinedTarget (now (upstream .entry)) (now (downstream .entry)) share (now (target .entry)) ⌝ }
+    ensures reads { λ a. ⌜ (writeAnswer a .number ≡ 0 → ReadsJoined (now (upstream .entry)) (now (downstream .entry)) share (a .count) (now (target .exit))) ⌝ }
+{
+    joining::join(upstream, downstream, share, target)
+}
+
+// docs/MODEL.md, 'Meter laws'
+
+// The wish of a law, by the last release, what entered the cell from upstream in the last step, and what the cell holds.
+pub fn wish(law: Law, last: u32, entered: u32, held: u32) -> f64
+    ensures { λ r. ⌜ r ≡ wishOf law last entered held ⌝ }
+{
+    meter::wish(law, last, entered, held)
+}
+
+// The release of a wish: the greatest whole number up to the cap that is not above it, the wish without its fraction below the cap.
+pub fn release(wish: f64, cap: u32) -> u32
+    ensures { λ r. ⌜ r ≡ wholeBelow wish cap ⌝ }
+{
+    meter::release(wish, cap)
+}
+
+// docs/MODEL.md, 'Filling'
+
+// Fills a record's releases by its ramps' laws under a table of lanes and runs it in one pass: the refusals of reading, 16, 17, 18, 11.
+pub fn fill(bytes: &mut [u8], laws: [Law; 64], table: &[u8], out: &mut [u32]) -> Ended
+    ensures answer { λ e. ⌜ endAnswer e ≡ fillingOf laws (now (bytes .entry)) (now (table .entry)) (now (out .entry)) ⌝ }
+    ensures bytes { λ e. ⌜ now (bytes .exit) ≡ recordAfter laws (now (bytes .entry)) (now (table .entry)) (now (out .entry)) ⌝ }
+    ensures list { λ e. ⌜ now (out .exit) ≡ filledList laws (now (bytes .entry)) (now (table .entry)) (now (out .entry)) ⌝ }
+    ensures demand { λ e. ⌜ (Taken (now (bytes .entry)) (now (table .entry)) → Promised (now (bytes .exit)) (now (table .entry)) (now (out .exit)) (endAnswer e)) ⌝ }
+    ensures releases { λ e. ⌜ OnlyReleases (now (bytes .entry)) (now (bytes .exit)) ⌝ }
+{
+    filling::fill(bytes, laws, table, out)
+}
+
+// Fills so with the longest queues: filling's answer, record and list, and the longest queues of gate and on-ramps over the steps done.
+pub fn fill_longest(bytes: &mut [u8], laws: [Law; 64], table: &[u8], out: &mut [u32]) -> Longest
+    ensures answer { λ e. ⌜ endAnswer (e .ended) ≡ fillingOf laws (now (bytes .entry)) (now (table .entry)) (now (out .entry)) ⌝ }
+    ensures bytes { λ e. ⌜ now (bytes .exit) ≡ recordAfter laws (now (bytes .entry)) (now (table .entry)) (now (out .entry)) ⌝ }
+    ensures list { λ e. ⌜ now (out .exit) ≡ filledList laws (now (bytes .entry)) (now (table .entry)) (now (out .entry)) ⌝ }
+    ensures longest { λ e. ⌜ longestQueues e ≡ longestFill laws (now (bytes .entry)) (now (table .entry)) (now (out .entry)) ⌝ }
+    ensures demand { λ e. ⌜ (Taken (now (bytes .entry)) (now (table .entry))
+        → Promised (now (bytes .exit)) (now (table .entry)) (now (out .exit)) (endAnswer (e .ended))) ⌝ }
+    ensures releases { λ e. ⌜ OnlyReleases (now (bytes .entry)) (now (bytes .exit)) ⌝ }
+{
+    filling::fill_longest(bytes, laws, table, out)
+}
+
+// docs/MODEL.md, 'Releases for a wanted queue'
+
+// Gives the releases whose running sum is least after every step, where any table keeps the queue; otherwise the table is unchanged.
+pub fn wanted(start: u32, ceiling: u32, rate: u32, arrivals: &[u32], table: &mut [u32]) -> Wanted
+    ensures answer { λ r. ⌜ wantedAnswer r ≡ wantedOf start ceiling rate (now (arrivals .entry)) (length (now (table .entry))) ⌝ }
+    ensures table { λ r. ⌜ now (table .exit) ≡ tableAfter start ceiling rate (now (arrivals .entry)) (now (table .entry)) ⌝ }
+    ensures ends { λ r. ⌜ wants.Ends start ceiling rate (now (arrivals .entry)) (now (table .entry)) (wantedAnswer r) (now (table .exit)) ⌝ }
+{
+    wanted::wanted(start, ceiling, rate, arrivals, table)
+}
+
+// docs/MODEL.md, 'Several ramps on one street'
+
+// Grants the releases of a step to the ramps of a street; 24 leaves the grants unchanged.
+pub fn grant(limit: u32, guarantees: &[u32], wishes: &[u32], grants: &mut [u32]) -> Refusal
+    ensures answer { λ r. ⌜ refusalNumber r ≡ grantingOf limit (now (guarantees .entry)) (now (wishes .entry)) (length (now (grants .entry))) ⌝ }
+    ensures grants { λ r. ⌜ now (grants .exit) ≡ grantsAfter limit (now (guarantees .entry)) (now (wishes .entry)) (now (grants .entry)) ⌝ }
+    ensures ends { λ r. ⌜ streets.Ends limit (now (guarantees .entry)) (now (wishes .entry)) (now (grants .entry)) (refusalNumber r) (now (grants .exit)) ⌝ }
+{
+    street::grant(limit, guarantees, wishes, grants)
+}
+
+// docs/MODEL.md, 'Putting a release'
+
+// Puts a release into a record at a step and a cell: the refusals of reading, then 5, then 6.
+pub fn put(bytes: &mut [u8], step: usize, cell: usize, release: u32) -> Fault
+    ensures answer { λ r. ⌜ faultAnswer r ≡ puttingOf (now (bytes .entry)) step cell release ⌝ }
+    ensures bytes { λ r. ⌜ now (bytes .exit) ≡ releasedRecord (now (bytes .entry)) step cell release ⌝ }
+    ensures ends { λ r. ⌜ puts.Ends (now (bytes .entry)) step cell release (faultAnswer r) (now (bytes .exit)) ⌝ }
+{
+    put::put(bytes, step, cell, release)
+}
+
+// docs/MODEL.md, 'A stated load'
+
+// Fills a list with the arrivals of a seed and a peak; 25 leaves it unchanged.
+pub fn load(seed: u32, peak: u32, list: &mut [u32]) -> Loaded
+    ensures answer { λ r. ⌜ loadAnswer r ≡ loadingOf seed peak (length (now (list .entry))) ⌝ }
+    ensures list { λ r. ⌜ now (list .exit) ≡ loadedList seed peak (now (list .entry)) ⌝ }
+    ensures ends { λ r. ⌜ loads.Ends seed peak (now (list .entry)) (loadAnswer r) (now (list .exit)) ⌝ }
+{
+    load::load(seed, peak, list)
+}
+
+// docs/MODEL.md, 'A run printed whole'
+
+// The total that `total` gives × seconds ÷ 1,000, rounded down; where that passes 64 bits, the greatest number of 64 bits.
+pub fn vehicle_seconds(seconds: u16, state: State) -> u64
+    ensures { λ r. ⌜ r ≡ vehicleSecondsOf seconds state ⌝ }
+{
+    counts::vehicle_seconds(seconds, state)
+}

@@ -7,24 +7,22 @@ use native.Mathlib.Nat.{eq-or-lt-of-le}
 use native.Mathlib.Omega.{arith}
 use lib.ListN.{length, set, take, drop, length-append, length-drop}
 use lib.Seq.{getD-set-same, getD-set-other, take-all}
-use Rattle.numbers.specs.Lists.{at}
-use Rattle.rows.specs.Rows.{fillOf, concatOf}
-use Rattle.rows.specs.Concat.{at-first, at-second, concat-same, length-concat}
-use Rattle.rows.specs.Placed.{Puts, puts-more, length-placed}
-use Rattle.road.specs.declared.Road.{Road}
-use Rattle.road.specs.declared.State.{State}
-use Rattle.road.specs.Road.{mostCells, zeros}
-use Rattle.studies.specs.Study.{Study}
-use Rattle.fields.specs.Fields.{numberSize, headerSize, cellSize, rowNumbers, rowSize, recordRow, bytesOf}
+use Rattle.model.specs.Numbers.{at, fillOf, concatOf}
+use Rattle.numbers.specs.Concat.{at-first, at-second, concat-same, length-concat}
+use Rattle.numbers.specs.PlacedText.{Puts, puts-more, length-placed}
+use Rattle.model.specs.declared.Road.{Road}
+use Rattle.model.specs.declared.State.{State}
+use Rattle.model.specs.Road.{mostCells, zeros}
+use Rattle.model.specs.Schedules.{Study}
+use Rattle.model.specs.Record.{numberSize, headerSize, cellSize, rowNumbers, rowSize, recordRow, bytesOf}
 use Rattle.fields.specs.FieldsLaws.{length-row}
-use Rattle.header.specs.Header.{sizeOf}
-use Rattle.header.specs.HeaderLaws.{Counts}
+use Rattle.model.specs.Reading.{sizeOf}
+use Rattle.fields.specs.HeaderLaws.{Counts}
 use Rattle.reading.specs.Headers.{Steps}
-use Rattle.encoding.specs.Record.{numbersOf, headerBytes, cellBytes, rowBytes, recordOf}
+use Rattle.model.specs.Encoding.{numbersOf, headerBytes, cellBytes, rowBytes, recordOf}
 use Rattle.encoding.specs.Encoding as encoding
-use Rattle.encoding.specs.Encoding.{Putting, putting-none, putting-more, putting-end, putting-fits}
-use Rattle.encoding.specs.Encoding.{length-cell, header-ends, cells-end, record-puts}
-use Rattle.joining.specs.Joining.{joinedShare, joinedRoad, joinedStart, joinedRow, joinedStudy}
+use Rattle.encoding.specs.Encoding.{Putting, putting-none, putting-more, putting-end, putting-fits, length-cell, header-ends, cells-end, record-puts}
+use Rattle.model.specs.Joining.{joinedShare, joinedRoad, joinedStart, joinedRow, joinedStudy}
 use Rattle.joining.specs.JoinedColumns.{column-joined, shares-joined, row-joined}
 
 -- n lists, then m more

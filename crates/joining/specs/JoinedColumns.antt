@@ -7,15 +7,14 @@ use native.Mathlib.Omega.{arith}
 use lib.ListN.{length, drop, length-append, length-drop, List·getD-append}
 use lib.Seq.{getD-append-add, getD-drop}
 use borrow.Author.Tests.{le-leb, lt-leb, eq-eqb, ne-eqb}
-use Rattle.numbers.specs.Lists.{at}
+use Rattle.model.specs.Numbers.{at, fillOf}
 use Rattle.numbers.specs.Tests.{order}
-use Rattle.rows.specs.Rows.{fillOf}
-use Rattle.rows.specs.RowsLaws.{fill-at, fill-past, fill-same}
-use Rattle.road.specs.Road.{mostCells, zeros}
-use Rattle.road.specs.RoadLaws.{length-zeros, zeros-at}
-use Rattle.fields.specs.Fields.{rowNumbers}
-use Rattle.writing.specs.Cut.{cutOf}
-use Rattle.joining.specs.Joining.{joinedEntry, joinedColumn, joinedShare, joinedRow}
+use Rattle.numbers.specs.RowsLaws.{fill-at, fill-past, fill-same}
+use Rattle.model.specs.Road.{mostCells, zeros}
+use Rattle.numbers.specs.Zeros.{length-zeros, zeros-at}
+use Rattle.model.specs.Record.{rowNumbers}
+use Rattle.model.specs.Writing.{cutOf}
+use Rattle.model.specs.Joining.{joinedEntry, joinedColumn, joinedShare, joinedRow}
 
 -- what holds of the first n cells and of the m that follow holds of all
 pub halves : (n m : ℕ) (P : ℕ → Type 0) → ((i : ℕ) → i < n → P i) → ((i : ℕ) → i < m → P (n + i)) → (i : ℕ) → i < n + m → P i

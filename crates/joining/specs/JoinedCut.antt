@@ -10,28 +10,25 @@ use lib.Dec.{eqb}
 use lib.ListN.{length, take, drop, length-drop}
 use lib.Seq.{length-take-le, getD-take, getD-drop}
 use borrow.Author.Tests.{eq-eqb, ne-eqb}
-use Rattle.numbers.specs.Lists.{at}
+use Rattle.model.specs.Numbers.{at, fillOf}
 use Rattle.numbers.specs.Tests.{order}
-use Rattle.rows.specs.Rows.{fillOf}
-use Rattle.rows.specs.RowsLaws.{fill-at, fill-own}
-use Rattle.flow.specs.Flow.{whole}
-use Rattle.road.specs.declared.Road.{Road}
-use Rattle.road.specs.declared.State.{State}
-use Rattle.road.specs.Road.{mostCells, mostBytes, mostRate, zeros, startState, startIn}
-use Rattle.road.specs.RoadLaws.{length-zeros, zeros-at}
-use Rattle.studies.specs.Study.{Study, study}
-use Rattle.fields.specs.Fields.{rowNumbers, rowSize, recordRow}
+use Rattle.numbers.specs.RowsLaws.{fill-at, fill-own}
+use Rattle.model.specs.Flow.{whole}
+use Rattle.model.specs.declared.Road.{Road}
+use Rattle.model.specs.declared.State.{State}
+use Rattle.model.specs.Road.{mostCells, mostBytes, mostRate, zeros, startState, startIn}
+use Rattle.numbers.specs.Zeros.{length-zeros, zeros-at}
+use Rattle.model.specs.Schedules.{Study, study}
+use Rattle.model.specs.Record.{rowNumbers, rowSize, recordRow}
 use Rattle.fields.specs.FieldsLaws.{length-row}
 use Rattle.limits.specs.LimitsLaws.{RoadOk, StateOk, RowOk}
-use Rattle.header.specs.Header.{sizeOf}
-use Rattle.reading.specs.Reading.{ReadAnswer, acceptedOf, readingOf, studyOf}
+use Rattle.model.specs.Reading.{sizeOf, ReadAnswer, acceptedOf, readingOf, studyOf}
 use Rattle.reading.specs.Numbers.{Numbers, read-numbers}
-use Rattle.encoding.specs.Record.{recordOf}
-use Rattle.writing.specs.Writing.{written}
-use Rattle.writing.specs.Cut.{cutOf, keptSeconds, cutRoad, cutState}
+use Rattle.model.specs.Encoding.{recordOf}
+use Rattle.model.specs.Writing.{written, cutOf, keptSeconds, cutRoad, cutState}
 use Rattle.writing.specs.ReadBack.{Recordable, reads-back, rows-read}
 use Rattle.writing.specs.ReadStudy.{read-recordable, read-kept}
-use Rattle.joining.specs.Joining.{joiningOf, joinedTarget}
+use Rattle.model.specs.Joining.{joiningOf, joinedTarget}
 use Rattle.joining.specs.JoinedColumns.{Joined, JoinedShares, JoinedNumbers, cut-own}
 use Rattle.joining.specs.Theorems.{Stands}
 use Rattle.joining.specs.JoinedParts.{Parts, parts-answer, parts-joined}

@@ -4,20 +4,20 @@ use mathlib.Core.Logic.{⊎-elim}
 use mathlib.Core.List.{List}
 use Prim.Native.Nat.{ℕ, _+_, _-_, _*_, _≤_, _<_}
 use native.Mathlib.Omega.{arith}
-use Rattle.numbers.specs.Lists.{at}
+use Rattle.model.specs.Numbers.{at}
 use Rattle.numbers.specs.Tests.{order}
-use Rattle.rows.specs.RowsLaws.{fill-own}
-use Rattle.flow.specs.Flow.{whole}
-use Rattle.road.specs.declared.Road.{Road}
-use Rattle.road.specs.declared.State.{State}
-use Rattle.road.specs.Road.{mostCells, mostBytes, mostRate, mostStart, zeros, startState, startIn}
-use Rattle.road.specs.RoadLaws.{zeros-at}
-use Rattle.studies.specs.Study.{Study}
+use Rattle.numbers.specs.RowsLaws.{fill-own}
+use Rattle.model.specs.Flow.{whole}
+use Rattle.model.specs.declared.Road.{Road}
+use Rattle.model.specs.declared.State.{State}
+use Rattle.model.specs.Road.{mostCells, mostBytes, mostRate, mostStart, zeros, startState, startIn}
+use Rattle.numbers.specs.Zeros.{zeros-at}
+use Rattle.model.specs.Schedules.{Study}
 use Rattle.limits.specs.LimitsLaws.{RoadOk, StateOk, RowOk}
-use Rattle.encoding.specs.Record.{recordSize}
-use Rattle.writing.specs.Cut.{keptSeconds, cutRoad, cutState}
+use Rattle.model.specs.Encoding.{recordSize}
+use Rattle.model.specs.Writing.{keptSeconds, cutRoad, cutState}
 use Rattle.writing.specs.ReadBack.{Recordable}
-use Rattle.joining.specs.Joining.{joinedEntry, joinedColumn, joinedShare, joinedRoad, joinedStart, joinedRow, joinedStudy}
+use Rattle.model.specs.Joining.{joinedEntry, joinedColumn, joinedShare, joinedRoad, joinedStart, joinedRow, joinedStudy}
 use Rattle.joining.specs.JoinedColumns.{halves, Joined, JoinedShares, column-joined, shares-joined, row-joined, cut-own}
 
 -- a limit of all entries of both

@@ -6,27 +6,26 @@ use Prim.Native.Nat.{ℕ, zero, suc, _+_, _-_, _*_, _/_, _%_, _≤_, _<_}
 use native.Mathlib.Omega.{arith}
 use lib.ListN.{length, take}
 use lib.Seq.{ext-getD}
-use Rattle.numbers.specs.Lists.{at}
+use Rattle.model.specs.Numbers.{at}
 use Rattle.numbers.specs.Tests.{order}
-use Rattle.rows.specs.RowsLaws.{length-fill}
-use Rattle.road.specs.declared.Road.{Road}
-use Rattle.road.specs.declared.State.{State}
-use Rattle.road.specs.declared.Start.{Start}
-use Rattle.road.specs.Road.{mostCells, zeros, startState, startIn}
-use Rattle.road.specs.RoadLaws.{length-zeros}
-use Rattle.studies.specs.Study.{study}
-use Rattle.fields.specs.Fields.{rowNumbers, recordRow}
+use Rattle.numbers.specs.RowsLaws.{length-fill}
+use Rattle.model.specs.declared.Road.{Road}
+use Rattle.model.specs.declared.State.{State}
+use Rattle.model.specs.declared.Start.{Start}
+use Rattle.model.specs.Road.{mostCells, zeros, startState, startIn}
+use Rattle.numbers.specs.Zeros.{length-zeros}
+use Rattle.model.specs.Schedules.{study}
+use Rattle.model.specs.Record.{rowNumbers, recordRow}
 use Rattle.fields.specs.FieldsLaws.{length-row}
-use Rattle.header.specs.Header.{sizeOf}
-use Rattle.reading.specs.Reading.{ReadAnswer, readingOf, studyOf}
+use Rattle.model.specs.Reading.{sizeOf, ReadAnswer, readingOf, studyOf}
 use Rattle.reading.specs.Numbers.{Numbers, read-numbers}
-use Rattle.reading.specs.Found.{Accepted}
+use Rattle.reading.specs.Cases.{Accepted}
 use Rattle.reading.specs.Within.{read-within}
-use Rattle.encoding.specs.Record.{recordSize, recordOf}
-use Rattle.writing.specs.Writing.{WriteAnswer, written}
+use Rattle.model.specs.Encoding.{recordSize, recordOf}
+use Rattle.model.specs.Writing.{WriteAnswer, written}
 use Rattle.writing.specs.ReadStudy.{read-size}
 use Rattle.writing.specs.WrittenAgain.{same-bytes}
-use Rattle.joining.specs.Joining.{joinedEntry, joinedColumn, joinedShare, joinedRoad, joinedStart, joinedRow, joinedOf, joiningOf, joinedTarget}
+use Rattle.model.specs.Joining.{joinedEntry, joinedColumn, joinedShare, joinedRoad, joinedStart, joinedRow, joinedOf, joiningOf, joinedTarget}
 use Rattle.joining.specs.JoinedColumns.{halves, Joined, JoinedShares, JoinedNumbers, column-joined, shares-joined, row-joined}
 use Rattle.joining.specs.JoinedTests.{Idle}
 use Rattle.joining.specs.Theorems.{Both, Asked, Stands, RowStands, joins-if, joined-bytes}

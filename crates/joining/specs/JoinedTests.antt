@@ -6,17 +6,16 @@ use Prim.Native.Nat.{ℕ, _≤_, _<_}
 use lib.Dec.{eqb}
 use lib.ListN.{replicate}
 use borrow.Author.Tests.{leb-true, le-leb, eqb-true, eq-eqb}
-use Rattle.numbers.specs.Lists.{at}
-use Rattle.numbers.specs.First.{oneOf, firstFrom, firstOf}
+use Rattle.model.specs.Numbers.{at, oneOf, firstFrom, firstOf}
 use Rattle.numbers.specs.Tests.{le-head, eq-head, le-then, eq-then}
 use Rattle.numbers.specs.FirstLaws.{all-at, all-true}
-use Rattle.road.specs.Road.{mostCells, mostBytes, zeros, startState}
-use Rattle.studies.specs.Study.{Study, study}
-use Rattle.fields.specs.Fields.{secondsSize, numberOf}
-use Rattle.reading.specs.Reading.{readingBy}
-use Rattle.encoding.specs.Record.{recordSize}
-use Rattle.writing.specs.Writing.{unwritten}
-use Rattle.joining.specs.Joining.{alike, gateIdle, joinedFits, joiningBy, joiningOf}
+use Rattle.model.specs.Road.{mostCells, mostBytes, zeros, startState}
+use Rattle.model.specs.Schedules.{Study, study}
+use Rattle.model.specs.Record.{secondsSize, numberOf}
+use Rattle.model.specs.Reading.{readingBy}
+use Rattle.model.specs.Encoding.{recordSize}
+use Rattle.model.specs.Writing.{unwritten}
+use Rattle.model.specs.Joining.{alike, gateIdle, joinedFits, joiningBy, joiningOf}
 
 -- a road of n cells and T steps without rows, whose numbers are 0 but for the gate's queue
 abbrev blank : ℕ → ℕ → ℕ → Study

@@ -7,26 +7,24 @@ use native.Mathlib.Omega.{arith}
 use lib.Dec.{leb, eqb}
 use lib.ListN.{length, drop}
 use borrow.Author.Tests.{leb-true, le-leb, lt-leb, eq-eqb, ne-eqb}
-use Rattle.numbers.specs.Lists.{at}
-use Rattle.numbers.specs.First.{allOf}
+use Rattle.model.specs.Numbers.{at, allOf}
 use Rattle.numbers.specs.Tests.{le-head}
-use Rattle.rows.specs.Placed.{Puts}
-use Rattle.flow.specs.Flow.{whole}
-use Rattle.road.specs.declared.Road.{Road}
-use Rattle.road.specs.declared.Start.{Start}
-use Rattle.road.specs.Road.{mostCells, mostSteps, mostBytes, startState, startIn}
-use Rattle.studies.specs.Study.{Study}
-use Rattle.fields.specs.Fields.{numberSize, numberOf, versionOf, rowStart, entryStart, recordRow}
+use Rattle.numbers.specs.PlacedText.{Puts}
+use Rattle.model.specs.Flow.{whole}
+use Rattle.model.specs.declared.Road.{Road}
+use Rattle.model.specs.declared.Start.{Start}
+use Rattle.model.specs.Road.{mostCells, mostSteps, mostBytes, startState, startIn}
+use Rattle.model.specs.Schedules.{Study}
+use Rattle.model.specs.Record.{numberSize, numberOf, versionOf, rowStart, entryStart, recordRow}
 use Rattle.fields.specs.FieldsLaws.{row-at}
-use Rattle.header.specs.Header.{sizeOf}
-use Rattle.reading.specs.Reading.{ReadAnswer, readingOf, studyBy}
+use Rattle.model.specs.Reading.{sizeOf, ReadAnswer, readingOf, studyBy}
 use Rattle.reading.specs.Within.{read-within}
 use Rattle.reading.specs.Headers.{Steps}
-use Rattle.encoding.specs.Record.{recordSize, recordOf}
+use Rattle.model.specs.Encoding.{recordSize, recordOf}
 use Rattle.encoding.specs.Encoding.{length-record, record-stands}
-use Rattle.writing.specs.Writing.{WriteAnswer, unwritten, written}
-use Rattle.joining.specs.Joining.{joinedStudy, alike, gateIdle, joinedFits, joiningBy, joiningOf, joinedTarget}
-use Rattle.joining.specs.Theorems.{ReadsJoined, joins-only, reads-as-joined}
+use Rattle.model.specs.Writing.{WriteAnswer, unwritten, written}
+use Rattle.model.specs.Joining.{joinedStudy, alike, gateIdle, joinedFits, joiningBy, joiningOf, joinedTarget, ReadsJoined}
+use Rattle.joining.specs.Theorems.{joins-only, reads-as-joined}
 use Rattle.joining.specs.JoinedBytes.{Joins}
 
 -- 21 in the bytes: the gate has no arrival in step t; no queue and, in no step, an arrival

@@ -1,4 +1,3 @@
-pub mod Joining
 pub mod JoinedColumns
 pub mod JoinedLimits
 pub mod JoinedTests

@@ -9,17 +9,17 @@ use lib.ListN.{length, take, drop}
 use lib.Seq.{take-at, drop-at}
 use borrow.Author.Tests.{leb-true, leb-false, eqb-true, eqb-false}
 use Rattle.numbers.specs.Tests.{unless-elim, never}
-use Rattle.flow.specs.Flow.{whole}
-use Rattle.studies.specs.Study.{Study}
-use Rattle.fields.specs.Fields.{recordRow}
+use Rattle.model.specs.Flow.{whole}
+use Rattle.model.specs.Schedules.{Study}
+use Rattle.model.specs.Record.{recordRow}
 use Rattle.fields.specs.FieldsLaws.{length-row}
-use Rattle.reading.specs.Reading.{ReadAnswer, acceptedOf, readingOf, studyOf}
-use Rattle.encoding.specs.Record.{recordSize, recordOf}
+use Rattle.model.specs.Reading.{ReadAnswer, acceptedOf, readingOf, studyOf}
+use Rattle.model.specs.Encoding.{recordSize, recordOf}
 use Rattle.encoding.specs.Encoding.{length-record}
-use Rattle.writing.specs.Writing.{WriteAnswer, unwritten, written}
+use Rattle.model.specs.Writing.{WriteAnswer, unwritten, written}
 use Rattle.writing.specs.ReadBack.{Recordable, reads-back, rows-read}
 use Rattle.writing.specs.ReadStudy.{read-recordable, read-kept}
-use Rattle.joining.specs.Joining.{joinedRoad, joinedStart, joinedRow, alike, gateIdle, joinedFits, joinedOf, joiningOf, joinedTarget}
+use Rattle.model.specs.Joining.{joinedRoad, joinedStart, joinedRow, alike, gateIdle, joinedFits, joinedOf, joiningOf, joinedTarget, ReadsJoined}
 use Rattle.joining.specs.JoinedColumns.{Joined, JoinedShares, JoinedNumbers, column-joined, shares-joined, row-joined}
 use Rattle.joining.specs.JoinedLimits.{road-cut, start-cut, study-joined}
 use Rattle.joining.specs.JoinedTests.{Alike, Idle, Small, alike-facts, facts-alike, idle-facts, facts-idle, small-facts, facts-small}
@@ -262,15 +262,6 @@ module _ (up down : List ℕ) (share : ℕ) (target : List ℕ) (h : joiningOf u
       ap (λ (c : ℕ). recordRow (joinedBytes up down share target) c t) (joined-stands .cells) ∙ joined-rows t l in
       subst (λ (row : List ℕ). JoinedNumbers n m (recordRow up n t) (recordRow down m t) row) (sym rows)
       (row-joined n m (recordRow up n t) (recordRow down m t) (length-row up n t) (length-row down m t))
-
--- the first `count` bytes of a target, as joining leaves it, read as the joined road, start and T; and each row is both's
-pub record ReadsJoined (up down : List ℕ) (share count : ℕ) (left : List ℕ) : Type 0 where
-  pub reads : readingOf (take count left)
-      ≡ acceptedOf (readingOf up .steps) (joinedRoad (readingOf up .road) (readingOf down .road) share)
-      (joinedStart (readingOf up .road .n) (readingOf down .road .n) (readingOf up .state) (readingOf down .state))
-  pub row : (t : ℕ) → t < readingOf up .steps
-      → recordRow (take count left) (readingOf up .road .n + readingOf down .road .n) t
-      ≡ joinedRow (recordRow up (readingOf up .road .n) t) (recordRow down (readingOf down .road .n) t)
 
 -- as an answer and the target at exit tell it
 pub reads-as-joined : (up down : List ℕ) (share : ℕ) (target : List ℕ) {a : WriteAnswer} {after : List ℕ} → a ≡ joiningOf up down share target

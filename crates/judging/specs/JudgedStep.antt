@@ -3,19 +3,19 @@ use mathlib.Core.Path.{_≡_, sym, _∙_}
 use mathlib.Core.List.{List}
 use Prim.Native.Nat.{ℕ, _+_, _<_}
 use lib.ListN.{length}
-use Rattle.road.specs.Refusals.{FaultAnswer}
-use Rattle.road.specs.Road.{mostCells, mostSteps}
-use Rattle.road.specs.declared.Road.{Road}
-use Rattle.road.specs.declared.State.{State}
+use Rattle.model.specs.Refusals.{FaultAnswer}
+use Rattle.model.specs.Road.{mostCells, mostSteps}
+use Rattle.model.specs.declared.Road.{Road}
+use Rattle.model.specs.declared.State.{State}
 use Rattle.limits.specs.LimitsLaws.{InputOk}
 use Rattle.model.specs.Move.{nextOf}
-use Rattle.model.specs.Rules.{Sized}
-use Rattle.model.specs.StepLaws.{number-of}
-use Rattle.model.specs.Verdict.{verdictOf}
-use Rattle.model.specs.VerdictLaws.{verdict-obeys}
-use Rattle.columns.specs.Columns.{roadOf}
-use Rattle.moves.specs.Asked.{Movable}
-use Rattle.verdict.specs.Proposed.{Proposed}
+use Rattle.theory.specs.RulesLaws.{Sized}
+use Rattle.theory.specs.StepLaws.{number-of}
+use Rattle.model.specs.Judging.{verdictOf}
+use Rattle.theory.specs.VerdictLaws.{verdict-obeys}
+use Rattle.outflows.specs.Columns.{roadOf}
+use Rattle.stepping.specs.StepNeeds.{Movable}
+use Rattle.verdict.specs.ProposedRow.{Proposed}
 
 -- it asks that on some road with these columns all is within the limits, that steps are left, and that the rows are whole
 pub record Judges (n gate : ℕ) (speed wave share jam capacity : List ℕ) (s : State) (row room y : List ℕ) : Type 0 where

@@ -1,6 +1,5 @@
 pub mod JudgedStep
-pub mod Obeyed
-pub mod History
-pub mod PutPlaces
+pub mod JudgingLoop
 pub mod WrittenStates
-pub mod Own
+pub mod PutPlaces
+pub mod OwnRows

@@ -5,10 +5,10 @@ use Prim.Native.Nat.{ℕ, _+_, _≤_, _<_}
 use native.Mathlib.Numerals.{add-one}
 use native.Mathlib.Omega.{arith}
 use lib.ListN.{length, getD, set}
-use Rattle.numbers.specs.Lists.{at}
-use Rattle.rows.specs.RowsLaws.{length-list, list-at}
-use Rattle.rows.specs.Placed.{placed, Copied, copied-none, copied-more, copied-end}
-use Rattle.judging.specs.History.{numberAt, placesOf}
+use Rattle.model.specs.Numbers.{at, placed}
+use Rattle.numbers.specs.RowsLaws.{length-list, list-at}
+use Rattle.numbers.specs.PlacedText.{Copied, copied-none, copied-more, copied-end}
+use Rattle.model.specs.History.{numberAt, placesOf}
 
 -- the places before i are written, and x is the number of the next
 pub record Putting (gate : ℕ) (cells : List ℕ) (n : ℕ) (list₀ : List ℕ) (from : ℕ) (list : List ℕ) (i x : ℕ) : Type 0 where

@@ -1,32 +1,43 @@
 -- What the loop over the steps knows of the lent lists, and how history ends. Assumes nothing.
-use mathlib.Core.Path.{_≡_, refl, sym, ap, _∙_}
-use mathlib.Core.Bool.{Bool, true, false, cond}
 use mathlib.Core.List.{List, _++_, append-assoc}
 use Prim.Native.Nat.{ℕ, suc, _+_, _-_, _*_, _≤_, _<_}
+use mathlib.Core.Path.{_≡_, refl, sym, ap, _∙_}
+use mathlib.Core.Bool.{Bool, true, false, cond}
 use native.Mathlib.Numerals.{add-one}
 use native.Mathlib.Omega.{arith}
 use lib.Dec.{eqb}
 use lib.ListN.{length, take, drop}
 use lib.Seq.{drop-drop}
 use borrow.Author.Tests.{eq-eqb, ne-eqb, le-leb, lt-leb}
+use Rattle.model.specs.Schedules.{Study, places, tableSize, scheduledAt}
+use Rattle.model.specs.Judging.{judgeSays, judgeEnd}
+use Rattle.model.specs.Running.{firstStep, EndAnswer, ended, noState, stepsMade, openingOf}
+use Rattle.model.specs.History.{heldTable, queueTable, placesOf, heldRow, queueRow, historyOf, heldAfter, queueAfter}
 use Rattle.numbers.specs.FirstLaws.{faultless-stop, faultless-end}
-use Rattle.rows.specs.RowsLaws.{length-list}
-use Rattle.rows.specs.Placed.{placed, placed-there, length-placed}
-use Rattle.rows.specs.Tables.{frontOf}
-use Rattle.rows.specs.TablesLaws.{row-ends, front-more, front-none}
-use Rattle.road.specs.Refusals.{FaultAnswer}
-use Rattle.road.specs.declared.Road.{Road}
-use Rattle.road.specs.declared.State.{State}
-use Rattle.studies.specs.Study.{Study, places, tableSize}
-use Rattle.model.specs.StepLaws.{number-of}
-use Rattle.reading.specs.Reading.{ReadAnswer, readingOf, studyBy, studyOf}
-use Rattle.schedules.specs.Schedules.{scheduledAt, judgeSays, EndAnswer, ended, noState, stepsMade, openingOf, judgeEnd}
-use Rattle.schedules.specs.SchedulesLaws.{end-made}
-use Rattle.schedules.specs.Opening.{opened-reads}
-use Rattle.schedules.specs.Readable.{Readable}
+use Rattle.numbers.specs.RowsLaws.{length-list}
+use Rattle.model.specs.Numbers.{placed, frontOf}
+use Rattle.numbers.specs.PlacedText.{placed-there, length-placed}
+use Rattle.numbers.specs.TablesLaws.{row-ends, front-more, front-none}
+use Rattle.model.specs.Refusals.{FaultAnswer}
+use Rattle.model.specs.declared.Road.{Road}
+use Rattle.model.specs.declared.State.{State}
+use Rattle.theory.specs.StepLaws.{number-of}
+use Rattle.model.specs.Reading.{ReadAnswer, readingOf, studyBy, studyOf}
+use Rattle.theory.specs.SchedulesLaws.{end-made}
+use Rattle.theory.specs.Opening.{opened-reads}
+use Rattle.theory.specs.Readable.{Readable}
 use Rattle.judging.specs.JudgedStep.{JudgedStep}
-use Rattle.judging.specs.Obeyed.{Obeyed, JudgeTurn, obeyed-none, obeyed-end, obeyed-more, says, ends-fault}
-use Rattle.judging.specs.History.{placesOf, heldRow, queueRow, heldTable, queueTable, passedSteps, heldEnd, queueEnd, historyOf, heldAfter, queueAfter}
+use Rattle.judging.specs.JudgingLoop.{Obeyed, JudgeTurn, obeyed-none, obeyed-end, obeyed-more, says, ends-fault}
+
+-- the steps before a schedule's first fault, and the lists after them
+abbrev pub passedSteps : Study → List ℕ → ℕ
+passedSteps a zs = firstStep (judgeSays a zs) (a .steps)
+
+abbrev pub heldEnd : Study → List ℕ → List ℕ → List ℕ
+heldEnd a zs list = heldTable a zs list (passedSteps a zs)
+
+abbrev pub queueEnd : Study → List ℕ → List ℕ → List ℕ
+queueEnd a zs list = queueTable a zs list (passedSteps a zs)
 
 -- what judging step by step asks: a record that reads, a schedule of the right length and, where it writes states, lists long enough
 pub record Judgeable (bytes : List ℕ) (a : Study) (zs : List ℕ) (writes : Bool) (held queue : List ℕ) : Type 0 where

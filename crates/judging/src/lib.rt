@@ -1,32 +1,33 @@
 // Judging: whether a proposed schedule obeys the rules of a record, step by step in its own states. History writes these states into lent
 // lists too, as plots need them.
-use columns::Ledger;
-use road::Ended;
-use road::Refusal;
-use road::Road;
-use road::State;
+use model::Ended;
+use model::Refusal;
+use model::Road;
+use model::State;
+use outflows::Ledger;
 ghost use mathlib.Core.Path.{_≡_};
 ghost use mathlib.Core.Bool.{true, cond};
 ghost use Prim.Native.Nat.{_+_, _≤_};
 ghost use lib.ListN.{length};
-ghost use Rattle.rows.specs.Placed.{placed};
-ghost use Rattle.road.specs.Road.{mostCells};
-ghost use Rattle.road.specs.Refusals.{refusalNumber, fault};
-ghost use Rattle.road.specs.declared.Road.{Road};
-ghost use Rattle.columns.specs.Columns.{roadOf, stateOf};
-ghost use Rattle.reading.specs.Reading.{studyBy};
-ghost use Rattle.reading.specs.Table.{mostOutflows};
-ghost use Rattle.schedules.specs.Schedules.{endAnswer, judgeEnd, judgingOf};
-ghost use Rattle.schedules.specs.Judged.{AcceptsExactly};
+ghost use Rattle.model.specs.Numbers.{placed};
+ghost use Rattle.model.specs.Road.{mostCells};
+ghost use Rattle.model.specs.Refusals.{refusalNumber, fault};
+ghost use Rattle.model.specs.declared.Road.{Road};
+ghost use Rattle.outflows.specs.Columns.{roadOf, stateOf};
+ghost use Rattle.model.specs.Reading.{studyBy};
+ghost use Rattle.model.specs.Listing.{mostOutflows};
+ghost use Rattle.model.specs.Running.{endAnswer};
+ghost use Rattle.model.specs.Judging.{judgeEnd, judgingOf};
+ghost use Rattle.model.specs.Demand.{AcceptsExactly};
 ghost use Rattle.judging.specs.JudgedStep.{Judges, JudgedStep};
-ghost use Rattle.judging.specs.History.{placesOf, heldEnd, queueEnd, historyOf, heldAfter, queueAfter};
-ghost use Rattle.judging.specs.WrittenStates.{Judgeable};
+ghost use Rattle.model.specs.History.{placesOf, historyOf, heldAfter, queueAfter};
+ghost use Rattle.judging.specs.WrittenStates.{heldEnd, queueEnd, Judgeable};
 
 // What judging finds of a step, and the ledger after it: the one before it where there is a fault.
-pub struct Judged {
-    pub refusal: Refusal,
-    pub place: usize,
-    pub ledger: Ledger,
+struct Judged {
+    refusal: Refusal,
+    place: usize,
+    ledger: Ledger,
 }
 
 // Judges a row of outflows, and moves every place by it where it obeys.
@@ -79,7 +80,7 @@ fn judge_step<'a>(
             ledger: l,
         };
     }
-    let t = moves::lent::advance(n, share, l, held, queue, cumulative, row, y);
+    let t = stepping::lent::advance(n, share, l, held, queue, cumulative, row, y);
     Judged {
         refusal: refusal,
         place: q.place,

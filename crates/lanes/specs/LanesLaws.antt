@@ -14,15 +14,12 @@ use lib.Count.{onesIn, ones, ones-step}
 use lib.Dec.{eqb}
 use lib.ListN.{length, set, take, drop, List·getD-eq-default}
 use borrow.Author.Tests.{eqb-true, eq-eqb}
-use Rattle.numbers.specs.Lists.{at}
+use Rattle.model.specs.Numbers.{at, allOf, fillOf, rowAt}
 use Rattle.numbers.specs.Tests.{order, le-head, le-then}
-use Rattle.numbers.specs.First.{allOf}
 use Rattle.numbers.specs.FirstLaws.{all-at}
-use Rattle.rows.specs.Rows.{fillOf}
-use Rattle.rows.specs.RowsLaws.{fill-more}
-use Rattle.rows.specs.Tables.{rowAt}
-use Rattle.rows.specs.TablesLaws.{row-entry, part-row, row-ends, mul-more}
-use Rattle.lanes.specs.Lanes.{mostNumber, openCapacity, openCapacities, lanesOk, lanesAt, builtIn, openIn, tableAt, tableBytes}
+use Rattle.numbers.specs.RowsLaws.{fill-more}
+use Rattle.numbers.specs.TablesLaws.{row-entry, part-row, row-ends, mul-more}
+use Rattle.model.specs.Lanes.{mostNumber, openCapacity, openCapacities, lanesOk, lanesAt, builtIn, openIn, tableAt, tableBytes}
 
 -- C 2000 with two of three lanes open leaves 1333; with none open, or none built, 0; with more open than built at most the greatest number of 32 bits
 pub on-paper : (openCapacity 2000 7 5 ≡ 1333) × ((openCapacity 2000 7 0 ≡ 0) × ((openCapacity 2000 0 7 ≡ 0) × (openCapacity mostNumber 1 3 ≡ mostNumber)))

@@ -3,9 +3,9 @@ ghost use mathlib.Core.Path.{_≡_};
 ghost use Prim.Native.Nat.{_+_, _*_, _≤_, _<_};
 ghost use lib.Count.{ones};
 ghost use lib.ListN.{length};
-ghost use Rattle.numbers.specs.First.{firstOf};
-ghost use Rattle.road.specs.Road.{mostCells, mostSteps};
-ghost use Rattle.lanes.specs.Lanes.{openCapacity, openCapacities, lanesOk, lanesAt, builtIn, openIn, tableAt, tableBytes};
+ghost use Rattle.model.specs.Numbers.{firstOf};
+ghost use Rattle.model.specs.Road.{mostCells, mostSteps};
+ghost use Rattle.model.specs.Lanes.{openCapacity, openCapacities, lanesOk, lanesAt, builtIn, openIn, tableAt, tableBytes};
 
 // How many lanes a byte has.
 fn count(lanes: u8) -> u64

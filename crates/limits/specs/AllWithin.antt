@@ -1,18 +1,14 @@
 -- Whether every number of a list is within a limit: as a test, and as a fact. Assumes nothing.
 use mathlib.Core.Path.{_≡_, sym}
-use mathlib.Core.Bool.{Bool, true, false}
+use mathlib.Core.Bool.{true, false}
 use mathlib.Core.List.{List}
 use Prim.Native.Nat.{ℕ, _≤_, _<_}
 use lib.Dec.{leb}
 use lib.ListN.{length}
 use borrow.Author.Tests.{leb-true, le-leb, lt-leb}
-use Rattle.numbers.specs.Lists.{at}
-use Rattle.numbers.specs.First.{allOf}
+use Rattle.model.specs.Numbers.{at}
 use Rattle.numbers.specs.FirstLaws.{all-at, all-true, all-fails}
-
--- no number of the list is above `most`
-unfoldable pub allWithin : List ℕ → ℕ → Bool
-allWithin list most = allOf (λ i. leb (at list i) most) (length list)
+use Rattle.model.specs.Limits.{allWithin}
 
 module _ (list : List ℕ) (most : ℕ) where
   pub within-at : allWithin list most ≡ true → (i : ℕ) → i < length list → at list i ≤ most

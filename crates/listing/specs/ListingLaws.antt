@@ -1,18 +1,31 @@
 -- Laws of the listing: how long its lines are, and their words put one after the other. Assumes nothing.
-use mathlib.Core.Path.{_≡_, refl, sym, _∙_}
 use mathlib.Core.List.{List, _++_}
 use Prim.Native.Nat.{ℕ, zero, suc, _+_, _*_, _≤_, _<_}
+use mathlib.Core.Path.{_≡_, refl, sym, _∙_}
 use native.Mathlib.Numerals.{add-one}
 use native.Mathlib.Omega.{arith}
 use lib.ListN.{length, length-append}
-use Rattle.road.specs.declared.State.{State}
-use Rattle.numbers.specs.Lists.{at}
-use Rattle.rows.specs.Placed.{Puts, placed-none, puts-more, Room, room, room-more, Text}
-use Rattle.words.specs.Words.{blank, newline, wordOf, namedOf}
-use Rattle.words.specs.WordsLaws.{word-length, named-length, Word, Named}
-use Rattle.listing.specs.Listing.{mostLine, mostLast, mostTime, refusedWord}
-use Rattle.listing.specs.Listing.{totalWord, gateWord, roadWord, rampWord, exitsWord, secondsWord}
-use Rattle.listing.specs.Listing.{headerLine, lineOf, cellLines, linesOf, showing, totalLine, secondsLine, refusedLine}
+use Rattle.model.specs.declared.State.{State}
+use Rattle.model.specs.Numbers.{at}
+use Rattle.numbers.specs.PlacedText.{Puts, placed-none, puts-more, Room, room, room-more, Text}
+use Rattle.model.specs.Words.{blank, newline, wordOf, namedOf}
+use Rattle.listing.specs.WordsLaws.{word-length, named-length, Word, Named}
+use Rattle.model.specs.Listing.{mostLine, mostLast, mostTime, refusedWord, totalWord, gateWord, roadWord, rampWord, exitsWord, secondsWord, headerLine, lineOf, cellLines}
+use Rattle.model.specs.Listing.{linesOf, totalLine, secondsLine, refusedLine}
+
+-- a state with what they show lent: the gate's queue and these columns, and otherwise as s
+abbrev pub showing : State → ℕ → List ℕ → List ℕ → State
+showing s gate held queue = record {
+  done = s .done;
+  «gate_time» = s .«gate_time»;
+  «road_time» = s .«road_time»;
+  «ramp_time» = s .«ramp_time»;
+  «gate_queue» = gate;
+  «gate_cumulative» = s .«gate_cumulative»;
+  held = held;
+  queue = queue;
+  cumulative = s .cumulative;
+}
 
 line-length : (step place outflow held queue : ℕ) → length (lineOf step place outflow held queue) ≤ mostLine
 unfolding lineOf

@@ -1,11 +1,45 @@
-// The lines of the model's listing, put into a buffer: each contract gives the bytes.
-ghost use Prim.Native.Nat.{_+_, _*_, _≤_, _<_};
+// The words and lines of the program's listing.
+ghost use Prim.Native.Nat.{_+_, _≤_, _*_, _<_};
 ghost use lib.ListN.{length};
-ghost use Rattle.road.specs.Road.{mostCells};
-ghost use Rattle.road.specs.declared.State.{State};
-ghost use Rattle.listing.specs.Listing.{mostLine, mostLast, mostTime, headerLine, lineOf, linesOf, showing, totalLine};
-ghost use Rattle.listing.specs.Listing.{secondsLine, refusedLine};
-ghost use Rattle.rows.specs.Placed.{Puts};
+ghost use Rattle.numbers.specs.PlacedText.{Puts};
+ghost use Rattle.model.specs.Words.{mostWord, wordOf, namedOf};
+ghost use Rattle.model.specs.Road.{mostCells};
+ghost use Rattle.model.specs.declared.State.{State};
+ghost use Rattle.model.specs.Listing.{mostLine, mostLast, mostTime, headerLine, lineOf, linesOf, totalLine, secondsLine, refusedLine};
+ghost use Rattle.listing.specs.ListingLaws.{showing};
+
+// Copies a text into the buffer from `at` on, and gives the index after it.
+pub fn put(buffer: &mut [u8], at: usize, text: &[u8]) -> usize
+    requires { ⌜ at + length (now text) ≤ length (now buffer) ⌝ }
+    ensures { λ r. ⌜ Puts (now (buffer .entry)) at (now (text .entry)) (now (buffer .exit)) r ⌝ }
+{
+    let mut i = 0;
+    while i < text.len() {
+        buffer[at + i] = text[i];
+        i += 1;
+    }
+    at + i
+}
+
+// A number in decimal and the byte after it.
+pub fn word(buffer: &mut [u8], at: usize, n: u64, after: u8) -> usize
+    requires { ⌜ at + mostWord ≤ length (now buffer) ⌝ }
+    ensures { λ r. ⌜ Puts (now (buffer .entry)) at (wordOf n after) (now (buffer .exit)) r ⌝ }
+{
+    let mut digits = [0u8; 20];
+    let k = io::decimal(n, &mut digits);
+    let end = put(buffer, at, &digits[..k]);
+    put(buffer, end, &[after])
+}
+
+// A name, a number in decimal and the byte after it.
+pub fn named(buffer: &mut [u8], at: usize, name: &[u8], n: u64, after: u8) -> usize
+    requires { ⌜ at + (length (now name) + mostWord) ≤ length (now buffer) ⌝ }
+    ensures { λ r. ⌜ Puts (now (buffer .entry)) at (namedOf (now (name .entry)) n after) (now (buffer .exit)) r ⌝ }
+{
+    let end = put(buffer, at, name);
+    word(buffer, end, n, after)
+}
 
 // One place of a step.
 fn line(
@@ -20,11 +54,11 @@ fn line(
     requires { ⌜ at + mostLine ≤ length (now buffer) ⌝ }
     ensures { λ r. ⌜ Puts (now (buffer .entry)) at (lineOf step place outflow held queue) (now (buffer .exit)) r ⌝ }
 {
-    let to_place = words::word(buffer, at, step as u64, b' ');
-    let to_outflow = words::word(buffer, to_place, place as u64, b' ');
-    let to_held = words::word(buffer, to_outflow, outflow as u64, b' ');
-    let to_queue = words::word(buffer, to_held, held as u64, b' ');
-    words::word(buffer, to_queue, queue as u64, b'\n')
+    let to_place = word(buffer, at, step as u64, b' ');
+    let to_outflow = word(buffer, to_place, place as u64, b' ');
+    let to_held = word(buffer, to_outflow, outflow as u64, b' ');
+    let to_queue = word(buffer, to_held, held as u64, b' ');
+    word(buffer, to_queue, queue as u64, b'\n')
 }
 
 // All places of a step: its row of outflows and the state after it, of which what is shown is lent.
@@ -56,7 +90,7 @@ pub fn header(buffer: &mut [u8], at: usize) -> usize
     requires { ⌜ at + mostLine ≤ length (now buffer) ⌝ }
     ensures { λ r. ⌜ Puts (now (buffer .entry)) at headerLine (now (buffer .exit)) r ⌝ }
 {
-    words::put(buffer, at, b"step place outflow held queue\n")
+    put(buffer, at, b"step place outflow held queue\n")
 }
 
 // The line of the totals.
@@ -72,11 +106,11 @@ pub fn total(
     requires { ⌜ at + mostLast ≤ length (now buffer) ⌝ }
     ensures { λ r. ⌜ Puts (now (buffer .entry)) at (totalLine total gate road ramp exits) (now (buffer .exit)) r ⌝ }
 {
-    let to_gate = words::named(buffer, at, b"total ", total, b' ');
-    let to_road = words::named(buffer, to_gate, b"gate ", gate, b' ');
-    let to_ramp = words::named(buffer, to_road, b"road ", road, b' ');
-    let to_exits = words::named(buffer, to_ramp, b"ramp ", ramp, b' ');
-    words::named(buffer, to_exits, b"exits ", exits, b'\n')
+    let to_gate = named(buffer, at, b"total ", total, b' ');
+    let to_road = named(buffer, to_gate, b"gate ", gate, b' ');
+    let to_ramp = named(buffer, to_road, b"road ", road, b' ');
+    let to_exits = named(buffer, to_ramp, b"ramp ", ramp, b' ');
+    named(buffer, to_exits, b"exits ", exits, b'\n')
 }
 
 // The line of the seconds, after that of the totals.
@@ -84,7 +118,7 @@ pub fn seconds(buffer: &mut [u8], at: usize, time: u64) -> usize
     requires { ⌜ at + mostTime ≤ length (now buffer) ⌝ }
     ensures { λ r. ⌜ Puts (now (buffer .entry)) at (secondsLine time) (now (buffer .exit)) r ⌝ }
 {
-    words::named(buffer, at, b"seconds ", time, b'\n')
+    named(buffer, at, b"seconds ", time, b'\n')
 }
 
 // The only line of a refusal.
@@ -92,8 +126,8 @@ pub fn refused(buffer: &mut [u8], at: usize, number: u8, step: usize, place: usi
     requires { ⌜ at + mostLine ≤ length (now buffer) ⌝ }
     ensures { λ r. ⌜ Puts (now (buffer .entry)) at (refusedLine number step place) (now (buffer .exit)) r ⌝ }
 {
-    let to_number = words::put(buffer, at, b"refused ");
-    let to_step = words::word(buffer, to_number, number as u64, b' ');
-    let to_place = words::word(buffer, to_step, step as u64, b' ');
-    words::word(buffer, to_place, place as u64, b'\n')
+    let to_number = put(buffer, at, b"refused ");
+    let to_step = word(buffer, to_number, number as u64, b' ');
+    let to_place = word(buffer, to_step, step as u64, b' ');
+    word(buffer, to_place, place as u64, b'\n')
 }

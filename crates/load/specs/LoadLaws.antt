@@ -7,10 +7,10 @@ use native.Mathlib.Omega.{arith}
 use lib.ListN.{length}
 use lib.Pow.{pow-pos, pow-add}
 use borrow.Author.Tests.{le-leb, lt-leb}
-use Rattle.numbers.specs.Lists.{at}
-use Rattle.rows.specs.RowsLaws.{length-list, list-at}
-use Rattle.road.specs.Road.{mostRate}
-use Rattle.load.specs.Load.{numbers, half, nextOf, arrivalOf, numberAfter, arrivalAt, arrivalsOf, loaded, loadingOf, loadedList}
+use Rattle.model.specs.Numbers.{at}
+use Rattle.numbers.specs.RowsLaws.{length-list, list-at}
+use Rattle.model.specs.Road.{mostRate}
+use Rattle.model.specs.Load.{numbers, half, nextOf, arrivalOf, numberAfter, arrivalAt, arrivalsOf, loaded, loadingOf, loadedList}
 
 -- one law for every width: the product of two numbers of k bits has at most k + k
 pub product-below : (k : ℕ) {a b : ℕ} → a < 2 ^ k → b < 2 ^ k → a * b < 2 ^ (k + k)

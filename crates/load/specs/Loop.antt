@@ -6,9 +6,9 @@ use native.Mathlib.Numerals.{add-one}
 use native.Mathlib.Nat.{le-refl}
 use native.Mathlib.Omega.{arith}
 use lib.ListN.{length, set, drop-of-length-le}
-use Rattle.rows.specs.Rows.{fillOf, listOf}
-use Rattle.rows.specs.RowsLaws.{fill-more, fill-list, length-fill}
-use Rattle.load.specs.Load.{nextOf, arrivalOf, numberAfter, arrivalAt, arrivalsOf}
+use Rattle.model.specs.Numbers.{fillOf, listOf}
+use Rattle.numbers.specs.RowsLaws.{fill-more, fill-list, length-fill}
+use Rattle.model.specs.Load.{nextOf, arrivalOf, numberAfter, arrivalAt, arrivalsOf}
 
 -- i arrivals are stored, and `number` made the last of them
 pub record Filled (seed peak : ℕ) (lent : List ℕ) (number i : ℕ) (list : List ℕ) : Type 0 where

@@ -6,11 +6,10 @@ use Prim.Native.Nat.{ℕ, zero, suc, _+_, _≤_, _<_}
 use native.Mathlib.Nat.{add-suc, add-zero}
 use native.Mathlib.Omega.{arith}
 use lib.ListN.{length, length-append}
-use Rattle.numbers.specs.Lists.{at}
+use Rattle.model.specs.Numbers.{at, listOf}
 use Rattle.numbers.specs.Tests.{order}
-use Rattle.rows.specs.Rows.{listOf}
-use Rattle.road.specs.Road.{mostRate}
-use Rattle.load.specs.Load.{nextOf, numberAfter, arrivalAt, arrivalsOf, LoadAnswer, loaded, loadingOf, loadedList}
+use Rattle.model.specs.Road.{mostRate}
+use Rattle.model.specs.Load.{nextOf, numberAfter, arrivalAt, arrivalsOf, LoadAnswer, loaded, loadingOf, loadedList, Arrivals, Ends}
 use Rattle.load.specs.LoadLaws.{arrival-most, number-none, number-below, arrivals-length, arrivals-at, refused-answer, refused-list, loaded-answer, loaded-list}
 
 -- 1: every arrival is at most the peak
@@ -79,12 +78,6 @@ refused-exactly seed peak n e = ⊎-elim
 pub refused-if : (seed peak : ℕ) (list : List ℕ) → mostRate < peak → (loadingOf seed peak (length list) ≡ loaded 25 seed) × (loadedList seed peak list ≡ list)
 refused-if seed peak list h = (refused-answer seed peak h (length list), refused-list seed peak h list)
 
--- a list that was loaded: its arrivals are those of the seed's numbers in their order, none above the peak
-pub record Arrivals (seed peak : ℕ) (list filled : List ℕ) : Type 0 where
-  pub same : length filled ≡ length list
-  pub each : (k : ℕ) → k < length list → at filled k ≡ arrivalAt seed peak k
-  pub within : (k : ℕ) → k < length list → at filled k ≤ peak
-
 pub arrivals : (seed peak : ℕ) (list : List ℕ) → peak ≤ mostRate → Arrivals seed peak list (loadedList seed peak list)
 arrivals seed peak list h = record {
   same = ap length (loaded-list seed peak h list) ∙ arrivals-length seed peak (length list);
@@ -92,16 +85,11 @@ arrivals seed peak list h = record {
   within = at-most-peak seed peak list h;
 }
 
--- both ends, with what each leaves of the lent list
-pub data Ends (seed peak : ℕ) (list : List ℕ) : LoadAnswer → List ℕ → Type 0 where
-  refused : mostRate < peak → Ends seed peak list (loaded 25 seed) list
-  filled : peak ≤ mostRate → {after : List ℕ} → Arrivals seed peak list after → Ends seed peak list (loaded 0 (numberAfter seed (length list))) after
-
 -- 6: every answer is one of them
 pub ends : (seed peak : ℕ) (list : List ℕ) → Ends seed peak list (loadingOf seed peak (length list)) (loadedList seed peak list)
 ends seed peak list = ⊎-elim
-    (λ (h : peak ≤ mostRate). rw (loaded-answer seed peak h (length list)) (filled h (arrivals seed peak list h)))
-    (λ (h : mostRate < peak). rw (refused-answer seed peak h (length list), refused-list seed peak h list) (refused h))
+    (λ (h : peak ≤ mostRate). rw (loaded-answer seed peak h (length list)) (Ends.filled h (arrivals seed peak list h)))
+    (λ (h : mostRate < peak). rw (refused-answer seed peak h (length list), refused-list seed peak h list) (Ends.refused h))
     (order peak mostRate)
 
 -- an answer and a list that are those of the definitions are one of them; so a contract may promise all three

@@ -1,13 +1,12 @@
 // The stated load for trials: arrivals made from a seed by a generator that wraps at 32 bits.
-use road::Loaded;
-use road::Refusal;
-use road::Road;
+use model::Loaded;
+use model::Refusal;
+use model::Road;
 ghost use mathlib.Core.Path.{_≡_};
 ghost use Prim.Native.Nat.{_*_, _%_, _≤_};
 ghost use lib.ListN.{length};
-ghost use Rattle.road.specs.Road.{mostRate};
-ghost use Rattle.load.specs.Load.{numbers, nextOf, arrivalOf, numberAfter, arrivalsOf, loadAnswer, loadingOf, loadedList};
-ghost use Rattle.load.specs.Theorems.{Ends};
+ghost use Rattle.model.specs.Road.{mostRate};
+ghost use Rattle.model.specs.Load.{numbers, nextOf, arrivalOf, numberAfter, arrivalsOf, loadAnswer, loadingOf, loadedList, Ends};
 
 // How many numbers have 32 bits.
 const NUMBERS: u64 = 4294967296;

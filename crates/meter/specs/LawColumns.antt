@@ -10,12 +10,12 @@ use lib.Dec.{eqb}
 use lib.Ieee.{Float, nan}
 use lib.ListN.{length, getD, set, length-set}
 use lib.Seq.{getD-set-same, getD-set-other}
-use Rattle.numbers.specs.Lists.{at}
-use Rattle.road.specs.Road.{mostCells}
-use Rattle.meter.specs.Meter.{lawAt}
+use Rattle.model.specs.Numbers.{at}
+use Rattle.model.specs.Road.{mostCells}
+use Rattle.model.specs.Meter.{lawAt}
 use Rattle.meter.specs.MeterLaws.{law-at}
-use Rattle.meter.specs.declared.Law.{Law}
-use Rattle.meter.specs.declared.Law.the-variants as law
+use Rattle.model.specs.declared.Law.{Law}
+use Rattle.model.specs.declared.Law.the-variants as law
 
 -- kind 1 is ALINEA (gain, target), 2 demand-capacity (capacity, critical, least), every other a fixed rate
 unfoldable pub lawBy : ℕ → Float → Float → Float → Law

@@ -1,4 +1,2 @@
-pub mod Meter
-pub mod Wishes
 pub mod MeterLaws
 pub mod LawColumns

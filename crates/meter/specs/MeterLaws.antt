@@ -17,13 +17,12 @@ use lib.Ieee.Back.{round-whole}
 use lib.Ieee.Order.{le-of-values}
 use lib.Ieee.Positive.{above, positive as positive-float, positive-of-value, above-of-le, values-of-le}
 use lib.Ieee.Scale.{finite, round-same}
-use Rattle.numbers.specs.Lists.{at}
+use Rattle.model.specs.Numbers.{at, unless, firstOf, allOf}
 use Rattle.numbers.specs.Tests.{order}
-use Rattle.numbers.specs.First.{unless, firstOf, allOf}
 use Rattle.numbers.specs.FirstLaws.{First, Passed, first, first-is, all-at, all-true, passed-stop, passed-fails, passed-all}
-use Rattle.meter.specs.declared.DemandCapacity.{DemandCapacity}
-use Rattle.meter.specs.declared.Law.{Law}
-use Rattle.meter.specs.Meter.{count, demandCapacityOf, wholeBelow, lawFinite, lawAt, lawOk, lawFaultOf}
+use Rattle.model.specs.declared.DemandCapacity.{DemandCapacity}
+use Rattle.model.specs.declared.Law.{Law}
+use Rattle.model.specs.Meter.{count, demandCapacityOf, wholeBelow, lawFinite, lawAt, lawOk, lawFaultOf}
 
 -- the wish of demand-capacity, up to the critical count and above it
 module _ (p : DemandCapacity) (entered held : ℕ) where

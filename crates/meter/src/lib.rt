@@ -1,51 +1,30 @@
 // Meter laws: what a ramp's law wishes for, and the release that a wish gives.
-use road::Road;
+use model::Alinea;
+use model::DemandCapacity;
+use model::Law;
+use model::Road;
 ghost use mathlib.Core.Path.{_≡_};
 ghost use Prim.Native.Nat.{_<_};
 ghost use lib.Ieee.Scale.{finite};
-ghost use Rattle.road.specs.Road.{mostCells};
-ghost use Rattle.meter.specs.Meter.{alineaOf, demandCapacityOf, wishOf, wholeBelow, lawFinite, lawFaultOf};
+ghost use Rattle.model.specs.Road.{mostCells};
+ghost use Rattle.model.specs.Meter.{alineaOf, demandCapacityOf, wishOf, wholeBelow, lawFinite, lawFaultOf};
 ghost use Rattle.meter.specs.LawColumns.{lawBy, lawIn, InColumns};
 
-// The ALINEA feedback: a gain, and the count that the cell is to hold.
-pub struct Alinea {
-    pub gain: f64,
-    pub target: f64,
+// Last release + gain × (target − held).
+fn alinea_wish(p: Alinea, last: u32, held: u32) -> f64
+    ensures { λ r. ⌜ r ≡ alineaOf p last held ⌝ }
+{
+    (last as f64) + p.gain * (p.target - (held as f64))
 }
 
-// Demand-capacity: up to the critical count what is left of the capacity, above it the least rate.
-pub struct DemandCapacity {
-    pub capacity: f64,
-    pub critical: f64,
-    pub least: f64,
-}
-
-// What a ramp follows; a fixed law has its rate.
-pub enum Law {
-    Fixed(f64),
-    Alinea(Alinea),
-    DemandCapacity(DemandCapacity),
-}
-
-impl Alinea {
-    // Last release + gain × (target − held).
-    fn wish(self, last: u32, held: u32) -> f64
-        ensures { λ r. ⌜ r ≡ alineaOf self last held ⌝ }
-    {
-        (last as f64) + self.gain * (self.target - (held as f64))
-    }
-}
-
-impl DemandCapacity {
-    // The capacity less what entered if held is at most critical, else the least rate.
-    fn wish(self, entered: u32, held: u32) -> f64
-        ensures { λ r. ⌜ r ≡ demandCapacityOf self entered held ⌝ }
-    {
-        if (held as f64) <= self.critical {
-            self.capacity - (entered as f64)
-        } else {
-            self.least
-        }
+// The capacity less what entered if held is at most critical, else the least rate.
+fn capacity_wish(p: DemandCapacity, entered: u32, held: u32) -> f64
+    ensures { λ r. ⌜ r ≡ demandCapacityOf p entered held ⌝ }
+{
+    if (held as f64) <= p.critical {
+        p.capacity - (entered as f64)
+    } else {
+        p.least
     }
 }
 
@@ -55,8 +34,8 @@ pub fn wish(law: Law, last: u32, entered: u32, held: u32) -> f64
 {
     match law {
         Law::Fixed(rate) => rate,
-        Law::Alinea(p) => p.wish(last, held),
-        Law::DemandCapacity(p) => p.wish(entered, held),
+        Law::Alinea(p) => alinea_wish(p, last, held),
+        Law::DemandCapacity(p) => capacity_wish(p, entered, held),
     }
 }
 

@@ -1,14 +1,11 @@
--- docs/MODEL.md, 'One step': every place moved by a row of outflows, all quantities taken from the state before; present, the three times and exits.
--- Assumes nothing.
+-- docs/MODEL.md, 'One step': every place moved by a row of outflows, all quantities taken from the state before; present, the three times and exits. Assumes nothing.
 use mathlib.Core.List.{List}
 use Prim.Native.Nat.{ℕ, _+_, _-_}
 use lib.ListN.{take}
-use Rattle.flow.specs.Flow.{onwardOf}
-use Rattle.rows.specs.Sum.{sumOf}
-use Rattle.rows.specs.Rows.{fillOf, listOf}
-use Rattle.road.specs.declared.Road.{Road}
-use Rattle.road.specs.declared.State.{State}
-use Rattle.numbers.specs.Lists.{at}
+use Rattle.model.specs.declared.State.{State}
+use Rattle.model.specs.declared.Road.{Road}
+use Rattle.model.specs.Numbers.{sumOf, fillOf, listOf, at}
+use Rattle.model.specs.Flow.{onwardOf}
 use Rattle.model.specs.Places.{gateArrivals, arrivalsAt, releaseAt, enteringAt}
 
 -- a cell's next count is held + entering + release − outflow; 0 where an outflow is above these three together, which no demand within the limits is
@@ -76,7 +73,3 @@ exitAt r s i = at (s .cumulative) i - onwardOf (at (r .share) i) (at (s .cumulat
 
 unfoldable pub exitsOf : Road → State → ℕ
 exitsOf r s = sumOf (listOf (exitAt r s) (r .n))
-
--- all arrivals of a step, at the gate and at the ramps
-unfoldable pub arrivalsOf : Road → List ℕ → ℕ
-arrivalsOf r row = gateArrivals row + sumOf (listOf (arrivalsAt row) (r .n))

@@ -2,10 +2,10 @@
 -- so the cell at p is the one after place p. Assumes nothing.
 use mathlib.Core.List.{List}
 use Prim.Native.Nat.{ℕ, zero, suc, _+_, _*_}
-use Rattle.flow.specs.Flow.{whole, demandOf, gateDemandOf, supplyOf, roomOf, onwardOf, enteringOf, outflowOf, mostReleaseOf}
-use Rattle.road.specs.declared.Road.{Road}
-use Rattle.road.specs.declared.State.{State}
-use Rattle.numbers.specs.Lists.{at}
+use Rattle.model.specs.declared.State.{State}
+use Rattle.model.specs.declared.Road.{Road}
+use Rattle.model.specs.Numbers.{at}
+use Rattle.model.specs.Flow.{whole, demandOf, gateDemandOf, supplyOf, roomOf, enteringOf, outflowOf, mostReleaseOf}
 
 -- a row's numbers in the record's order: gate arrivals; then for each cell its ramp arrivals and its release
 abbrev pub gateArrivals : List ℕ → ℕ
@@ -47,10 +47,6 @@ shareAt r (suc i) = at (r .share) i
 unfoldable pub cumulativeAt : State → ℕ → ℕ
 cumulativeAt s zero = s .«gate_cumulative»
 cumulativeAt s (suc i) = at (s .cumulative) i
-
--- the onward total of a place
-abbrev pub onwardAt : Road → State → ℕ → ℕ
-onwardAt r s p = onwardOf (shareAt r p) (cumulativeAt s p)
 
 -- what place p lets into the next cell by its outflow in y, a row of outflows, gate first
 abbrev pub enteringAt : Road → State → List ℕ → ℕ → ℕ

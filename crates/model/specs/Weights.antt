@@ -1,9 +1,11 @@
 -- docs/MODEL.md, 'Weights': present and total time spent with weights. Assumes nothing.
+use mathlib.Core.List.{List}
 use Prim.Native.Nat.{ℕ, suc, _+_, _*_, _≤_, _<_}
-use Rattle.numbers.specs.Lists.{at}
-use Rattle.rows.specs.Sum.{sumOf}
-use Rattle.rows.specs.Rows.{listOf}
-use Rattle.road.specs.declared.State.{State}
+use Rattle.model.specs.declared.State.{State}
+use Rattle.model.specs.Numbers.{at, sumOf, listOf}
+use Rattle.model.specs.Schedules.{Study, engineAfter, scheduledAt}
+use Rattle.model.specs.Reading.{studyOf}
+use Rattle.model.specs.Running.{stepsMade, runningOf}
 
 -- weights times counts, of the first n cells
 abbrev pub weighedSum : (ℕ → ℕ) → (ℕ → ℕ) → ℕ → ℕ
@@ -20,3 +22,12 @@ weightedTotal w u n after k = sumOf (listOf (λ j. weightedOf w u n (after (suc 
 -- no place weighs more than the one before it, gate first
 pub record Falling (w : ℕ → ℕ) (n : ℕ) : Type 0 where
   pub falls : (p : ℕ) → p < n → w (suc p) ≤ w p
+
+-- running takes the weights w of places, gate first, and u of ramps too, and gives the weighted sum of present over the steps done, 0 where none was done
+unfoldable pub weighingOf : (ℕ → ℕ) → (ℕ → ℕ) → List ℕ → List ℕ → List ℕ → ℕ
+weighingOf w u bytes lanes list =
+    weightedTotal w u (studyOf bytes lanes .road .n) (engineAfter (studyOf bytes lanes)) (stepsMade (studyOf bytes lanes) (runningOf bytes lanes list))
+
+-- the weighted total over k steps of a table of outflows, in its own states
+abbrev pub weighedIn : (ℕ → ℕ) → (ℕ → ℕ) → Study → List ℕ → ℕ → ℕ
+weighedIn w u a zs k = weightedTotal w u (a .road .n) (scheduledAt a zs) k

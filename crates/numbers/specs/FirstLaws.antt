@@ -8,7 +8,7 @@ use native.Mathlib.Omega.{arith}
 use lib.Dec.{eqb}
 use borrow.Author.Tests.{eqb-true, eqb-false, eq-eqb, ne-eqb}
 use borrow.Author.Count.{below-more, below-none}
-use Rattle.numbers.specs.First.{firstFrom, firstOf, allOf, firstFault}
+use Rattle.model.specs.Numbers.{firstFrom, firstOf, allOf, firstFault}
 
 -- what holds of firstOf f n, and of no other number
 pub record First (f : ℕ → Bool) (n i : ℕ) : Type 0 where

@@ -1,5 +1,9 @@
-pub mod Lists
-pub mod First
+pub mod Zeros
 pub mod Tests
 pub mod FirstLaws
 pub mod Halves
+pub mod SumLaws
+pub mod RowsLaws
+pub mod TablesLaws
+pub mod PlacedText
+pub mod Concat

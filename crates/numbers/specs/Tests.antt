@@ -6,7 +6,7 @@ use Prim.Native.Nat.{ℕ, _≤_, _<_}
 use native.Mathlib.Omega.{arith}
 use lib.Dec.{leb, eqb}
 use borrow.Author.Tests.{leb-true, leb-false, eqb-true, eqb-false, le-leb, eq-eqb}
-use Rattle.numbers.specs.First.{unless}
+use Rattle.model.specs.Numbers.{unless}
 
 -- a chain of refusals is left one test at a time: what holds of the refusal where the test fails, and of the rest where it passes
 pub unless-elim : {A : Type 0} (P : A → Type 0) (test : Bool) {refused rest : A} → (test ≡ false → P refused) → (test ≡ true → P rest)

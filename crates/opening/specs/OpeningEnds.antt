@@ -2,11 +2,11 @@
 use mathlib.Core.Path.{_≡_, sym, ap, _∙_}
 use mathlib.Core.List.{List}
 use Prim.Native.Nat.{ℕ}
-use Rattle.road.specs.Refusals.{FaultAnswer}
-use Rattle.model.specs.Step.{tableFault}
-use Rattle.reading.specs.Reading.{ReadAnswer, refusedOf, readingOf, studyOf}
-use Rattle.schedules.specs.Schedules.{lanesFault, openingOf}
-use Rattle.schedules.specs.Opening.{opening-refused, opening-closed, opening-same}
+use Rattle.model.specs.Refusals.{FaultAnswer}
+use Rattle.model.specs.Stepping.{tableFault}
+use Rattle.model.specs.Reading.{ReadAnswer, refusedOf, readingOf, studyOf}
+use Rattle.model.specs.Running.{lanesFault, openingOf}
+use Rattle.theory.specs.Opening.{opening-refused, opening-closed, opening-same}
 
 module _ (bytes lanes : List ℕ) {x : ReadAnswer} (ex : x ≡ readingOf bytes) where
   pub opened-refused : (x .number ≡ 0 → ⊥) → x ≡ openingOf bytes lanes

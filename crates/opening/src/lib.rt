@@ -1,14 +1,14 @@
 // A table of lanes: refusals 17 and 18, and a record opened with it, for running, filling and judging.
-use road::Fault;
-use road::Reading;
-use road::Refusal;
+use model::Fault;
+use model::Reading;
+use model::Refusal;
 ghost use mathlib.Core.Path.{_≡_};
 ghost use Prim.Native.Nat.{_≤_};
-ghost use Rattle.road.specs.Road.{mostCells, mostSteps};
-ghost use Rattle.road.specs.Refusals.{refusalNumber, fault, faultAnswer};
-ghost use Rattle.model.specs.Step.{tableFault};
-ghost use Rattle.reading.specs.Reading.{readAnswer};
-ghost use Rattle.schedules.specs.Schedules.{openingOf};
+ghost use Rattle.model.specs.Road.{mostCells, mostSteps};
+ghost use Rattle.model.specs.Refusals.{refusalNumber, fault, faultAnswer};
+ghost use Rattle.model.specs.Stepping.{tableFault};
+ghost use Rattle.model.specs.Reading.{readAnswer};
+ghost use Rattle.model.specs.Running.{openingOf};
 
 fn made(refusal: Refusal, place: usize) -> Fault
     ensures { λ q. ⌜ faultAnswer q ≡ fault (refusalNumber refusal) place ⌝ }

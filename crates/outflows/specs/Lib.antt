@@ -1,3 +1,5 @@
-pub mod Carried
+pub mod Columns
+pub mod CarriedValues
 pub mod Outflows
 pub mod Rooms
+pub mod Faults

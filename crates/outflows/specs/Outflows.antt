@@ -5,15 +5,14 @@ use Prim.Native.Nat.{ℕ, suc, _+_, _≤_, _<_}
 use native.Mathlib.Omega.{arith}
 use lib.ListN.{length, set, drop, length-set}
 use lib.Seq.{drop-cons, drop-length, set-at}
-use Rattle.flow.specs.Flow.{whole, gateDemandOf, demandOf, outflowOf}
-use Rattle.rows.specs.Rows.{fillOf, listOf}
-use Rattle.rows.specs.RowsLaws.{fill-more, fill-list, length-list}
-use Rattle.road.specs.declared.Road.{Road}
-use Rattle.road.specs.declared.State.{State}
-use Rattle.numbers.specs.Lists.{at}
+use Rattle.model.specs.Flow.{whole, gateDemandOf, demandOf, outflowOf}
+use Rattle.model.specs.Numbers.{fillOf, listOf, at}
+use Rattle.numbers.specs.RowsLaws.{fill-more, fill-list, length-list}
+use Rattle.model.specs.declared.Road.{Road}
+use Rattle.model.specs.declared.State.{State}
 use Rattle.model.specs.Places.{roomAt, demandAt, shareAt, cumulativeAt, outflowAt}
-use Rattle.model.specs.Rules.{outflowsOf}
-use Rattle.outflows.specs.Carried.{Carried, carried-gate, carried-cell}
+use Rattle.model.specs.Schedules.{outflowsOf}
+use Rattle.outflows.specs.CarriedValues.{Carried, carried-gate, carried-cell}
 
 -- one more place's outflow
 outflows-more : (r : Road) (s : State) (row l : List ℕ) (i : ℕ) (y : List ℕ) (share cumulative demand room z : ℕ)

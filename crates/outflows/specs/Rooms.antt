@@ -4,12 +4,11 @@ use mathlib.Core.List.{List}
 use Prim.Native.Nat.{ℕ, _+_, _≤_, _<_}
 use native.Mathlib.Omega.{arith}
 use lib.ListN.{length, set}
-use Rattle.flow.specs.Flow.{supplyOf, roomOf}
-use Rattle.rows.specs.Rows.{fillOf}
-use Rattle.rows.specs.RowsLaws.{fill-more, fill-at}
-use Rattle.road.specs.declared.Road.{Road}
-use Rattle.road.specs.declared.State.{State}
-use Rattle.numbers.specs.Lists.{at}
+use Rattle.model.specs.Flow.{supplyOf, roomOf}
+use Rattle.model.specs.Numbers.{fillOf, at}
+use Rattle.numbers.specs.RowsLaws.{fill-more, fill-at}
+use Rattle.model.specs.declared.Road.{Road}
+use Rattle.model.specs.declared.State.{State}
 use Rattle.model.specs.Places.{capacityAt, releaseAt, roomAt}
 
 -- the entries of a list are the rooms of the cells

@@ -4,15 +4,12 @@ use mathlib.Core.List.{List}
 use Prim.Native.Nat.{ℕ, _+_, _-_, _*_, _≤_, _<_}
 use native.Mathlib.Omega.{arith}
 use lib.ListN.{length, set, take}
-use Rattle.rows.specs.Sum.{sumOf}
-use Rattle.rows.specs.SumLaws.{sum-start, sum-set}
-use Rattle.rows.specs.Rows.{fillOf}
-use Rattle.rows.specs.RowsLaws.{fill-past, length-fill}
-use Rattle.road.specs.Road.{mostCells, mostRate, mostSteps}
-use Rattle.limits.specs.Limits.{mostQueue}
-use Rattle.numbers.specs.Lists.{at}
-use Rattle.passes.specs.RampList.{startOf, start-more, Listed, Upto, sum-to, sum-add, listed-before, listed-here, listed-more}
-use Rattle.passes.specs.RampList.{listed-end}
+use Rattle.model.specs.Numbers.{sumOf, fillOf, at}
+use Rattle.numbers.specs.SumLaws.{sum-start, sum-set}
+use Rattle.numbers.specs.RowsLaws.{fill-past, length-fill}
+use Rattle.model.specs.Road.{mostCells, mostRate, mostSteps}
+use Rattle.model.specs.Limits.{mostQueue}
+use Rattle.passes.specs.RampList.{startOf, start-more, Listed, Upto, sum-to, sum-add, listed-before, listed-here, listed-more, listed-end}
 
 -- a cell without a ramp releases nothing, and nothing waits there
 pub record Idle (give wait : ℕ → ℕ) (queue : List ℕ) (i : ℕ) : Type 0 where

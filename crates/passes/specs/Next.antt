@@ -8,22 +8,22 @@ use native.Mathlib.Numerals.{add-one}
 use native.Mathlib.Omega.{arith}
 use lib.ListN.{length}
 use lib.Seq.{ext-getD}
-use Rattle.flow.specs.Flow.{gateDemandOf, enteringOf, outflowOf}
+use Rattle.model.specs.Flow.{gateDemandOf, enteringOf, outflowOf}
 use Rattle.flow.specs.FlowLaws.{outflow-whole, outflow-exit, outflow-le, entering-whole, entering-le}
-use Rattle.rows.specs.Rows.{fillOf}
-use Rattle.rows.specs.RowsLaws.{fill-at, fill-past, fill-same, length-fill}
-use Rattle.road.specs.declared.Road.{Road}
-use Rattle.road.specs.declared.State.{State}
-use Rattle.road.specs.Road.{mostRate, mostSteps, totalOf}
-use Rattle.numbers.specs.Lists.{at}
-use Rattle.limits.specs.Limits.{mostQueue, mostCumulative, mostTotal}
-use Rattle.columns.specs.Columns.{sending}
+use Rattle.model.specs.Numbers.{fillOf, at}
+use Rattle.numbers.specs.RowsLaws.{fill-at, fill-past, fill-same, length-fill}
+use Rattle.model.specs.declared.Road.{Road}
+use Rattle.model.specs.declared.State.{State}
+use Rattle.model.specs.Road.{mostRate, mostSteps, totalOf}
+use Rattle.limits.specs.LimitsLaws.{InputOk}
+use Rattle.model.specs.Limits.{mostQueue, mostCumulative, mostTotal}
+use Rattle.outflows.specs.Columns.{sending}
 use Rattle.numbers.specs.Tests.{order}
 use Rattle.model.specs.Places.{gateArrivals, releaseAt, roomAt, demandAt, shareAt, cumulativeAt, enteringAt, outflowAt}
-use Rattle.model.specs.Rules.{outflowsOf}
-use Rattle.model.specs.RulesLaws.{share-cell, cumulative-cell, length-outflows, outflows-at, outflows-last, demand-at-cell}
+use Rattle.model.specs.Schedules.{outflowsOf}
+use Rattle.theory.specs.RulesLaws.{share-cell, cumulative-cell, length-outflows, outflows-at, outflows-last, demand-at-cell}
 use Rattle.model.specs.Move.{heldOf, queueOf, cumulativeOf, movedTo, countedOf, nextOf}
-use Rattle.moves.specs.Asked.{Steppable}
+use Rattle.stepping.specs.StepNeeds.{Steppable}
 use Rattle.outflows.specs.Rooms.{Rooms}
 use Rattle.passes.specs.Rest.{restOf}
 use Rattle.passes.specs.Supplies.{NoRamp, demandIn, demand-model, Demands}
@@ -31,8 +31,8 @@ use Rattle.passes.specs.Outflows.{Pass, passOf, outAt, placeAt, enterAt,
 use Rattle.passes.specs.RampList.{Listed, listed-map}
 use Rattle.passes.specs.AddReleases.{Idle, Adds, Addable, Added, givenAt}
 
--- what a step has ready when its releases are taken: each ramp's release and its queue after it, the rooms, and the rests
-pub record Ready (q : Road) (s : State) (row : List ℕ) (ramps arrivals : ℕ) (cell release waiting room rest : List ℕ) : Type 0 where
+-- what a step has ready when its releases are taken: each ramp's release and its queue after it, the rooms, the rests, and the demands
+pub record NextAsks (q : Road) (s : State) (row : List ℕ) (ramps arrivals : ℕ) (cell release waiting room rest demand : List ℕ) : Type 0 where
   pub steppable : Steppable q s row
   pub listed : Listed (NoRamp (q .ramp)) (q .n) ramps cell
   pub releases : (k : ℕ) → k < ramps → at release k ≡ releaseAt row (at cell k)
@@ -40,21 +40,21 @@ pub record Ready (q : Road) (s : State) (row : List ℕ) (ramps arrivals : ℕ) 
   pub rooms : Rooms q s row room
   pub rests : (i : ℕ) → i < q .n → at rest i ≡ restOf (at (q .share) i) (at (s .cumulative) i)
   pub longRest : q .n ≤ length rest
+  pub demands : (i : ℕ) → i < q .n → at demand i ≡ demandAt q s (suc i)
   pub gate : arrivals ≡ gateArrivals row
 
--- the gate's outflow and the demands are in place
-pub record Begun (q : Road) (s : State) (room : List ℕ) (first : ℕ) (demand : List ℕ) : Type 0 where
-  pub gate : first ≡ min (gateDemandOf (q .«gate_capacity») (s .«gate_queue»)) (at room 0)
-  pub demands : (i : ℕ) → i < q .n → at demand i ≡ demandAt q s (suc i)
-
-pub begun : (q : Road) (s : State) (room : List ℕ) {first : ℕ} {demand : List ℕ} (demand₀ : List ℕ) → q .n ≤ length demand₀
-    → first ≡ min (gateDemandOf (q .«gate_capacity») (s .«gate_queue»)) (at room 0)
-    → demand ≡ fillOf (demandIn (q .speed) (q .capacity) (s .held)) (q .n) demand₀ → Begun q s room first demand
-begun q s room demand₀ long ef ed = record {
-  gate = ef;
-  demands = λ i l.
-      ap (λ (x : List ℕ). at x i) ed ∙ fill-at (demandIn (q .speed) (q .capacity) (s .held)) (q .n) demand₀ i l long ∙ demand-model q s i;
+-- the demands ask nothing more, and are the model's
+pub demands-ask : {q : Road} {s : State} {row : List ℕ} → InputOk q s row → Demands (q .n) (q .speed) (s .held)
+demands-ask k = record {
+  cells = k .road .cells;
+  speeds = k .road .speed;
+  helds = λ i l. omega (arith, k .state .held i l, k .road .jam i l);
 }
+
+pub demands-are : (q : Road) (s : State) {demand : List ℕ} (demand₀ : List ℕ) → q .n ≤ length demand₀
+    → demand ≡ fillOf (demandIn (q .speed) (q .capacity) (s .held)) (q .n) demand₀ → (i : ℕ) → i < q .n → at demand i ≡ demandAt q s (suc i)
+demands-are q s demand₀ long e i l =
+    ap (λ (x : List ℕ). at x i) e ∙ fill-at (demandIn (q .speed) (q .capacity) (s .held)) (q .n) demand₀ i l long ∙ demand-model q s i
 
 -- two rows filled alike, one over another that was filled before
 fill-over : (f g h : ℕ → ℕ) (n : ℕ) (l : List ℕ) → n ≤ length l → ((i : ℕ) → i < n → g i ≡ h i)
@@ -66,33 +66,22 @@ fill-over f g h n l m e = ext-getD 0 (fillOf g n (fillOf f n l)) (fillOf h n l)
     (λ (p : i < n). fill-at g n (fillOf f n l) i p (omega (arith, length-fill f n l)) ∙ e i p ∙ sym (fill-at h n l i p m))
     (order n i))
 
-module _ {q : Road} {s : State} {row : List ℕ} {ramps arrivals : ℕ} {cell release waiting room rest : List ℕ}
-    (k : Ready q s row ramps arrivals cell release waiting room rest) where
-  -- the demands ask nothing more
-  pub demands-ask : Demands (q .n) (q .speed) (s .held)
-  demands-ask = record {
-    cells = k .steppable .input .road .cells;
-    speeds = k .steppable .input .road .speed;
-    helds = λ i l. omega (arith, k .steppable .input .state .held i l, k .steppable .input .road .jam i l);
-  }
-
-  -- with the demands in place and the gate's outflow
-  module _ {first : ℕ} {demand : List ℕ} (b : Begun q s room first demand) where
+module _ {q : Road} {s : State} {row : List ℕ} {ramps arrivals : ℕ} {cell release waiting room rest demand : List ℕ}
+    (k : NextAsks q s row ramps arrivals cell release waiting room rest demand) where
+  -- with the gate's outflow
+  module _ {first : ℕ} (ef : first ≡ min (gateDemandOf (q .«gate_capacity») (s .«gate_queue»)) (at room 0)) where
     abbrev c : Pass
     c = passOf first (q .share) demand room (s .held) (s .cumulative)
 
     some : 1 ≤ q .n
     some = k .steppable .input .road .some
 
-    demand-is : (i : ℕ) → i < q .n → at demand i ≡ demandAt q s (suc i)
-    demand-is = b .demands
-
     first-is : first ≡ outflowAt q s row 0
     unfolding shareAt demandAt gateDemandOf
     first-is =
         omega (
           arith,
-          b .gate,
+          ef,
           k .rooms 0 some,
           outflow-whole (cumulativeAt s 0) (roomAt q s row 0) (min (q .«gate_capacity») (s .«gate_queue»)),
         )
@@ -108,13 +97,13 @@ module _ {q : Road} {s : State} {row : List ℕ} {ramps arrivals : ℕ} {cell re
         let z = k .steppable .input .road .last i (add-one i ∙ e) in
         ap (λ (b : ℕ). outflowOf b (at (s .cumulative) i) (at room (i + 1)) (at demand i)) z
         ∙ outflow-exit (at (s .cumulative) i) (at room (i + 1)) (at demand i)
-        ∙ demand-is i l
+        ∙ k .demands i l
         ∙ ap (demandAt q s) e
         ∙ sym (outflows-last q s row)
         ∙ ap (at (outflowsOf q s row)) (sym e))
         (λ (m : suc i < q .n).
         let ro : at room (suc i) ≡ roomAt q s row (suc i) = k .rooms (suc i) m in
-        let de = demand-is i l in
+        let de = k .demands i l in
         let sh : shareAt q (suc i) ≡ at (q .share) i = rw (← add-one i) (share-cell q i) in
         let cu : cumulativeAt s (suc i) ≡ at (s .cumulative) i = rw (← add-one i) (cumulative-cell s i) in
         let one : at room (i + 1) ≡ at room (suc i) = ap (at room) (add-one i) in
@@ -142,14 +131,14 @@ module _ {q : Road} {s : State} {row : List ℕ} {ramps arrivals : ℕ} {cell re
 
     -- within the limits
     demand-most : (i : ℕ) → i < q .n → at demand i ≤ at (s .held) i
-    demand-most i l = omega (arith, demand-is i l, demand-at-cell q (k .steppable .input .road) s i l)
+    demand-most i l = omega (arith, k .demands i l, demand-at-cell q (k .steppable .input .road) s i l)
 
     held-most : (i : ℕ) → i < q .n → at (s .held) i ≤ mostRate
     held-most i l = omega (arith, k .steppable .input .state .held i l, k .steppable .input .road .jam i l)
 
     first-most : first ≤ mostRate
     unfolding gateDemandOf
-    first-most = omega (arith, b .gate, k .steppable .input .road .gate)
+    first-most = omega (arith, ef, k .steppable .input .road .gate)
 
     pub sends-ask : Sends (q .n) (passOf first (q .share) demand room (s .held) (s .cumulative)) rest
     sends-ask = record {
@@ -273,12 +262,11 @@ module _ {q : Road} {s : State} {row : List ℕ} {ramps arrivals : ℕ} {cell re
         rests-long = omega (arith, ap length (h .rests), length-fill (restAt c) (q .n) rest, k .longRest)
 
 -- what a step asks: that it is ready on some road with the columns that are lent
-pub record Nexts (n gate : ℕ) (speed share capacity : List ℕ) (s : State) (ramps arrivals : ℕ) (cell release waiting room rest demand y : List ℕ) : Type 0 where
+pub record NextLent (n gate : ℕ) (share : List ℕ) (s : State) (ramps arrivals : ℕ) (cell release waiting room rest demand y : List ℕ) : Type 0 where
   pub road : Road
   pub row : List ℕ
-  pub ready : Ready (sending road n gate speed share capacity) s row ramps arrivals cell release waiting room rest
+  pub ready : NextAsks (sending road n gate (road .speed) share (road .capacity)) s row ramps arrivals cell release waiting room rest demand
   pub places : length y ≡ n + 1
-  pub longDemand : n ≤ length demand
 
 -- what it gives: the next state, the row of outflows and the rests
 pub record Stepped (q : Road) (s : State) (row : List ℕ) (t : State) (y rest : List ℕ) : Type 0 where
@@ -297,8 +285,8 @@ pub record NextTurn (s : State) (first arrivals : ℕ) : Type 0 where
   pub done : s .done < mostSteps
   pub total : totalOf s ≤ mostTotal mostSteps
 
-pub next-turn : {q : Road} {s : State} {row : List ℕ} {ramps arrivals : ℕ} {cell release waiting room rest : List ℕ} {first : ℕ}
-    → Ready q s row ramps arrivals cell release waiting room rest → first ≡ min (gateDemandOf (q .«gate_capacity») (s .«gate_queue»)) (at room 0)
+pub next-turn : {q : Road} {s : State} {row : List ℕ} {ramps arrivals : ℕ} {cell release waiting room rest demand : List ℕ} {first : ℕ}
+    → NextAsks q s row ramps arrivals cell release waiting room rest demand → first ≡ min (gateDemandOf (q .«gate_capacity») (s .«gate_queue»)) (at room 0)
     → NextTurn s first arrivals
 unfolding gateDemandOf
 next-turn k e =

@@ -6,14 +6,12 @@ use native.Mathlib.Nat.{le-refl}
 use native.Mathlib.Numerals.{add-one}
 use native.Mathlib.Omega.{arith}
 use lib.ListN.{length, set, take, length-set}
-use Rattle.flow.specs.Flow.{whole, enteringOf, outflowOf}
+use Rattle.model.specs.Flow.{whole, enteringOf, outflowOf}
 use Rattle.flow.specs.FlowLaws.{outflow-le, entering-le}
-use Rattle.rows.specs.Sum.{sumOf}
-use Rattle.rows.specs.SumLaws.{sum-start, sum-set}
-use Rattle.rows.specs.Rows.{fillOf}
-use Rattle.rows.specs.RowsLaws.{fill-more, fill-past}
-use Rattle.road.specs.Road.{mostCells, mostRate, mostSteps}
-use Rattle.numbers.specs.Lists.{at}
+use Rattle.model.specs.Numbers.{sumOf, fillOf, at}
+use Rattle.numbers.specs.SumLaws.{sum-start, sum-set}
+use Rattle.numbers.specs.RowsLaws.{fill-more, fill-past}
+use Rattle.model.specs.Road.{mostCells, mostRate, mostSteps}
 use Rattle.passes.specs.Rest.{restOf, rest-small, Sent}
 
 -- what the pass goes by: the gate's outflow, and shares, demands, rooms, held counts and cumulative outflows

@@ -9,12 +9,10 @@ use lib.ListN.{length, set, take}
 use lib.Seq.{set-getD, getD-set-same, getD-set-other}
 use mathlib.Core.Logic.{⊎-elim}
 use Rattle.numbers.specs.Tests.{order}
-use Rattle.rows.specs.Sum.{sumOf}
-use Rattle.rows.specs.SumLaws.{sum-more}
-use Rattle.rows.specs.Rows.{fillOf}
-use Rattle.rows.specs.RowsLaws.{fill-more, fill-past}
-use Rattle.road.specs.Road.{mostCells}
-use Rattle.numbers.specs.Lists.{at}
+use Rattle.model.specs.Numbers.{sumOf, fillOf, at}
+use Rattle.numbers.specs.SumLaws.{sum-more}
+use Rattle.numbers.specs.RowsLaws.{fill-more, fill-past}
+use Rattle.model.specs.Road.{mostCells}
 
 -- the cell after the one listed before k, 0 for the first
 unfoldable pub startOf : List ℕ → ℕ → ℕ
@@ -33,6 +31,10 @@ pub record Listed (P : ℕ → Type 0) (n count : ℕ) (cell : List ℕ) : Type 
   pub gap : (k : ℕ) → k < count → (i : ℕ) → startOf cell k ≤ i → i < at cell k → P i
   pub last : startOf cell count ≤ n
   pub past : (i : ℕ) → startOf cell count ≤ i → i < n → P i
+
+-- each of the first `count` entries is a cell with a ramp
+abbrev pub AtRamps : List ℕ → ℕ → List ℕ → Type 0
+AtRamps ramp count cell = (k : ℕ) → k < count → at ramp (at cell k) ≡ 1
 
 -- what a loop over the listed cells keeps of its count
 pub record Upto (ramps k : ℕ) : Type 0 where
@@ -184,7 +186,19 @@ module _ {P : ℕ → Type 0} where
         past = λ j a b. absurd (omega (arith, last-start));
       }
 
+      pub ramps-put : (ramp : List ℕ) → at ramp i ≡ 1 → AtRamps ramp count cell → AtRamps ramp (count + 1) (set cell count i)
+      ramps-put ramp e f k l = ⊎-elim
+          (λ (q : count ≤ k).
+          let same : count ≡ k = omega arith in
+          ap (λ (x : ℕ). at ramp (at (set cell count i) x)) (sym same) ∙ ap (at ramp) stored ∙ e)
+          (λ (q : k < count). ap (at ramp) (kept k q) ∙ f k q)
+          (order count k)
+
 pub listed-same : {P : ℕ → Type 0} {n count count′ : ℕ} {cell cell′ : List ℕ} → cell′ ≡ cell → count′ ≡ count → Listed P n count cell
     → Listed P n count′ cell′
 listed-same {P} {n} {count} {count′} {cell} {cell′} e g h =
     subst (λ (k : ℕ). Listed P n k cell′) (sym g) (subst (λ (x : List ℕ). Listed P n count x) (sym e) h)
+
+pub ramps-same : (ramp : List ℕ) {count count′ : ℕ} {cell cell′ : List ℕ} → cell′ ≡ cell → count′ ≡ count → AtRamps ramp count cell
+    → AtRamps ramp count′ cell′
+ramps-same ramp e g h = rw (e, g) h

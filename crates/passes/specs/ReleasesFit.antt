@@ -5,16 +5,16 @@ use mathlib.Core.List.{List}
 use Prim.Native.Nat.{ℕ, _+_, _-_, _≤_, _<_}
 use native.Mathlib.Omega.{arith}
 use lib.ListN.{length}
-use Rattle.flow.specs.Flow.{roomOf}
-use Rattle.rows.specs.Rows.{fillOf}
-use Rattle.rows.specs.RowsLaws.{fill-at, length-fill}
-use Rattle.road.specs.declared.Road.{Road}
-use Rattle.road.specs.declared.State.{State}
-use Rattle.numbers.specs.Lists.{at}
+use Rattle.model.specs.Flow.{roomOf}
+use Rattle.model.specs.Numbers.{fillOf, at}
+use Rattle.numbers.specs.RowsLaws.{fill-at, length-fill}
+use Rattle.model.specs.declared.Road.{Road}
+use Rattle.model.specs.declared.State.{State}
 use Rattle.limits.specs.LimitsLaws.{InputOk}
-use Rattle.fields.specs.Fields.{rowSize}
+use Rattle.model.specs.Record.{rowSize}
 use Rattle.model.specs.Places.{arrivalsAt, releaseAt, supplyAt, mostReleaseAt}
-use Rattle.model.specs.Rules.{Released, Sized}
+use Rattle.model.specs.Schedules.{Released}
+use Rattle.theory.specs.RulesLaws.{Sized}
 use Rattle.model.specs.Move.{queueOf}
 use Rattle.outflows.specs.Rooms.{Rooms}
 use Rattle.passes.specs.Supplies.{NoRamp, supplyIn, supply-model, Supplies}

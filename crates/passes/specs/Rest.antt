@@ -3,7 +3,7 @@ use mathlib.Core.Path.{_≡_}
 use Prim.Native.Nat.{ℕ, zero, suc, _+_, _-_, _*_, _/_, _≤_, _<_, min}
 use native.Mathlib.Nat.{mul-le-mul, mul-add, mul-suc, mul-comm, zero-mul, le-div-iff-mul-le, le-refl}
 use native.Mathlib.Omega.{arith}
-use Rattle.flow.specs.Flow.{whole, thousandthsOf, onwardOf, enteringOf, outflowOf}
+use Rattle.model.specs.Flow.{whole, thousandthsOf, onwardOf, enteringOf, outflowOf}
 use Rattle.flow.specs.FlowLaws.{outflow-le, outflow-greatest, outflow-unique, outflow-whole, entering-mono, entering-whole, onward-entering, onward-whole}
 
 -- the rest of b × F by 1,000: what the onward total leaves of it

@@ -5,26 +5,28 @@ use mathlib.Core.List.{List}
 use Prim.Native.Nat.{ℕ, _+_, _*_, _≤_, _<_}
 use native.Mathlib.Omega.{arith}
 use lib.ListN.{length}
-use Rattle.numbers.specs.Lists.{at}
-use Rattle.road.specs.Refusals.{FaultAnswer, fault}
-use Rattle.road.specs.Road.{mostSteps}
-use Rattle.road.specs.declared.Road.{Road}
-use Rattle.road.specs.declared.State.{State}
-use Rattle.columns.specs.Columns.{roadOf}
+use Rattle.model.specs.Numbers.{at, fillOf}
+use Rattle.numbers.specs.RowsLaws.{length-fill}
+use Rattle.model.specs.Refusals.{FaultAnswer, fault}
+use Rattle.model.specs.Road.{mostSteps}
+use Rattle.model.specs.declared.Road.{Road}
+use Rattle.model.specs.declared.State.{State}
+use Rattle.outflows.specs.Columns.{roadOf}
 use Rattle.limits.specs.LimitsLaws.{InputOk}
-use Rattle.fields.specs.Fields.{numberOf, versionOf, rowStart, recordRow, HoldsRow}
-use Rattle.fields.specs.FieldsLaws.{row-at}
+use Rattle.model.specs.Record.{numberOf, versionOf, rowStart, recordRow}
+use Rattle.fields.specs.FieldsLaws.{HoldsRow, row-at}
 use Rattle.model.specs.Places.{gateArrivals, arrivalsAt, releaseAt}
-use Rattle.model.specs.Rules.{Sized, outflowsOf}
+use Rattle.theory.specs.RulesLaws.{Sized}
+use Rattle.model.specs.Schedules.{outflowsOf}
 use Rattle.model.specs.Move.{nextOf}
-use Rattle.model.specs.Step.{releasesOf}
-use Rattle.model.specs.StepLaws.{number-of, releases-fit, fit-releases}
+use Rattle.model.specs.Stepping.{releasesOf}
+use Rattle.theory.specs.StepLaws.{number-of, releases-fit, fit-releases}
 use Rattle.passes.specs.Rest.{restOf}
-use Rattle.passes.specs.Supplies.{NoRamp}
+use Rattle.passes.specs.Supplies.{NoRamp, demandIn}
 use Rattle.passes.specs.RampList.{Listed}
 use Rattle.passes.specs.TakeReleases.{arriveIn, giveIn}
 use Rattle.passes.specs.ReleasesFit.{Fittable, FitFound}
-use Rattle.passes.specs.Next.{Ready, Stepped}
+use Rattle.passes.specs.Next.{NextAsks, demands-are, Stepped}
 
 -- what a loop over the steps keeps for its passes: the cells with a ramp in a list, the rests of b × F, and arrays with an entry for each cell
 pub record Arrays (r : Road) (ramps : ℕ) (cell cumulative rest room release waiting demand : List ℕ) : Type 0 where
@@ -37,7 +39,7 @@ pub record Arrays (r : Road) (ramps : ℕ) (cell cumulative rest room release wa
   pub longDemand : r .n ≤ length demand
 
 -- what a step asks: all within the limits, a step left, the row in the bytes, the arrays, and room for the row of outflows
-pub record Asks (bytes : List ℕ) (k : ℕ) (q : Road) (s : State) (ramps : ℕ) (cell rest room release waiting demand y : List ℕ) : Type 0 where
+pub record StepAsks (bytes : List ℕ) (k : ℕ) (q : Road) (s : State) (ramps : ℕ) (cell rest room release waiting demand y : List ℕ) : Type 0 where
   pub input : InputOk q s (recordRow bytes (q .n) k)
   pub sized : Sized q s
   pub left : s .done < mostSteps
@@ -46,10 +48,10 @@ pub record Asks (bytes : List ℕ) (k : ℕ) (q : Road) (s : State) (ramps : ℕ
   pub places : length y ≡ q .n + 1
 
 -- the same of some road with the columns that are lent
-pub record StepAsks (bytes : List ℕ) (k n gate : ℕ) (speed wave share jam capacity : List ℕ) (s : State) (ramps : ℕ)
+pub record StepLent (bytes : List ℕ) (k n gate : ℕ) (speed wave share jam capacity : List ℕ) (s : State) (ramps : ℕ)
     (cell rest room release waiting demand y : List ℕ) : Type 0 where
   pub road : Road
-  pub asks : Asks bytes k (roadOf road n gate speed wave share jam capacity) s ramps cell rest room release waiting demand y
+  pub asks : StepAsks bytes k (roadOf road n gate speed wave share jam capacity) s ramps cell rest room release waiting demand y
 
 -- what it gives: the fault of its releases. With one, state and row are unchanged; without one there are the next state, its outflows, and the arrays.
 pub record StepGives (bytes : List ℕ) (k : ℕ) (q : Road) (s : State) (ramps : ℕ) (cell y₀ : List ℕ) (f : FaultAnswer) (t : State)
@@ -79,7 +81,7 @@ module _ (bytes : List ℕ) (n k start : ℕ) (e : start ≡ rowStart (versionOf
       ∙ sym (row-at bytes n k (2 * i + 2) (omega arith))
 
 module _ {bytes : List ℕ} {k : ℕ} {q : Road} {s : State} {ramps : ℕ} {cell rest₀ room₀ release₀ waiting₀ demand₀ y₀ : List ℕ}
-    (h : Asks bytes k q s ramps cell rest₀ room₀ release₀ waiting₀ demand₀ y₀) where
+    (h : StepAsks bytes k q s ramps cell rest₀ room₀ release₀ waiting₀ demand₀ y₀) where
   abbrev row : List ℕ
   row = recordRow bytes (q .n) k
 
@@ -112,33 +114,35 @@ module _ {bytes : List ℕ} {k : ℕ} {q : Road} {s : State} {ramps : ℕ} {cell
       arrays = λ n. absurd (some-fault z e n);
     }
 
-    -- otherwise the step is ready
-    pub ready : {arrivals : ℕ} → ok ≡ true → arrivals ≡ gateArrivals row → Ready q s row ramps arrivals cell release waiting room rest₀
-    ready y e = record {
-      steppable = record { input = h .input; sized = h .sized; released = f .yes y .released; left = h .left };
-      listed = h .arrays .listed;
-      releases = f .yes y .releases;
-      waits = f .yes y .waits;
-      rooms = f .yes y .rooms;
-      rests = h .arrays .rests;
-      longRest = h .arrays .longRest;
-      gate = e;
-    }
-
-    pub gives-step : {x : FaultAnswer} {t : State} {rest demand y : List ℕ} → ok ≡ true → x ≡ fault 0 0 → Stepped q s row t y rest
-        → length demand ≡ length demand₀ → StepGives bytes k q s ramps cell y₀ x t rest room release waiting demand y
-    gives-step fits e st long = record {
-      says = e ∙ sym (fit-releases q s row (f .yes fits .released));
-      same = λ n. absurd (n (number-of e));
-      state = λ _. st .state;
-      outflows = λ _. st .outflows;
-      arrays = λ _. record {
+    -- otherwise, with the demands, the step is ready
+    module _ {demand : List ℕ} (ed : demand ≡ fillOf (demandIn (q .speed) (q .capacity) (s .held)) (q .n) demand₀) where
+      pub ready : {arrivals : ℕ} → ok ≡ true → arrivals ≡ gateArrivals row → NextAsks q s row ramps arrivals cell release waiting room rest₀ demand
+      ready y e = record {
+        steppable = record { input = h .input; sized = h .sized; released = f .yes y .released; left = h .left };
         listed = h .arrays .listed;
-        rests = st .rests;
-        longRest = st .longRest;
-        longRoom = omega (arith, h .arrays .longRoom, f .yes fits .sameRoom);
-        longRelease = omega (arith, h .arrays .longRelease, f .yes fits .sameRelease);
-        longWaiting = omega (arith, h .arrays .longWaiting, f .yes fits .sameWaiting);
-        longDemand = omega (arith, h .arrays .longDemand);
-      };
-    }
+        releases = f .yes y .releases;
+        waits = f .yes y .waits;
+        rooms = f .yes y .rooms;
+        rests = h .arrays .rests;
+        longRest = h .arrays .longRest;
+        demands = demands-are q s demand₀ (h .arrays .longDemand) ed;
+        gate = e;
+      }
+
+      pub gives-step : {x : FaultAnswer} {t : State} {rest y : List ℕ} → ok ≡ true → x ≡ fault 0 0 → Stepped q s row t y rest
+          → StepGives bytes k q s ramps cell y₀ x t rest room release waiting demand y
+      gives-step fits e st = record {
+        says = e ∙ sym (fit-releases q s row (f .yes fits .released));
+        same = λ n. absurd (n (number-of e));
+        state = λ _. st .state;
+        outflows = λ _. st .outflows;
+        arrays = λ _. record {
+          listed = h .arrays .listed;
+          rests = st .rests;
+          longRest = st .longRest;
+          longRoom = omega (arith, h .arrays .longRoom, f .yes fits .sameRoom);
+          longRelease = omega (arith, h .arrays .longRelease, f .yes fits .sameRelease);
+          longWaiting = omega (arith, h .arrays .longWaiting, f .yes fits .sameWaiting);
+          longDemand = omega (arith, h .arrays .longDemand, ap length ed, length-fill (demandIn (q .speed) (q .capacity) (s .held)) (q .n) demand₀);
+        };
+      }

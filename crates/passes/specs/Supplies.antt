@@ -4,13 +4,12 @@ use mathlib.Core.List.{List}
 use Prim.Native.Nat.{ℕ, suc, _+_, _-_, _*_, _/_, _≤_, _<_, min}
 use native.Mathlib.Omega.{arith}
 use lib.ListN.{length, set, length-set}
-use Rattle.flow.specs.Flow.{whole, thousandthsOf, supplyOf, demandOf}
-use Rattle.rows.specs.Rows.{fillOf}
-use Rattle.rows.specs.RowsLaws.{fill-more}
-use Rattle.road.specs.declared.Road.{Road}
-use Rattle.road.specs.declared.State.{State}
-use Rattle.road.specs.Road.{mostCells, mostRate}
-use Rattle.numbers.specs.Lists.{at}
+use Rattle.model.specs.Flow.{whole, thousandthsOf, supplyOf, demandOf}
+use Rattle.model.specs.Numbers.{fillOf, at}
+use Rattle.numbers.specs.RowsLaws.{fill-more}
+use Rattle.model.specs.declared.Road.{Road}
+use Rattle.model.specs.declared.State.{State}
+use Rattle.model.specs.Road.{mostCells, mostRate}
 use Rattle.model.specs.Places.{capacityAt, supplyAt, demandAt}
 use Rattle.passes.specs.Rest.{product-most}
 

@@ -6,13 +6,12 @@ use mathlib.Core.List.{List}
 use Prim.Native.Nat.{ℕ, _+_, _-_, _*_, _≤_, _<_}
 use native.Mathlib.Omega.{arith}
 use lib.ListN.{length, set}
-use Rattle.rows.specs.Rows.{fillOf}
-use Rattle.rows.specs.RowsLaws.{fill-at}
-use Rattle.road.specs.Road.{mostCells, mostRate, mostSteps}
-use Rattle.limits.specs.Limits.{mostQueue}
-use Rattle.numbers.specs.Lists.{at}
+use Rattle.model.specs.Numbers.{fillOf, at}
+use Rattle.numbers.specs.RowsLaws.{fill-at}
+use Rattle.model.specs.Road.{mostCells, mostRate, mostSteps}
+use Rattle.model.specs.Limits.{mostQueue}
 use Rattle.numbers.specs.Tests.{order}
-use Rattle.fields.specs.Fields.{numberOf, rowSize}
+use Rattle.model.specs.Record.{numberOf, rowSize}
 use Rattle.passes.specs.Supplies.{FilledTo, filled-none, filled-more, filled-end}
 use Rattle.passes.specs.RampList.{startOf, start-more, Listed, Upto, listed-here, listed-more, listed-end}
 

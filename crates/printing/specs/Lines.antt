@@ -10,35 +10,29 @@ use lib.Dec.{eqb}
 use lib.ListN.{length, drop, set, length-append}
 use lib.Seq.{sets, length-take-le, drop-set-lt}
 use borrow.Author.Tests.{eq-eqb, ne-eqb}
-use Rattle.rows.specs.TablesLaws.{row-ends, mul-more}
-use Rattle.road.specs.Refusals.{FaultAnswer}
-use Rattle.road.specs.declared.Road.{Road}
-use Rattle.road.specs.declared.State.{State}
-use Rattle.road.specs.Road.{mostSteps, mostSeconds, mostLong, totalOf}
-use Rattle.studies.specs.Study.{Study, places, tableSize}
-use Rattle.timing.specs.Seconds.{vehicleSeconds, vehicleSecondsOf}
-use Rattle.fields.specs.Fields.{secondVersion, recordRow}
-use Rattle.limits.specs.Limits.{mostTotal}
+use Rattle.numbers.specs.TablesLaws.{row-ends, mul-more}
+use Rattle.model.specs.Refusals.{FaultAnswer}
+use Rattle.model.specs.declared.Road.{Road}
+use Rattle.model.specs.declared.State.{State}
+use Rattle.model.specs.Road.{mostSteps, mostSeconds, mostLong, totalOf}
+use Rattle.model.specs.Schedules.{Study, places, tableSize, outflowsOf, engineAfter, outflowsAt}
+use Rattle.model.specs.Words.{vehicleSeconds, vehicleSecondsOf}
+use Rattle.model.specs.Record.{secondVersion, recordRow}
+use Rattle.model.specs.Limits.{mostTotal}
 use Rattle.model.specs.Move.{nextOf, exitsOf}
-use Rattle.model.specs.Rules.{outflowsOf}
-use Rattle.model.specs.Step.{releasesOf}
-use Rattle.model.specs.Runs.{engineAfter, outflowsAt}
-use Rattle.model.specs.RunsLaws.{StudyOk}
+use Rattle.model.specs.Stepping.{releasesOf}
+use Rattle.theory.specs.RunsLaws.{StudyOk}
 use Rattle.passes.specs.Step.{Arrays, StepGives}
-use Rattle.reading.specs.Reading.{ReadAnswer, readingWithin, readingOf, studyBy}
+use Rattle.model.specs.Reading.{ReadAnswer, readingWithin, readingOf, studyBy}
 use Rattle.reading.specs.Caller.{within-accepted}
-use Rattle.reading.specs.Table.{mostOutflows}
-use Rattle.schedules.specs.Schedules.{EndAnswer, ended, runEnd}
-use Rattle.schedules.specs.Readable.{Readable}
+use Rattle.model.specs.Listing.{mostOutflows, mostLine, mostLast, mostTime, headerLine, linesOf, totalLine, secondsLine, refusedLine, stepsLines, timeOf, lastOf, printedEnd}
+use Rattle.model.specs.Listing.{printedRun, printedWithin, mostText, Printed}
+use Rattle.model.specs.Running.{EndAnswer, ended, runEnd}
+use Rattle.theory.specs.Readable.{Readable}
 use Rattle.running.specs.Steps.{Ran, RanTurn, ran-reached, ran-none, ran-more, row-is, ends-ran, all-ran}
-use Rattle.listing.specs.Listing.{mostLine, mostLast, mostTime, headerLine, linesOf, totalLine, secondsLine, refusedLine}
-use Rattle.rows.specs.Placed.{placed, Puts, placed-none, puts-first, puts-more, Room, room, Holds}
+use Rattle.model.specs.Numbers.{placed}
+use Rattle.numbers.specs.PlacedText.{Puts, placed-none, puts-first, puts-more, Room, room}
 use Rattle.listing.specs.ListingLaws.{header-room, lines-room, total-length, total-room, seconds-length, refused-room}
-use Rattle.printing.specs.Printed.{stepsLines, timeOf, lastOf, printedEnd, printedRun, printedWithin}
-
--- how long a text may be: a line for each outflow, a header, the line of the totals and that of the seconds
-abbrev pub mostText : ℕ
-mostText = mostLine * mostOutflows + mostLine + (mostLast + mostTime)
 
 -- a record that reads, and a buffer long enough
 pub record Printable (bytes : List ℕ) (a : Study) (buffer : List ℕ) : Type 0 where
@@ -199,13 +193,6 @@ module _ {a : Study} {before : List ℕ} {start : ℕ} where
             puts = rw (add-one k) (puts-more before start (stepsLines a k) buffer end _ c m (h .puts) g);
             room = record { end = omega (arith, x .end, h .room .end, mul-more k (places a)); same = x .same ∙ h .room .same };
           }
-
--- what a buffer holds after a record was printed into it: the text at its start, of at most `mostText` bytes, and from there on what it held before.
--- The bytes between the text and that index are free: a refusal's line takes the place of the lines that were put before it
-pub record Printed (before text after : List ℕ) (end : ℕ) : Type 0 where
-  pub holds : Holds before text after end
-  pub short : end ≤ mostText
-  pub beyond : drop mostText after ≡ drop mostText before
 
 -- bytes past what was put are unchanged
 sets-beyond : (text list : List ℕ) (at k : ℕ) → at + length text ≤ k → drop k (sets list at text) ≡ drop k list

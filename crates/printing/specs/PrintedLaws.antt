@@ -1,25 +1,28 @@
 -- What is printed is what running answers with the empty table of lanes, and any list that is long enough for every record; what a caller with its own
 -- limits sees of it. Assumes nothing.
-use mathlib.Core.Path.{_≡_, refl, ap}
-use mathlib.Core.Bool.{Bool, true, false}
 use mathlib.Core.List.{List, []}
 use Prim.Native.Nat.{ℕ, _≤_, _<_}
+use mathlib.Core.Path.{_≡_, refl, ap}
+use mathlib.Core.Bool.{Bool, true, false}
 use native.Mathlib.Omega.{arith}
 use lib.Dec.{eqb}
 use lib.ListN.{length}
 use borrow.Author.Tests.{eqb-true, eqb-false, eq-eqb, ne-eqb}
-use Rattle.numbers.specs.First.{unless}
-use Rattle.model.specs.Runs.{outflowsAt}
-use Rattle.header.specs.Header.{cellsOf}
-use Rattle.reading.specs.Reading.{ReadAnswer, readingWithin, readingOf, studyOf}
+use Rattle.model.specs.Road.{mostCells, mostBytes}
+use Rattle.model.specs.Listing.{printedWithin, mostOutflows, refusedLine, printedEnd, printedRun}
+use Rattle.model.specs.Numbers.{unless}
+use Rattle.model.specs.Schedules.{outflowsAt, proposedAt}
+use Rattle.model.specs.Reading.{cellsOf, ReadAnswer, readingWithin, readingOf, studyOf}
 use Rattle.reading.specs.Caller.{Beyond, beyond-refused, within-other, within-kept, within-accepted}
-use Rattle.reading.specs.Table.{mostOutflows, read-table}
-use Rattle.schedules.specs.Schedules.{proposedAt, stepsMade, runningOf, listAfter}
-use Rattle.schedules.specs.TableLaws.{table-row}
-use Rattle.schedules.specs.Ends.{runs-refused, runs-long}
-use Rattle.schedules.specs.Readable.{readable-open, taken-open}
-use Rattle.listing.specs.Listing.{refusedLine}
-use Rattle.printing.specs.Printed.{printedEnd, printedRun, printedWithin, printedOf}
+use Rattle.reading.specs.Table.{read-table}
+use Rattle.model.specs.Running.{stepsMade, runningOf, listAfter}
+use Rattle.theory.specs.TableLaws.{table-row}
+use Rattle.theory.specs.RunEnds.{runs-refused, runs-long}
+use Rattle.theory.specs.Readable.{readable-open, taken-open}
+
+-- with no limits but the model's
+abbrev pub printedOf : List ℕ → List ℕ
+printedOf bytes = printedWithin mostCells mostBytes bytes
 
 module _ (bytes list : List ℕ) (long : mostOutflows ≤ length list) where
   pub printed-runs : printedOf bytes ≡ printedEnd (studyOf bytes []) (runningOf bytes [] list)

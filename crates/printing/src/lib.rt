@@ -1,20 +1,19 @@
 // What is printed of a record: its run whole, or a refusal's line, put at the start of a buffer.
-use columns::Ledger;
-use road::Fault;
-use road::Road;
-use road::State;
+use model::Fault;
+use model::Road;
+use model::State;
+use outflows::Ledger;
 ghost use mathlib.Core.List.{[]};
 ghost use Prim.Native.Nat.{_+_, _*_, _≤_};
 ghost use lib.ListN.{length};
-ghost use Rattle.road.specs.declared.Road.{Road};
-ghost use Rattle.road.specs.Refusals.{faultAnswer};
-ghost use Rattle.columns.specs.Columns.{roadOf, stateOf};
-ghost use Rattle.passes.specs.Step.{Asks, StepAsks};
-ghost use Rattle.reading.specs.Reading.{studyBy};
-ghost use Rattle.rows.specs.Placed.{Puts};
-ghost use Rattle.listing.specs.Listing.{mostLine};
-ghost use Rattle.printing.specs.Printed.{lastOf, printedRun, printedWithin};
-ghost use Rattle.printing.specs.Lines.{mostText, Printable, Printed, Ending, PutStep};
+ghost use Rattle.model.specs.declared.Road.{Road};
+ghost use Rattle.model.specs.Refusals.{faultAnswer};
+ghost use Rattle.outflows.specs.Columns.{roadOf, stateOf};
+ghost use Rattle.passes.specs.Step.{StepAsks, StepLent};
+ghost use Rattle.model.specs.Reading.{studyBy};
+ghost use Rattle.numbers.specs.PlacedText.{Puts};
+ghost use Rattle.model.specs.Listing.{mostLine, lastOf, printedRun, printedWithin, mostText, Printed};
+ghost use Rattle.printing.specs.Lines.{Printable, Ending, PutStep};
 
 // The bytes of a text: no record that reads needs more.
 pub const TEXT: usize = 924161;
@@ -57,10 +56,10 @@ fn step_lines<'a>(
     buffer: &mut [u8],
     at: usize,
 ) -> Put
-    requires { ⌜ (StepAsks (now bytes) k n «gate_capacity» (now speed) (now wave) (now share) (now jam) (now capacity) (stateOf l (now held) (now queue) (now cumulative))
+    requires { ⌜ (StepLent (now bytes) k n «gate_capacity» (now speed) (now wave) (now share) (now jam) (now capacity) (stateOf l (now held) (now queue) (now cumulative))
         ramps (now cell) (now rest) (now room) (now release) (now waiting) (now demand) (now y)) × (at + mostLine * (n + 1) ≤ length (now buffer)) ⌝ }
     ensures { λ p. ⌜ ((r : Road)
-        → Asks (now (bytes .entry)) k (roadOf r n «gate_capacity» (now (speed .entry)) (now (wave .entry)) (now (share .entry)) (now (jam .entry)) (now (capacity .entry)))
+        → StepAsks (now (bytes .entry)) k (roadOf r n «gate_capacity» (now (speed .entry)) (now (wave .entry)) (now (share .entry)) (now (jam .entry)) (now (capacity .entry)))
         (stateOf l (now (held .entry)) (now (queue .entry)) (now (cumulative .entry))) ramps (now (cell .entry))
         (now (rest .entry)) (now (room .entry)) (now (release .entry)) (now (waiting .entry)) (now (demand .entry)) (now (y .entry))
         → PutStep (now (bytes .entry)) k
@@ -127,7 +126,7 @@ fn last_lines(buffer: &mut [u8], at: usize, r: Road, u: State) -> usize
         exits,
     );
     if r.version == fields::SECOND_VERSION {
-        return listing::seconds(buffer, end, timing::vehicle_seconds(r.seconds, u));
+        return listing::seconds(buffer, end, counts::vehicle_seconds(r.seconds, u));
     }
     end
 }

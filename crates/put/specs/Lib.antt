@@ -1,4 +1,5 @@
-pub mod Put
-pub mod Stated
+pub mod Bytes
+pub mod ReleasesLaws
+pub mod SameReading
 pub mod PutLaws
 pub mod Theorems

@@ -1,23 +1,23 @@
 -- Laws of putting a release: what each test says, and each end of it. Assumes nothing.
+use mathlib.Core.List.{List}
+use Prim.Native.Nat.{ℕ, _≤_, zero, suc, _-_, _<_}
 use mathlib.Core.Path.{_≡_, refl, sym, ap, _∙_}
 use mathlib.Core.Bool.{true, false}
-use mathlib.Core.List.{List}
-use Prim.Native.Nat.{ℕ, zero, suc, _-_, _≤_, _<_}
 use native.Mathlib.Omega.{arith}
 use lib.Dec.{leb, ltb, eqb}
 use borrow.Author.Tests.{eqb-true, eq-eqb, ne-eqb, leb-true, ltb-true, le-leb, lt-leb, lt-ltb}
-use Rattle.numbers.specs.Lists.{at}
+use Rattle.fields.specs.FieldsLaws.{HoldsRow}
+use Rattle.model.specs.Numbers.{at}
 use Rattle.numbers.specs.Tests.{never, and-true, both-true, le-head}
-use Rattle.road.specs.Road.{mostRate}
-use Rattle.road.specs.Refusals.{FaultAnswer, fault}
-use Rattle.reading.specs.Reading.{ReadAnswer, readingOf}
-use Rattle.put.specs.Put.{rampOk, ratesOk, releasedAt, puttingOf, releasedRecord}
+use Rattle.model.specs.Road.{mostRate}
+use Rattle.model.specs.Refusals.{FaultAnswer, fault}
+use Rattle.model.specs.Reading.{ReadAnswer, readingOf}
+use Rattle.model.specs.Put.{rampOk, ratesOk, releasedAt, puttingOf, releasedRecord, Ramp}
 
--- a cell that has a ramp, as the code counts it
-pub record Ramp (ramp : List ℕ) (n cell : ℕ) : Type 0 where
-  pub some : 1 ≤ cell
+-- what putting a release there asks: the bytes hold the row, and the cell is on the road
+pub record Place (bytes : List ℕ) (n step cell : ℕ) : Type 0 where
+  pub row : HoldsRow bytes n step
   pub within : cell ≤ n
-  pub mark : at ramp (cell - 1) ≡ 1
 
 pub ramp-facts : (ramp : List ℕ) (n cell : ℕ) → rampOk ramp n cell ≡ true → Ramp ramp n cell
 unfolding rampOk

@@ -10,36 +10,21 @@ use lib.Dec.{eqb}
 use lib.ListN.{set, length-set}
 use lib.Seq.{getD-set-same, getD-set-other}
 use borrow.Author.Tests.{eqb-true, eqb-false}
-use Rattle.numbers.specs.Lists.{at}
-use Rattle.numbers.specs.First.{unless}
+use Rattle.model.specs.Numbers.{at, unless}
 use Rattle.numbers.specs.Tests.{unless-elim, never}
-use Rattle.road.specs.declared.Road.{Road}
-use Rattle.road.specs.Road.{mostRate}
-use Rattle.road.specs.Refusals.{FaultAnswer, fault}
-use Rattle.fields.specs.Fields.{rowSize, recordRow}
+use Rattle.model.specs.declared.Road.{Road}
+use Rattle.model.specs.Road.{mostRate}
+use Rattle.model.specs.Refusals.{FaultAnswer, fault}
+use Rattle.model.specs.Record.{rowSize, recordRow}
 use Rattle.limits.specs.LimitsLaws.{RowOk, row-ok}
-use Rattle.reading.specs.Reading.{readingOf}
-use Rattle.reading.specs.Found.{Accepted}
+use Rattle.model.specs.Reading.{readingOf}
+use Rattle.reading.specs.Cases.{Accepted}
 use Rattle.reading.specs.Within.{read-within, read-row}
-use Rattle.patching.specs.Bytes.{compare}
-use Rattle.patching.specs.ReleasesLaws.{Put, put-entry}
-use Rattle.patching.specs.Same.{rows-replaced}
-use Rattle.put.specs.Put.{rampOk, ratesOk, releasedAt, puttingOf, releasedRecord}
-use Rattle.put.specs.PutLaws.{Ramp, ramp-facts, facts-ramp, rates-facts, facts-rates, Left}
-
--- what no refusal asks: the record reads, the cell is on the road and has a ramp, the step is one of its T, and the release is a rate
-pub record Asked (bytes : List ℕ) (step cell release : ℕ) : Type 0 where
-  pub reads : readingOf bytes .number ≡ 0
-  pub ramp : Ramp (readingOf bytes .road .ramp) (readingOf bytes .road .n) cell
-  pub before : step < readingOf bytes .steps
-  pub rate : release ≤ mostRate
-
--- the record with the release put
-pub record Stands (bytes after : List ℕ) (step cell release : ℕ) : Type 0 where
-  -- exactly that number is changed: every other byte, and every other number of every row, is as it was
-  pub put : Put bytes after (readingOf bytes .road .n) step (2 * cell) release
-  -- it reads without refusal, as before: the same road, T and start
-  pub reads : readingOf after ≡ readingOf bytes
+use Rattle.put.specs.Bytes.{compare}
+use Rattle.model.specs.Put.{Put, rampOk, ratesOk, releasedAt, puttingOf, releasedRecord, Ramp, Asked, Stands, Ends}
+use Rattle.put.specs.ReleasesLaws.{put-entry}
+use Rattle.put.specs.SameReading.{rows-replaced}
+use Rattle.put.specs.PutLaws.{ramp-facts, facts-ramp, rates-facts, facts-rates, Left}
 
 -- a row within its limits stays so with the release of a ramp
 module _ (r : Road) (row : List ℕ) (h : RowOk r row) (cell x : ℕ) (ramp : Ramp (r .ramp) (r .n) cell) (l : x ≤ mostRate) where
@@ -102,15 +87,6 @@ module _ (bytes : List ℕ) (step cell release : ℕ) (asked : Asked bytes step 
         (λ t l. row-ok (readingOf bytes .road) (recordRow after n t) (accepted .road) (row-within t l));
   }
 
--- the ends of putting, with what each leaves of the record
-pub data Ends (bytes : List ℕ) (step cell release : ℕ) : FaultAnswer → List ℕ → Type 0 where
-  unread : (readingOf bytes .number ≡ 0 → ⊥) → Ends bytes step cell release (fault (readingOf bytes .number) (readingOf bytes .place)) bytes
-  noRamp : readingOf bytes .number ≡ 0 → (Ramp (readingOf bytes .road .ramp) (readingOf bytes .road .n) cell → ⊥)
-      → Ends bytes step cell release (fault 5 cell) bytes
-  noRate : readingOf bytes .number ≡ 0 → Ramp (readingOf bytes .road .ramp) (readingOf bytes .road .n) cell
-      → (step < readingOf bytes .steps → release ≤ mostRate → ⊥) → Ends bytes step cell release (fault 6 step) bytes
-  put : Asked bytes step cell release → {after : List ℕ} → Stands bytes after step cell release → Ends bytes step cell release (fault 0 0) after
-
 -- 1: every answer is one of them
 module _ (bytes : List ℕ) (step cell release : ℕ) where
   abbrev r : Road
@@ -126,14 +102,14 @@ module _ (bytes : List ℕ) (step cell release : ℕ) where
   pub ends : Ends bytes step cell release (puttingOf bytes step cell release) (releasedRecord bytes step cell release)
   unfolding puttingOf releasedRecord
   ends =
-      unless-elim End (eqb (readingOf bytes .number) 0) (λ e. rw e (unread (eqb-false (readingOf bytes .number) 0 e))) (λ e.
+      unless-elim End (eqb (readingOf bytes .number) 0) (λ e. rw e (Ends.unread (eqb-false (readingOf bytes .number) 0 e))) (λ e.
       let reads = eqb-true (readingOf bytes .number) 0 e in
-      unless-elim End (rampOk (r .ramp) (r .n) cell) (λ f. noRamp reads (λ h. never (facts-ramp (r .ramp) (r .n) cell h) f)) (λ f.
+      unless-elim End (rampOk (r .ramp) (r .n) cell) (λ f. Ends.noRamp reads (λ h. never (facts-ramp (r .ramp) (r .n) cell h) f)) (λ f.
       let ramp = ramp-facts (r .ramp) (r .n) cell f in
-      unless-elim End (ratesOk step T release) (λ g. noRate reads ramp (λ l m. never (facts-rates step T release l m) g)) (λ g.
+      unless-elim End (ratesOk step T release) (λ g. Ends.noRate reads ramp (λ l m. never (facts-rates step T release l m) g)) (λ g.
       let rates = rates-facts step T release g in
       let asked : Asked bytes step cell release = record { reads = reads; ramp = ramp; before = rates .0; rate = rates .1 } in
-      put asked (stands bytes step cell release asked))))
+      Ends.put asked (stands bytes step cell release asked))))
 
 -- an answer and a record that are those of the definitions are one of them; so a contract may promise all three
 pub ended : (bytes : List ℕ) (step cell release : ℕ) {a : FaultAnswer} {left : List ℕ} → Left bytes step cell release a left

@@ -1,13 +1,13 @@
-// A release put into a record, for one ramp in one step.
-use road::Fault;
-use road::Refusal;
-use road::Road;
+// Releases put into a record, and that it reads as before; a release put at one ramp and step.
+use model::Fault;
+use model::Refusal;
+use model::Road;
 ghost use mathlib.Core.Path.{_≡_};
 ghost use Prim.Native.Nat.{_≤_};
-ghost use Rattle.road.specs.Road.{mostCells};
-ghost use Rattle.road.specs.Refusals.{faultAnswer};
-ghost use Rattle.put.specs.Put.{Place, rampOk, ratesOk, puttingOf, releasedAt, releasedRecord};
-ghost use Rattle.put.specs.Theorems.{Ends};
+ghost use Rattle.model.specs.Road.{mostCells};
+ghost use Rattle.model.specs.Refusals.{faultAnswer};
+ghost use Rattle.put.specs.PutLaws.{Place};
+ghost use Rattle.model.specs.Put.{rampOk, ratesOk, puttingOf, releasedAt, releasedRecord, Ends};
 
 // Whether a cell is on a road of n cells and has a ramp.
 fn has_ramp(ramp: [u16; 64], n: usize, cell: usize) -> bool

@@ -1,67 +1,38 @@
 -- Granting the releases of the listed cells: what it asks, what its loop carries and what it gives. Assumes nothing.
-use mathlib.Core.Path.{_≡_, refl, sym, ap, subst, _∙_}
+use mathlib.Core.Path.{_≡_, refl, sym, ap, _∙_}
 use mathlib.Core.Logic.{⊎-elim}
 use mathlib.Core.List.{List}
-use Prim.Native.Nat.{ℕ, zero, suc, _+_, _-_, _*_, _^_, min, _≤_, _<_}
+use Prim.Native.Nat.{ℕ, zero, suc, _+_, _-_, _*_, min, _≤_, _<_}
 use native.Mathlib.Nat.{eq-or-lt-of-le, le-of-suc-le-suc, le-refl}
 use native.Mathlib.Numerals.{add-one}
 use native.Mathlib.Omega.{arith}
 use lib.Ieee.{Float}
 use lib.ListN.{length, set, length-set}
 use lib.Seq.{getD-set-same, getD-set-other}
-use borrow.Author.Tests.{eq-eqb, ne-eqb}
-use Rattle.numbers.specs.Lists.{at}
-use Rattle.flow.specs.Flow.{roomOf}
-use Rattle.rows.specs.Rows.{fillOf}
-use Rattle.rows.specs.RowsLaws.{fill-at, fill-past, length-fill}
-use Rattle.road.specs.declared.Road.{Road}
-use Rattle.road.specs.declared.State.{State}
-use Rattle.road.specs.Road.{mostCells, mostRate, mostSteps}
-use Rattle.limits.specs.Limits.{mostQueue, mostCumulative}
+use Rattle.model.specs.Numbers.{at, fillOf, placed}
+use Rattle.model.specs.Flow.{roomOf}
+use Rattle.numbers.specs.RowsLaws.{fill-at, fill-past, length-fill}
+use Rattle.model.specs.declared.Road.{Road}
+use Rattle.model.specs.Road.{mostCells, mostRate, mostSteps}
+use Rattle.model.specs.Limits.{mostQueue, mostCumulative}
 use Rattle.limits.specs.LimitsLaws.{RowOk}
-use Rattle.rows.specs.Placed.{placed}
-use Rattle.fields.specs.Fields.{numberSize, bytesOf, numberOf, versionOf, rowSize, rowStart, recordRow, HoldsRow}
-use Rattle.fields.specs.FieldsLaws.{row-at}
-use Rattle.fields.specs.Stored.{Stored}
-use Rattle.meter.specs.declared.Law.{Law}
-use Rattle.meter.specs.Meter.{wishOf, wholeBelow, lawAt}
+use Rattle.model.specs.Record.{numberSize, bytesOf, numberOf, versionOf, rowSize, rowStart, recordRow}
+use Rattle.fields.specs.FieldsLaws.{HoldsRow, row-at}
+use Rattle.fields.specs.BytesStored.{Stored}
+use Rattle.model.specs.declared.Law.{Law}
+use Rattle.model.specs.Meter.{wishOf, wholeBelow, lawAt}
 use Rattle.meter.specs.LawColumns.{lawIn, InColumns}
 use Rattle.model.specs.Places.{arrivalsAt, releaseAt, mostReleaseAt, supplyAt}
 use Rattle.model.specs.Move.{queueOf}
-use Rattle.columns.specs.declared.Ledger.{Ledger}
-use Rattle.columns.specs.Columns.{roadOf, stateOf}
-use Rattle.moves.specs.Asked.{Steppable}
+use Rattle.outflows.specs.declared.Ledger.{Ledger}
+use Rattle.outflows.specs.Columns.{stateOf}
+use Rattle.stepping.specs.StepNeeds.{Steppable}
 use Rattle.outflows.specs.Rooms.{Rooms}
-use Rattle.patching.specs.Releases.{releaseNumber, putEntry, putReleases, releasedRow}
-use Rattle.patching.specs.ReleasesLaws.{PutRow, put-releases, put-to, released-arrivals}
+use Rattle.model.specs.Ramps.{releaseNumber, putEntry, putReleases, Metered, metered, wishAt, capAt, grantedAt, filledRow}
+use Rattle.put.specs.ReleasesLaws.{PutRow, put-releases, put-to, released-arrivals}
 use Rattle.passes.specs.Supplies.{NoRamp, FilledTo, filled-none, filled-more, filled-end}
-use Rattle.passes.specs.RampList.{startOf, start-more, Listed, listed-here, listed-more, listed-end}
-use Rattle.ramps.specs.Ramps.{Metered, metered, releaseOf, grantedAt, filledRow}
+use Rattle.passes.specs.RampList.{startOf, start-more, AtRamps, Listed, listed-here, listed-more, listed-end}
 use Rattle.ramps.specs.RampsLaws.{granted, granted-caps, granted-small, filled-release, filled-arrivals}
-
--- one cell: without a ramp, and with one
-pub no-ramp : (ramp : ℕ) (wish : Float) (cap : ℕ) → ramp ≡ 0 → 0 ≡ releaseOf ramp wish cap
-unfolding releaseOf
-no-ramp ramp wish cap e = rw (eq-eqb ramp 0 e)
-
-pub with-ramp : (ramp : ℕ) (wish : Float) (cap : ℕ) → (ramp ≡ 0 → ⊥) → wholeBelow wish cap ≡ releaseOf ramp wish cap
-unfolding releaseOf
-with-ramp ramp wish cap d = rw (ne-eqb ramp 0 d)
-
--- a road with these ramps, and otherwise as r
-abbrev pub ramped : Road → List ℕ → Road
-ramped r ramp = record {
-  n = r .n;
-  version = r .version;
-  seconds = r .seconds;
-  «gate_capacity» = r .«gate_capacity»;
-  speed = r .speed;
-  wave = r .wave;
-  share = r .share;
-  ramp = ramp;
-  jam = r .jam;
-  capacity = r .capacity;
-}
 
 -- of the listed cells, what the last step left: its release, and what had come into the cell before it, which with what entered in it is held + F
 pub record Lasts (m : Metered) (ramps : ℕ) (cell release came : List ℕ) : Type 0 where
@@ -71,13 +42,14 @@ pub record Lasts (m : Metered) (ramps : ℕ) (cell release came : List ℕ) : Ty
 
 -- what granting asks: a step by the filled row may be made, the bytes hold the row, which is within its limits, the laws are in columns, and the
 -- rooms are the supplies
-pub record Grants (laws : List Law) (q : Road) (m : Metered) (bytes : List ℕ) (k start ramps : ℕ) (cell kinds : List ℕ) (numbers : List Float)
+pub record GrantAsks (laws : List Law) (q : Road) (m : Metered) (bytes : List ℕ) (k start ramps : ℕ) (cell kinds : List ℕ) (numbers : List Float)
     (room release waits came : List ℕ) : Type 0 where
   pub step : Steppable q (m .state) (filledRow laws q m (recordRow bytes (q .n) k))
   pub row : RowOk q (recordRow bytes (q .n) k)
   pub held : HoldsRow bytes (q .n) k
   pub starts : start ≡ rowStart (versionOf bytes) (q .n) k
   pub listed : Listed (NoRamp (q .ramp)) (q .n) ramps cell
+  pub ramped : AtRamps (q .ramp) ramps cell
   pub columns : InColumns laws kinds numbers
   pub lasts : Lasts m ramps cell release came
   pub supplies : (i : ℕ) → i < q .n → at room i ≡ supplyAt q (m .state) i
@@ -86,8 +58,8 @@ pub record Grants (laws : List Law) (q : Road) (m : Metered) (bytes : List ℕ) 
   pub longWaits : q .n ≤ length waits
   pub longCame : q .n ≤ length came
 
--- that, on some road with these ramps and by something with these columns
-pub record Grantable (bytes : List ℕ) (start ramps : ℕ) (cell ramp kinds : List ℕ) (numbers : List Float) (held queue cumulative room release waits came : List ℕ)
+-- that, on some road and by something with these columns
+pub record GrantLent (bytes : List ℕ) (start ramps : ℕ) (cell kinds : List ℕ) (numbers : List Float) (held queue cumulative room release waits came : List ℕ)
     : Type 0 where
   pub laws : List Law
   pub road : Road
@@ -95,7 +67,7 @@ pub record Grantable (bytes : List ℕ) (start ramps : ℕ) (cell ramp kinds : L
   pub releases : List ℕ
   pub entries : List ℕ
   pub step : ℕ
-  pub grants : Grants laws (ramped road ramp) (metered (stateOf ledger held queue cumulative) releases entries) bytes step start ramps cell kinds numbers
+  pub grants : GrantAsks laws road (metered (stateOf ledger held queue cumulative) releases entries) bytes step start ramps cell kinds numbers
       room release waits came
 
 -- what has come into the cell at i with a release, and what waits at its ramp after it
@@ -146,7 +118,7 @@ pub record Given (x coming room : ℕ) : Type 0 where
   pub rate : x ≤ mostRate
 
 module _ {laws : List Law} {q : Road} {m : Metered} {bytes : List ℕ} {k start ramps : ℕ} {cell kinds : List ℕ} {numbers : List Float}
-    {room₀ release₀ waits₀ came₀ : List ℕ} (g : Grants laws q m bytes k start ramps cell kinds numbers room₀ release₀ waits₀ came₀) where
+    {room₀ release₀ waits₀ came₀ : List ℕ} (g : GrantAsks laws q m bytes k start ramps cell kinds numbers room₀ release₀ waits₀ came₀) where
   abbrev row : List ℕ
   row = recordRow bytes (q .n) k
 
@@ -259,15 +231,16 @@ module _ {laws : List Law} {q : Road} {m : Metered} {bytes : List ℕ} {k start 
           (ea : arrivals ≡ numberOf put (start + 4 + 8 * at cell j) numberSize)
           (ee : entered ≡ at (m .state .held) (at cell j) + at (m .state .cumulative) (at cell j) - at came (at cell j))
           (ec : cap ≡ min (at (m .state .queue) (at cell j) + arrivals) (min (at room (at cell j)) mostRate))
-          (ex : x ≡ releaseOf (at (q .ramp) (at cell j)) (wishOf law (at release j) entered (at (m .state .held) (at cell j))) cap) where
+          (ex : x ≡ wholeBelow (wishOf law (at release j) entered (at (m .state .held) (at cell j))) cap) where
         found : x ≡ grantedAt laws q m (recordRow bytes (q .n) k) (at cell j)
-        unfolding grantedAt mostReleaseAt
+        unfolding mostReleaseAt
         found =
             let lawful : law ≡ lawAt laws i = el ∙ g .columns i (omega (arith, inside, g .step .input .road .cells)) in
             let entry : entered ≡ at (m .entries) i = omega (arith, came-here, g .lasts .entries j l) in
             let come : arrivals ≡ arrivalsAt row i = ea ∙ arrives-here in
             let supply : at room i ≡ supplyAt q (m .state) i = room-here ∙ g .supplies i inside in
-            ex ∙ rw (lawful, last-here, entry, ec, come, supply)
+            let wished : x ≡ wholeBelow (wishAt laws m i) (capAt q (m .state) row i) = ex ∙ rw (lawful, last-here, entry, ec, come, supply) in
+            wished ∙ sym (granted laws q m row i .ramped (λ z. omega (arith, g .ramped j l)))
 
         pub given-known : Given x (at (m .state .queue) (at cell j) + arrivals) (at room (at cell j))
         unfolding mostReleaseAt

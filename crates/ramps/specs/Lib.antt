@@ -1,3 +1,2 @@
-pub mod Ramps
 pub mod RampsLaws
 pub mod Grants

@@ -8,19 +8,19 @@ use lib.Dec.{eqb}
 use lib.Ieee.{Float}
 use borrow.Author.Tests.{eqb-true, eqb-false}
 use lib.ListN.{length}
-use Rattle.numbers.specs.Lists.{at}
-use Rattle.rows.specs.RowsLaws.{fill-at}
-use Rattle.road.specs.declared.Road.{Road}
-use Rattle.road.specs.Road.{mostRate}
-use Rattle.limits.specs.Limits.{rowOk}
+use Rattle.model.specs.Numbers.{at}
+use Rattle.numbers.specs.RowsLaws.{fill-at}
+use Rattle.model.specs.declared.Road.{Road}
+use Rattle.model.specs.Road.{mostRate}
+use Rattle.model.specs.Limits.{rowOk}
 use Rattle.limits.specs.LimitsLaws.{RoadOk, RowOk, row-ok}
-use Rattle.meter.specs.declared.Law.{Law}
-use Rattle.meter.specs.Meter.{wholeBelow}
+use Rattle.model.specs.declared.Law.{Law}
+use Rattle.model.specs.Meter.{wholeBelow}
 use Rattle.meter.specs.MeterLaws.{whole-most}
 use Rattle.model.specs.Places.{gateArrivals, arrivalsAt, releaseAt, mostReleaseAt, supplyAt, enteringAt}
-use Rattle.model.specs.Rules.{Released, outflowsOf}
-use Rattle.patching.specs.ReleasesLaws.{length-released, released-at, released-gate, released-arrivals}
-use Rattle.ramps.specs.Ramps.{Metered, wishAt, capAt, releaseOf, grantedAt, filledRow, meteredOf}
+use Rattle.model.specs.Schedules.{Released, outflowsOf}
+use Rattle.put.specs.ReleasesLaws.{length-released, released-at, released-gate, released-arrivals}
+use Rattle.model.specs.Ramps.{Metered, wishAt, capAt, releaseOf, grantedAt, filledRow, meteredOf}
 
 -- a release is at most its cap, and 0 without a ramp
 pub record Capped (ramp : ℕ) (wish : Float) (cap x : ℕ) : Type 0 where

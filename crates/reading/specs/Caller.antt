@@ -8,14 +8,13 @@ use native.Mathlib.Omega.{arith}
 use lib.Dec.{eqb}
 use lib.ListN.{length}
 use borrow.Author.Tests.{eqb-true, eqb-false}
-use Rattle.road.specs.Road.{mostCells, mostBytes}
+use Rattle.model.specs.Road.{mostCells, mostBytes}
 use Rattle.numbers.specs.Tests.{unless-elim, unless-same, passes}
-use Rattle.header.specs.Header.{cellsOf, stepsOf, bothVersions, callerOk}
-use Rattle.header.specs.HeaderLaws.{length-facts, counts-facts, caller-facts, caller-fails, caller-above, caller-full}
+use Rattle.model.specs.Reading.{cellsOf, stepsOf, bothVersions, callerOk, ReadAnswer, refusedOf, readingBy, readingWithin, readingOf}
+use Rattle.fields.specs.HeaderLaws.{length-facts, counts-facts, caller-facts, caller-fails, caller-above, caller-full}
 use Rattle.reading.specs.Headers.{Header}
-use Rattle.reading.specs.Reading.{ReadAnswer, refusedOf, readingBy, readingWithin, readingOf}
 use Rattle.reading.specs.ReadingLaws.{answer-caller}
-use Rattle.reading.specs.Found.{lengthFits, versionKnown, countsFit, secondsFit, sizeFits, callerTakes, placesFit, rowsFit, header-of}
+use Rattle.reading.specs.Cases.{lengthFits, versionKnown, countsFit, secondsFit, sizeFits, callerTakes, placesFit, rowsFit, header-of}
 
 -- no refusal before 26 applies, and n or the count of bytes is above the caller's
 pub record Beyond (cells most : ℕ) (s : List ℕ) : Type 0 where

@@ -12,15 +12,14 @@ use lib.ListN.{length, set, length-set}
 use lib.Seq.{getD-set-same, getD-set-other}
 use borrow.Author.Tests.{eqb-true, eqb-false}
 use borrow.Author.Count.{below-none, below-more}
-use Rattle.numbers.specs.Lists.{at}
+use Rattle.model.specs.Numbers.{at, listOf}
 use Rattle.numbers.specs.Tests.{order}
-use Rattle.road.specs.Road.{mostCells}
-use Rattle.rows.specs.Rows.{listOf}
-use Rattle.rows.specs.RowsLaws.{list-at}
-use Rattle.fields.specs.Fields.{numberSize, rowNumbers, rowSize, rowStart, entryStart, numberOf, versionOf, recordRow}
+use Rattle.model.specs.Road.{mostCells}
+use Rattle.numbers.specs.RowsLaws.{list-at}
+use Rattle.model.specs.Record.{numberSize, rowNumbers, rowSize, rowStart, entryStart, numberOf, versionOf, recordRow}
 use Rattle.fields.specs.FieldsLaws.{row-at}
 use Rattle.fields.specs.BytesLaws.{number-le}
-use Rattle.limits.specs.Limits.{rowOk}
+use Rattle.model.specs.Limits.{rowOk}
 use Rattle.limits.specs.LimitsLaws.{row-less}
 use Rattle.reading.specs.Headers.{Steps}
 

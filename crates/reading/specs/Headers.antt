@@ -4,10 +4,10 @@ use mathlib.Core.Bool.{true}
 use mathlib.Core.List.{List}
 use Prim.Native.Nat.{ℕ, _≤_}
 use lib.ListN.{length}
-use Rattle.road.specs.Road.{mostCells}
-use Rattle.numbers.specs.First.{oneOf}
-use Rattle.fields.specs.Fields.{versionOf, secondsOf, rowStart}
-use Rattle.header.specs.Header.{cellsOf, stepsOf, sizeOf, bothVersions, lengthOk, cellsAndStepsOk, secondsOk}
+use Rattle.model.specs.Road.{mostCells}
+use Rattle.model.specs.Numbers.{oneOf}
+use Rattle.model.specs.Record.{versionOf, secondsOf, rowStart}
+use Rattle.model.specs.Reading.{cellsOf, stepsOf, sizeOf, bothVersions, lengthOk, cellsAndStepsOk, secondsOk}
 
 -- a record that holds the fields of its n cells
 pub record Cells (s : List ℕ) (n : ℕ) : Type 0 where

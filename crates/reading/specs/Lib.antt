@@ -1,11 +1,9 @@
-pub mod Reading
+pub mod Versions
 pub mod Headers
 pub mod Greatest
 pub mod ReadingLaws
-pub mod Found
+pub mod Cases
 pub mod Caller
 pub mod Within
 pub mod Numbers
-pub mod Versions
 pub mod Table
-pub mod Sample

@@ -4,16 +4,15 @@ use mathlib.Core.List.{List}
 use Prim.Native.Nat.{ℕ}
 use native.Mathlib.Omega.{arith}
 use lib.ListN.{length}
-use Rattle.road.specs.declared.Road.{Road}
-use Rattle.road.specs.declared.State.{State}
-use Rattle.road.specs.Road.{zeros}
-use Rattle.fields.specs.Fields.{shortSize, numberSize, numberOf, versionOf, secondsOf}
-use Rattle.fields.specs.Fields.{gateCapacityOffset, gateQueueOffset, speedOffset, waveOffset, shareOffset, rampOffset, jamOffset, capacityOffset, heldOffset, queueOffset}
+use Rattle.model.specs.declared.Road.{Road}
+use Rattle.model.specs.declared.State.{State}
+use Rattle.model.specs.Road.{zeros}
+use Rattle.model.specs.Record.{shortSize, numberSize, numberOf, versionOf, secondsOf, gateCapacityOffset, gateQueueOffset, speedOffset, waveOffset, shareOffset, rampOffset}
+use Rattle.model.specs.Record.{jamOffset, capacityOffset, heldOffset, queueOffset}
 use Rattle.fields.specs.FieldsLaws.{Column, column}
-use Rattle.road.specs.RoadLaws.{length-zeros}
-use Rattle.header.specs.Header.{cellsOf, stepsOf}
-use Rattle.reading.specs.Reading.{ReadAnswer, readingOf}
-use Rattle.reading.specs.Found.{Found, read-found, early-refused}
+use Rattle.numbers.specs.Zeros.{length-zeros}
+use Rattle.model.specs.Reading.{cellsOf, stepsOf, ReadAnswer, readingOf}
+use Rattle.reading.specs.Cases.{Found, read-found, early-refused}
 
 pub record Numbers (s : List ℕ) (T : ℕ) (r : Road) (q : State) : Type 0 where
   pub cells : r .n ≡ cellsOf s

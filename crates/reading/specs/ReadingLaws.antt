@@ -6,20 +6,18 @@ use Prim.Native.Nat.{ℕ, _+_, _*_, _≤_, _<_}
 use native.Mathlib.Omega.{arith}
 use lib.ListN.{length}
 use borrow.Author.Tests.{eq-eqb, ne-eqb}
-use Rattle.road.specs.declared.Road.{Road}
-use Rattle.road.specs.declared.State.{State}
-use Rattle.road.specs.Road.{mostCells, mostSteps, mostBytes}
-use Rattle.fields.specs.Fields.{versionOf, secondsOf, numberSize, rowNumbers, rowSize, rowStart, numberOf, HoldsRow}
-use Rattle.fields.specs.FieldsLaws.{holds-row}
-use Rattle.numbers.specs.Lists.{at}
-use Rattle.numbers.specs.First.{oneOf, firstOf}
-use Rattle.limits.specs.Limits.{placeOk, ratesOk, ratesAt}
-use Rattle.numbers.specs.First.{unlessFirst}
+use Rattle.model.specs.declared.Road.{Road}
+use Rattle.model.specs.declared.State.{State}
+use Rattle.model.specs.Road.{mostCells, mostSteps, mostBytes}
+use Rattle.model.specs.Record.{versionOf, secondsOf, numberSize, rowNumbers, rowSize, rowStart, numberOf}
+use Rattle.fields.specs.FieldsLaws.{HoldsRow, holds-row}
+use Rattle.model.specs.Numbers.{at, oneOf, firstOf, unlessFirst}
+use Rattle.model.specs.Limits.{placeOk, ratesOk, ratesAt}
 use Rattle.reading.specs.Headers.{Cells, Steps, Header}
 use Rattle.reading.specs.Greatest.{rowAt, row-number}
-use Rattle.header.specs.Header.{cellsOf, stepsOf, sizeOf, bothVersions, lengthOk, cellsAndStepsOk, secondsOk, callerOk}
-use Rattle.header.specs.HeaderLaws.{Counts, length-facts, counts-facts, caller-passes}
-use Rattle.reading.specs.Reading.{roadOf, startOf, stepOk, ReadAnswer, refusedOf, acceptedOf, readingBy, readingWithin, readingOf}
+use Rattle.model.specs.Reading.{cellsOf, stepsOf, sizeOf, bothVersions, lengthOk, cellsAndStepsOk, secondsOk, callerOk, roadOf, startOf, stepOk, ReadAnswer, refusedOf}
+use Rattle.model.specs.Reading.{acceptedOf, readingBy, readingWithin, readingOf}
+use Rattle.fields.specs.HeaderLaws.{Counts, length-facts, counts-facts, caller-passes}
 
 -- what the header asks is what the cells and the rows ask
 module _ {s : List ℕ} {n T : ℕ} (h : Header s n T) where

@@ -7,14 +7,11 @@ use native.Mathlib.Nat.{mul-add, mul-le-mul, mul-le-mul-left}
 use native.Mathlib.Omega.{arith}
 use lib.Dec.{leb}
 use borrow.Author.Tests.{leb-true, leb-false}
-use Rattle.road.specs.Road.{mostSteps, mostBytes}
-use Rattle.fields.specs.Fields.{versionOf, rowSize}
-use Rattle.header.specs.Header.{sizeOf}
-use Rattle.reading.specs.Reading.{ReadAnswer, readingOf}
+use Rattle.model.specs.Road.{mostSteps, mostBytes}
+use Rattle.model.specs.Record.{versionOf, rowSize}
+use Rattle.model.specs.Reading.{sizeOf, ReadAnswer, readingOf}
 use Rattle.reading.specs.Within.{read-within}
-
-abbrev pub mostOutflows : ℕ
-mostOutflows = 8799
+use Rattle.model.specs.Listing.{mostOutflows}
 
 -- up to 5 cells the limit of steps bounds it
 few : (n T : ℕ) → n ≤ 5 → T ≤ mostSteps → T * (n + 1) ≤ mostOutflows

@@ -1,24 +1,28 @@
 -- The theorems of the two versions: what the first reader, who knows version 1 alone, says beside reading, and what reading gives of each. Assumes nothing.
+use mathlib.Core.List.{List, [], _∷_}
+use Prim.Native.Nat.{ℕ, _+_, _-_, _*_, _≤_}
 use mathlib.Core.Path.{_≡_, refl, sym, ap, _∙_}
 use mathlib.Core.Bool.{Bool, true, false, cond, _&&_}
-use mathlib.Core.List.{List}
 use mathlib.Core.Logic.{_⊎_, inl, inr}
-use Prim.Native.Nat.{ℕ, _+_, _-_, _*_, _≤_}
 use native.Mathlib.Omega.{arith}
 use lib.Dec.{leb, eqb}
 use lib.ListN.{length}
 use borrow.Author.Tests.{leb-true, eqb-true, eqb-false, eq-eqb, ne-eqb}
-use Rattle.numbers.specs.First.{oneOf}
+use Rattle.model.specs.Record.{firstVersion, secondVersion, versionOf, secondsOffset, secondsSize, headerSize, gateCapacityOffset, gateQueueOffset, numberOf}
+use Rattle.model.specs.Road.{mostCells, mostBytes, mostSeconds}
+use Rattle.model.specs.Reading.{ReadAnswer, readingBy, sizeOf, bothVersions, leastSize, lengthOk, secondsOk, refusedOf, readingOf}
+use Rattle.model.specs.Numbers.{oneOf}
 use Rattle.numbers.specs.Tests.{le-head, le-then}
-use Rattle.road.specs.Road.{mostSeconds}
-use Rattle.fields.specs.Fields.{firstVersion, secondVersion, versionOf, secondsOffset, secondsSize, headerSize, gateCapacityOffset, gateQueueOffset, numberOf}
 use Rattle.fields.specs.FieldsLaws.{seconds-none}
-use Rattle.header.specs.Header.{sizeOf, bothVersions, firstAlone, leastSize, lengthOk, secondsOk}
-use Rattle.reading.specs.Reading.{ReadAnswer, refusedOf}
-use Rattle.reading.specs.Reading.{readingBy, readingOf, firstReadingOf}
-use Rattle.header.specs.HeaderLaws.{least-both}
+use Rattle.fields.specs.HeaderLaws.{least-both}
 use Rattle.reading.specs.Within.{read-within}
 use Rattle.reading.specs.Numbers.{read-numbers}
+
+abbrev pub firstAlone : List ℕ
+firstAlone = firstVersion ∷ []
+
+abbrev pub firstReadingOf : List ℕ → ReadAnswer
+firstReadingOf s = readingBy (record { known = firstAlone; cells = mostCells; bytes = mostBytes }) s
 
 -- bytes whose byte 4 is not 2, and so every record of version 1, are read as the first reader reads them
 pub first-reader-same : (s : List ℕ) → (versionOf s ≡ secondVersion → ⊥) → readingOf s ≡ firstReadingOf s

@@ -4,14 +4,13 @@ use mathlib.Core.Bool.{true}
 use mathlib.Core.List.{List}
 use Prim.Native.Nat.{ℕ, _+_, _<_}
 use native.Mathlib.Omega.{arith}
-use Rattle.road.specs.Road.{emptyRoad, emptyState}
-use Rattle.fields.specs.Fields.{recordRow, HoldsRow}
-use Rattle.fields.specs.FieldsLaws.{holds-row}
-use Rattle.limits.specs.Limits.{placeOk, inputOk}
+use Rattle.model.specs.Road.{emptyRoad, emptyState}
+use Rattle.model.specs.Record.{recordRow}
+use Rattle.fields.specs.FieldsLaws.{HoldsRow, holds-row}
+use Rattle.model.specs.Limits.{placeOk, inputOk}
 use Rattle.limits.specs.LimitsLaws.{input-ok}
-use Rattle.header.specs.Header.{cellsOf, stepsOf}
-use Rattle.reading.specs.Reading.{ReadAnswer, roadOf, startOf, stepOk, readingOf}
-use Rattle.reading.specs.Found.{Lowest, Accepted, Found, read-found, early-refused, early-no-place, early-no-step}
+use Rattle.model.specs.Reading.{cellsOf, stepsOf, ReadAnswer, roadOf, startOf, stepOk, readingOf}
+use Rattle.reading.specs.Cases.{Lowest, Accepted, Found, read-found, early-refused, early-no-place, early-no-step}
 
 -- a refusal that names no state gives an all-zero road and state
 pub record Refused (a : ReadAnswer) : Type 0 where

@@ -1,18 +1,19 @@
 // Reading a record: the road, T and the state before step 0, or the first refusal in the model's order.
-use road::Reading;
-use road::Refusal;
-use road::Road;
-use road::State;
+use model::Reading;
+use model::Refusal;
+use model::Road;
+use model::State;
 ghost use mathlib.Core.Path.{_≡_};
 ghost use mathlib.Core.Bool.{true};
 ghost use Prim.Native.Nat.{ℕ, _+_, _*_, _≤_, _<_};
 ghost use lib.ListN.{length};
-ghost use Rattle.road.specs.Refusals.{refusalNumber};
-ghost use Rattle.numbers.specs.First.{firstOf};
-ghost use Rattle.road.specs.Road.{mostCells};
-ghost use Rattle.limits.specs.Limits.{rowOk};
-ghost use Rattle.fields.specs.Fields.{rowSize, recordRow, HoldsRow};
-ghost use Rattle.reading.specs.Reading.{roadOf, startOf, stepOk, refusedOf, readAnswer, readingWithin, readingOf};
+ghost use Rattle.model.specs.Refusals.{refusalNumber};
+ghost use Rattle.model.specs.Numbers.{firstOf};
+ghost use Rattle.model.specs.Road.{mostCells};
+ghost use Rattle.model.specs.Limits.{rowOk};
+ghost use Rattle.model.specs.Record.{rowSize, recordRow};
+ghost use Rattle.fields.specs.FieldsLaws.{HoldsRow};
+ghost use Rattle.model.specs.Reading.{roadOf, startOf, stepOk, refusedOf, readAnswer, readingWithin, readingOf};
 ghost use Rattle.reading.specs.Headers.{Cells, Steps, Header};
 ghost use Rattle.reading.specs.Greatest.{rowAt, Raisable, AbovePart, AboveParts};
 
@@ -100,7 +101,7 @@ fn greater(a: u8, b: u8) -> u8
 }
 
 // Raises the greatest bytes to the `size` bytes from `start` on. The loop has no early exit and carries nothing, so it becomes vector code.
-fn raise_to_part(bytes: &[u8], start: usize, size: usize, greatest: &mut [u8; 516])
+fn raise_to_part(bytes: &[u8], start: usize, size: usize, greatest: &mut [u8; ROW_BYTES])
     requires { ⌜ Raisable (now bytes) start size 1 (now greatest) ⌝ }
     ensures { λ _. ⌜ AbovePart (now (bytes .entry)) start size (now (greatest .entry)) (now (greatest .exit)) ⌝ }
 {
@@ -112,7 +113,13 @@ fn raise_to_part(bytes: &[u8], start: usize, size: usize, greatest: &mut [u8; 51
 }
 
 // Raises the greatest bytes to each of `count` parts of `size` bytes, one after the other from `start` on.
-fn raise_to_parts(bytes: &[u8], start: usize, size: usize, count: usize, greatest: &mut [u8; 516])
+fn raise_to_parts(
+    bytes: &[u8],
+    start: usize,
+    size: usize,
+    count: usize,
+    greatest: &mut [u8; ROW_BYTES],
+)
     requires { ⌜ Raisable (now bytes) start size count (now greatest) ⌝ }
     ensures { λ _. ⌜ AboveParts (now (bytes .entry)) start size count (now (greatest .entry)) (now (greatest .exit)) ⌝ }
 {
@@ -135,9 +142,9 @@ fn all_rows_within(bytes: &[u8], ramp: &[u16; 64], n: usize, steps: usize) -> bo
     let blocked = blocks * beside;
     let start = fields::row_start(version, n, 0);
     let left = fields::row_start(version, n, blocked);
-    let mut block = [0u8; 516];
+    let mut block = [0u8; ROW_BYTES];
     raise_to_parts(bytes, start, beside * size, blocks, &mut block);
-    let mut row = [0u8; 516];
+    let mut row = [0u8; ROW_BYTES];
     raise_to_parts(&block, 0, size, beside, &mut row);
     raise_to_parts(bytes, left, size, steps - blocked, &mut row);
     numbers_within(&row, ramp, n, 0)
@@ -204,25 +211,25 @@ fn body(bytes: &[u8], n: usize, steps: usize) -> Reading
 pub fn read_within(bytes: &[u8], cells: usize, most: usize) -> Reading
     ensures { λ a. ⌜ readAnswer a ≡ readingWithin cells most (now (bytes .entry)) ⌝ }
 {
-    if !header::length_within(bytes) {
+    if !fields::length_within(bytes) {
         return refused(Refusal::Length, 0);
     }
     let version = fields::version(bytes);
-    if !header::version_known(version) {
+    if !fields::version_known(version) {
         return refused(Refusal::Version, 0);
     }
     let n = fields::number(bytes, fields::CELLS_OFFSET, 1) as usize;
     let steps = fields::number(bytes, fields::STEPS_OFFSET, fields::SHORT_SIZE) as usize;
-    if !header::cells_and_steps_within(n, steps) {
+    if !fields::cells_and_steps_within(n, steps) {
         return refused(Refusal::Counts, 0);
     }
-    if !header::seconds_within(version, fields::seconds(bytes)) {
+    if !fields::seconds_within(version, fields::seconds(bytes)) {
         return refused(Refusal::Seconds, 0);
     }
     if bytes.len() != fields::row_start(version, n, steps) {
         return refused(Refusal::Size, 0);
     }
-    if !header::caller_within(cells, most, n, bytes.len()) {
+    if !fields::caller_within(cells, most, n, bytes.len()) {
         return refused(Refusal::CallerLimits, 0);
     }
     body(bytes, n, steps)

@@ -4,11 +4,12 @@ use mathlib.Core.List.{List}
 use Prim.Native.Nat.{ℕ}
 use native.Mathlib.Omega.{arith}
 use lib.ListN.{replicate, length-replicate}
-use Rattle.numbers.specs.Lists.{at, zero-at}
-use Rattle.road.specs.declared.Road.{Road}
-use Rattle.studies.specs.Study.{Study}
-use Rattle.model.specs.Opened.{OnRoad}
-use Rattle.model.specs.RunsLaws.{StudyOk}
+use Rattle.model.specs.Numbers.{at}
+use Rattle.numbers.specs.Zeros.{zero-at}
+use Rattle.model.specs.declared.Road.{Road}
+use Rattle.model.specs.Schedules.{Study}
+use Rattle.theory.specs.OpenRoad.{OnRoad}
+use Rattle.theory.specs.RunsLaws.{StudyOk}
 use Rattle.passes.specs.Rest.{rest-start}
 use Rattle.passes.specs.Supplies.{NoRamp}
 use Rattle.passes.specs.RampList.{Listed}

@@ -4,18 +4,18 @@ use mathlib.Core.List.{List, _++_}
 use Prim.Native.Nat.{ℕ, _+_, _-_, _*_, _≤_, _<_}
 use native.Mathlib.Omega.{arith}
 use lib.ListN.{length, take, drop, take-append-drop}
-use Rattle.rows.specs.TablesLaws.{row-ends, mul-more}
-use Rattle.road.specs.Refusals.{FaultAnswer}
-use Rattle.road.specs.declared.Road.{Road}
-use Rattle.road.specs.declared.State.{State}
-use Rattle.studies.specs.Study.{Study, places, tableSize}
+use Rattle.numbers.specs.TablesLaws.{row-ends, mul-more}
+use Rattle.model.specs.Refusals.{FaultAnswer}
+use Rattle.model.specs.declared.Road.{Road}
+use Rattle.model.specs.declared.State.{State}
+use Rattle.model.specs.Schedules.{Study, places, tableSize, outflowsOf}
 use Rattle.model.specs.Move.{nextOf}
-use Rattle.model.specs.Rules.{outflowsOf}
-use Rattle.model.specs.Step.{releasesOf}
-use Rattle.model.specs.RunsLaws.{StudyOk}
-use Rattle.schedules.specs.Schedules.{tableOf, runTable}
-use Rattle.schedules.specs.TableLaws.{length-table, table-none, table-more}
-use Rattle.schedules.specs.Readable.{Readable}
+use Rattle.model.specs.Stepping.{releasesOf}
+use Rattle.theory.specs.RunsLaws.{StudyOk}
+use Rattle.model.specs.Running.{tableOf}
+use Rattle.theory.specs.SchedulesLaws.{runTable}
+use Rattle.theory.specs.TableLaws.{length-table, table-none, table-more}
+use Rattle.theory.specs.Readable.{Readable}
 use Rattle.running.specs.Steps.{Ran, RanTurn, ran-none, ran-more, steps-all, steps-fault, row-is}
 
 -- what running step by step asks: a record that reads, and a list long enough

@@ -4,15 +4,19 @@ use mathlib.Core.Bool.{Bool, true, false, cond}
 use mathlib.Core.List.{List}
 use Prim.Native.Nat.{ℕ, _≤_, _<_}
 use lib.ListN.{length}
-use Rattle.studies.specs.Study.{tableSize}
-use Rattle.reading.specs.Reading.{ReadAnswer, readingOf, studyBy}
-use Rattle.schedules.specs.Schedules.{EndAnswer, noState, openingOf, runEnd, runningOf, runTable, listAfter}
-use Rattle.schedules.specs.Opening.{opened-taken, opened-reads}
-use Rattle.schedules.specs.Ends.{runs-unopened, writes-unopened, runs-short, writes-short, runs-long, writes-long}
-use Rattle.schedules.specs.Demand.{Taken, Promised, WeightedDemand}
-use Rattle.schedules.specs.Whole.{promised}
-use Rattle.schedules.specs.Weighing.{weighingOf}
-use Rattle.schedules.specs.Weighted.{weighted-demand, weighs-unopened, weighs-short, weighs-long}
+use Rattle.model.specs.Schedules.{tableSize}
+use Rattle.model.specs.Reading.{ReadAnswer, readingOf, studyBy}
+use Rattle.model.specs.Running.{EndAnswer, noState, openingOf, runEnd, runningOf, listAfter}
+use Rattle.theory.specs.SchedulesLaws.{runTable}
+use Rattle.theory.specs.Opening.{opened-taken, opened-reads}
+use Rattle.theory.specs.RunEnds.{runs-unopened, writes-unopened, runs-short, writes-short, runs-long, writes-long}
+use Rattle.model.specs.Demand.{Taken, Promised, WeightedDemand}
+use Rattle.theory.specs.DemandWhole.{promised}
+use Rattle.model.specs.Weights.{weighingOf}
+use Rattle.theory.specs.DemandByWeights.{weighted-demand, weighs-unopened, weighs-short, weighs-long}
+use Rattle.model.specs.Longest.{Queues, longestRun}
+use Rattle.counts.specs.Longest.{noQueues}
+use Rattle.counts.specs.LongestRun.{longestEnd, longest-unopened, longest-short, longest-long}
 use Rattle.running.specs.WeightedTotal.{weighedEnd}
 
 -- the answer, the list at exit and what they are worth
@@ -29,9 +33,9 @@ pub same-run : (bytes lanes list : List ℕ) (e f : EndAnswer) (out left : List 
     → (e ≡ f) × (out ≡ left)
 same-run bytes lanes list e f out left p q = (p .0 ∙ sym (q .0), p .1 .0 ∙ sym (q .1 .0))
 
--- a promise of three parts, with what is said of the weighted total
-pub with-weights : {A B C D : Type 0} → A × (B × C) → D → A × (B × (C × D))
-with-weights p h = (p .0, (p .1 .0, (p .1 .1, h)))
+-- a promise of three parts, with what is said of the weighted total and of the longest queues
+pub with-tallies : {A B C D E : Type 0} → A × (B × C) → D → E → A × (B × (C × (D × E)))
+with-tallies p h q = (p .0, (p .1 .0, (p .1 .1, (h, q))))
 
 -- no step was done
 none : (weighs : Bool) {t : ℕ} → t ≡ 0 → 0 ≡ cond weighs t 0
@@ -48,6 +52,10 @@ module _ (bytes lanes list : List ℕ) {x : ReadAnswer} (ex : x ≡ openingOf by
   -- and its weighted total, where weights are asked for
   pub weighed-unopened : (weighs : Bool) (w u : ℕ → ℕ) {t : ℕ} → (x .number ≡ 0 → ⊥) → t ≡ 0 → t ≡ cond weighs (weighingOf w u bytes lanes list) 0
   weighed-unopened weighs w u h e = e ∙ none weighs (weighs-unopened w u bytes lanes list (rw ex at h))
+
+  -- and its longest queues
+  pub longs-unopened : {A : Type 0} {q : Queues} → (x .number ≡ 0 → ⊥) → q ≡ noQueues → A → q ≡ longestRun bytes lanes list
+  longs-unopened h e asked = e ∙ sym (longest-unopened bytes lanes list (rw ex at h))
 
   -- without a refusal
   module _ (h : x .number ≡ 0) where
@@ -70,6 +78,14 @@ module _ (bytes lanes list : List ℕ) {x : ReadAnswer} (ex : x ≡ openingOf by
     promise-long {e} {out} l ee eo =
         let m = rw reads at l in
         promise bytes lanes list e out (rw reads at ee ∙ sym (runs-long bytes lanes taken list m)) (rw reads at eo ∙ sym (writes-long bytes lanes taken list m))
+
+    pub longs-short : {A : Type 0} {q : Queues} → length list < tableSize (studyBy bytes lanes (x .road) (x .state) (x .steps)) → q ≡ noQueues → A
+        → q ≡ longestRun bytes lanes list
+    longs-short l e asked = e ∙ sym (longest-short bytes lanes list taken (rw reads at l))
+
+    pub longs-long : {A : Type 0} {q : Queues} → tableSize (studyBy bytes lanes (x .road) (x .state) (x .steps)) ≤ length list
+        → (A → q ≡ longestEnd (studyBy bytes lanes (x .road) (x .state) (x .steps))) → A → q ≡ longestRun bytes lanes list
+    longs-long l e asked = rw reads at (e asked) ∙ sym (longest-long bytes lanes list taken (rw reads at l))
 
     module _ (weighs : Bool) (w u : ℕ → ℕ) {t : ℕ} where
       pub weighed-short : length list < tableSize (studyBy bytes lanes (x .road) (x .state) (x .steps)) → t ≡ 0

@@ -6,20 +6,19 @@ use lib.ListN.{length}
 use native.Mathlib.Numerals.{add-one}
 use native.Mathlib.Omega.{arith}
 use Rattle.numbers.specs.FirstLaws.{Faultless, faultless-none, faultless-more, faultless-stop, faultless-end}
-use Rattle.road.specs.Refusals.{FaultAnswer}
-use Rattle.road.specs.declared.Road.{Road}
-use Rattle.road.specs.declared.State.{State}
-use Rattle.studies.specs.Study.{Study, roadAt, places}
+use Rattle.model.specs.Refusals.{FaultAnswer}
+use Rattle.model.specs.declared.Road.{Road}
+use Rattle.model.specs.declared.State.{State}
+use Rattle.model.specs.Schedules.{Study, roadAt, places, outflowsOf, engineAfter, outflowsAt}
 use Rattle.model.specs.Move.{nextOf}
-use Rattle.model.specs.Rules.{outflowsOf}
-use Rattle.model.specs.Step.{releasesOf}
-use Rattle.model.specs.StepLaws.{number-of}
-use Rattle.model.specs.Runs.{engineAfter, outflowsAt}
-use Rattle.model.specs.RunsLaws.{StudyOk, Reached, StepOf, step-road, step-input, step-sized, step-left}
-use Rattle.fields.specs.Fields.{recordRow, HoldsRow}
-use Rattle.passes.specs.Step.{Arrays, Asks}
-use Rattle.schedules.specs.Schedules.{runSays, firstStep, EndAnswer, ended, runEnd}
-use Rattle.schedules.specs.SchedulesLaws.{ends-at, ends-all, run-reached}
+use Rattle.model.specs.Stepping.{releasesOf}
+use Rattle.theory.specs.StepLaws.{number-of}
+use Rattle.theory.specs.RunsLaws.{StudyOk, Reached, StepOf, step-road, step-input, step-sized, step-left}
+use Rattle.model.specs.Record.{recordRow}
+use Rattle.fields.specs.FieldsLaws.{HoldsRow}
+use Rattle.passes.specs.Step.{Arrays, StepAsks}
+use Rattle.model.specs.Running.{runSays, firstStep, EndAnswer, ended, runEnd}
+use Rattle.theory.specs.SchedulesLaws.{ends-at, ends-all, run-reached}
 
 -- k steps are made without a fault, and u is the state after them
 pub record Ran (a : Study) (u : State) (k : ℕ) : Type 0 where
@@ -94,7 +93,7 @@ module _ {a : Study} where
 -- the passes of a turn ask for no more than the arrays and a row
 pub passes-ask : {a : Study} {u : State} {k : ℕ} {q : Road} {bytes : List ℕ} {ramps : ℕ} {cell rest room release waiting demand y : List ℕ}
     → RanTurn a u k q (recordRow bytes (q .n) k) → HoldsRow bytes (q .n) k → Arrays q ramps cell (u .cumulative) rest room release waiting demand
-    → length y ≡ q .n + 1 → Asks bytes k q u ramps cell rest room release waiting demand y
+    → length y ≡ q .n + 1 → StepAsks bytes k q u ramps cell rest room release waiting demand y
 passes-ask t holds arrays places = record {
   input = step-input (this-step t);
   sized = step-sized (this-step t);

@@ -4,14 +4,13 @@ use mathlib.Core.Bool.{Bool, true, false, cond}
 use Prim.Native.Nat.{ℕ, suc, _+_, _*_, _≤_}
 use native.Mathlib.Numerals.{add-one}
 use native.Mathlib.Omega.{arith}
-use Rattle.road.specs.declared.State.{State}
-use Rattle.road.specs.Road.{mostSteps}
-use Rattle.studies.specs.Study.{Study}
-use Rattle.model.specs.Runs.{engineAfter}
+use Rattle.model.specs.declared.State.{State}
+use Rattle.model.specs.Road.{mostSteps}
+use Rattle.model.specs.Schedules.{Study, engineAfter}
 use Rattle.model.specs.Weights.{weightedOf, weightedTotal}
-use Rattle.model.specs.WeightsLaws.{weighted-total-none, weighted-total-more}
-use Rattle.weighing.specs.Bounds.{mostWeighted, mostWeightedTotal}
-use Rattle.schedules.specs.Schedules.{runSays, firstStep}
+use Rattle.theory.specs.WeightsLaws.{weighted-total-none, weighted-total-more}
+use Rattle.counts.specs.WeightBounds.{mostWeighted, mostWeightedTotal}
+use Rattle.model.specs.Running.{runSays, firstStep}
 use Rattle.running.specs.Steps.{Ran}
 
 -- the weighted total of a run step by step up to its end, where weights are asked for

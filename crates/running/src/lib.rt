@@ -1,21 +1,33 @@
 // Running: the engine's outflows of every step of a record, written into a lent list.
-use columns::Ledger;
-use road::Ended;
-use road::Refusal;
-use road::Road;
-use road::State;
-use road::Weighed;
-use road::Weights;
+use counts::AtGate;
+use model::Ended;
+use model::Longest;
+use model::Refusal;
+use model::Road;
+use model::State;
+use model::Weighed;
+use model::Weights;
+use outflows::Ledger;
 ghost use mathlib.Core.Path.{_≡_};
-ghost use mathlib.Core.Bool.{cond};
-ghost use Rattle.numbers.specs.Lists.{at};
-ghost use Rattle.road.specs.Road.{withoutState};
-ghost use Rattle.reading.specs.Reading.{studyBy};
-ghost use Rattle.schedules.specs.Schedules.{endAnswer, runEnd, runTable, runningOf, listAfter};
-ghost use Rattle.schedules.specs.Demand.{Taken, Promised, WeightedDemand};
-ghost use Rattle.schedules.specs.Weighing.{weighingOf};
+ghost use mathlib.Core.Bool.{true, cond};
+ghost use Rattle.model.specs.Numbers.{at};
+ghost use Rattle.model.specs.Road.{withoutState};
+ghost use Rattle.counts.specs.Longest.{noQueues};
+ghost use Rattle.model.specs.Longest.{longestQueues, longestRun};
+ghost use Rattle.counts.specs.LongestRun.{longestEnd};
+ghost use Rattle.model.specs.Reading.{studyBy};
+ghost use Rattle.model.specs.Running.{endAnswer, runEnd, runningOf, listAfter};
+ghost use Rattle.theory.specs.SchedulesLaws.{runTable};
+ghost use Rattle.model.specs.Demand.{Taken, Promised, WeightedDemand};
+ghost use Rattle.model.specs.Weights.{weighingOf};
 ghost use Rattle.running.specs.LentList.{Runnable};
 ghost use Rattle.running.specs.WeightedTotal.{weighedEnd};
+
+// What a run can give beside its list: its answer with its longest queues, and its weighted total.
+pub struct Tallied {
+    pub longest: Longest,
+    pub weighted: u64,
+}
 
 // Writes the rows of the steps before the first fault, 9 or 10.
 fn run_rows(
@@ -26,12 +38,14 @@ fn run_rows(
     steps: usize,
     weights: Weights,
     weighs: bool,
+    longs: bool,
     out: &mut [u32],
-) -> Weighed
+) -> Tallied
     requires { ⌜ Runnable (now bytes) (studyBy (now bytes) (now table) r s steps) (now out) ⌝ }
-    ensures answer { λ e. ⌜ endAnswer (e .ended) ≡ runEnd (studyBy (now (bytes .entry)) (now (table .entry)) r s steps) ⌝ }
+    ensures answer { λ e. ⌜ endAnswer (e .longest .ended) ≡ runEnd (studyBy (now (bytes .entry)) (now (table .entry)) r s steps) ⌝ }
     ensures list { λ e. ⌜ now (out .exit) ≡ runTable (studyBy (now (bytes .entry)) (now (table .entry)) r s steps) (now (out .entry)) ⌝ }
     ensures weighted { λ e. ⌜ e .weighted ≡ weighedEnd weighs (at (weights .places)) (at (weights .ramps)) (studyBy (now (bytes .entry)) (now (table .entry)) r s steps) ⌝ }
+    ensures longest { λ e. ⌜ (longs ≡ true → longestQueues (e .longest) ≡ longestEnd (studyBy (now (bytes .entry)) (now (table .entry)) r s steps)) ⌝ }
 {
     let n = r.n;
     let places = n + 1;
@@ -48,13 +62,18 @@ fn run_rows(
     let mut release = [0u32; 64];
     let mut waiting = [0u32; 64];
     let mut demand = [0u32; 64];
+    let mut gate = AtGate {
+        gate: 0,
+        waiting: 0,
+    };
+    let mut most = [0u32; 64];
     let mut weighted: u64 = 0;
     let mut k = 0;
     let mut to = 0;
     while k < steps {
         if table.len() != 0 {
-            let left = lanes::step_capacities(capacity, table, n, k);
-            road.capacity = left;
+            let open_now = lanes::step_capacities(capacity, table, n, k);
+            road.capacity = open_now;
         }
         let end = to + places;
         let step = passes::step(
@@ -85,57 +104,75 @@ fn run_rows(
         if refusal.number() != 0 {
             let state = l.state(held, queue, cumulative);
             let ended = Ended::at_step(refusal, k, fault.place, r, state);
-            return Weighed {
+            let longest = Longest {
                 ended: ended,
+                gate: gate.gate,
+                waiting: gate.waiting,
+                ramps: most,
+            };
+            return Tallied {
+                longest: longest,
                 weighted: weighted,
             };
         }
-        l = step.ledger;
-        weighted = weighing::added(
+        let next = step.ledger;
+        weighted = counts::added(
             weighted,
             weighs,
             n,
-            l.gate_queue,
+            next.gate_queue,
             &held,
             &queue,
             &weights.places,
             &weights.ramps,
         );
+        if longs {
+            gate = counts::raised(gate, l, next, n, &queue, &mut most);
+        }
+        l = next;
         to = end;
         k += 1;
     }
     let ended = Ended::complete(r, l.state(held, queue, cumulative));
-    Weighed {
+    let longest = Longest {
         ended: ended,
+        gate: gate.gate,
+        waiting: gate.waiting,
+        ramps: most,
+    };
+    Tallied {
+        longest: longest,
         weighted: weighted,
     }
 }
 
 // A refusal that names no state, with no step done.
-fn unbegun(refusal: Refusal, place: usize) -> Weighed
-    ensures { λ e. ⌜ (e .ended ≡ withoutState refusal place) × (e .weighted ≡ 0) ⌝ }
+fn unbegun(refusal: Refusal, place: usize) -> Tallied
+    ensures { λ e. ⌜ (e .longest .ended ≡ withoutState refusal place) × ((longestQueues (e .longest) ≡ noQueues) × (e .weighted ≡ 0)) ⌝ }
 {
-    let ended = Ended::without_state(refusal, place);
-    Weighed {
-        ended: ended,
+    let longest = counts::unbegun(refusal, place);
+    Tallied {
+        longest: longest,
         weighted: 0,
     }
 }
 
-// Runs a record under a table of lanes, with weights where they are asked for.
+// Runs a record under a table of lanes, with weights and with its longest queues where they are asked for.
 fn run_opened(
     bytes: &[u8],
     table: &[u8],
     weights: Weights,
     weighs: bool,
+    longs: bool,
     out: &mut [u32],
-) -> Weighed
-    ensures answer { λ e. ⌜ endAnswer (e .ended) ≡ runningOf (now (bytes .entry)) (now (table .entry)) (now (out .entry)) ⌝ }
+) -> Tallied
+    ensures answer { λ e. ⌜ endAnswer (e .longest .ended) ≡ runningOf (now (bytes .entry)) (now (table .entry)) (now (out .entry)) ⌝ }
     ensures list { λ e. ⌜ now (out .exit) ≡ listAfter (now (bytes .entry)) (now (table .entry)) (now (out .entry)) ⌝ }
     ensures demand { λ e. ⌜ (Taken (now (bytes .entry)) (now (table .entry))
-        → Promised (now (bytes .entry)) (now (table .entry)) (now (out .exit)) (endAnswer (e .ended))) ⌝ }
+        → Promised (now (bytes .entry)) (now (table .entry)) (now (out .exit)) (endAnswer (e .longest .ended))) ⌝ }
     ensures weighted { λ e. ⌜ e .weighted
         ≡ cond weighs (weighingOf (at (weights .places)) (at (weights .ramps)) (now (bytes .entry)) (now (table .entry)) (now (out .entry))) 0 ⌝ }
+    ensures longest { λ e. ⌜ (longs ≡ true → longestQueues (e .longest) ≡ longestRun (now (bytes .entry)) (now (table .entry)) (now (out .entry))) ⌝ }
 {
     let a = opening::opened(bytes, table);
     let refusal = a.refusal;
@@ -148,7 +185,17 @@ fn run_opened(
     if out.len() < steps * (road.n + 1) {
         return unbegun(Refusal::ListLength, 0);
     }
-    run_rows(bytes, table, road, state, steps, weights, weighs, out)
+    run_rows(
+        bytes,
+        table,
+        road,
+        state,
+        steps,
+        weights,
+        weighs,
+        longs,
+        out,
+    )
 }
 
 // Runs a record under a table of lanes: the refusals of reading, 17, 18, 11, then 9 or 10 with its step and cell.
@@ -161,8 +208,8 @@ pub fn run(bytes: &[u8], table: &[u8], out: &mut [u32]) -> Ended
         places: [0; 65],
         ramps: [0; 64],
     };
-    let weighed = run_opened(bytes, table, weights, false, out);
-    weighed.ended
+    let tallied = run_opened(bytes, table, weights, false, false, out);
+    tallied.longest.ended
 }
 
 // Runs a record with weights of waiting: running's answer and list, and the weighted sum of present over the steps done.
@@ -175,5 +222,27 @@ pub fn run_weighted(bytes: &[u8], table: &[u8], weights: Weights, out: &mut [u32
     ensures weights { λ e. ⌜ (Taken (now (bytes .entry)) (now (table .entry))
         → WeightedDemand (now (bytes .entry)) (now (table .entry)) (at (weights .places)) (at (weights .ramps)) (now (out .exit)) (endAnswer (e .ended)) (e .weighted)) ⌝ }
 {
-    run_opened(bytes, table, weights, true, out)
+    let tallied = run_opened(bytes, table, weights, true, false, out);
+    let longest = tallied.longest;
+    let ended = longest.ended;
+    Weighed {
+        ended: ended,
+        weighted: tallied.weighted,
+    }
+}
+
+// Runs a record with its longest queues: running's answer and list, and the longest queues of gate and on-ramps over the steps done.
+pub fn run_longest(bytes: &[u8], table: &[u8], out: &mut [u32]) -> Longest
+    ensures answer { λ e. ⌜ endAnswer (e .ended) ≡ runningOf (now (bytes .entry)) (now (table .entry)) (now (out .entry)) ⌝ }
+    ensures list { λ e. ⌜ now (out .exit) ≡ listAfter (now (bytes .entry)) (now (table .entry)) (now (out .entry)) ⌝ }
+    ensures longest { λ e. ⌜ longestQueues e ≡ longestRun (now (bytes .entry)) (now (table .entry)) (now (out .entry)) ⌝ }
+    ensures demand { λ e. ⌜ (Taken (now (bytes .entry)) (now (table .entry))
+        → Promised (now (bytes .entry)) (now (table .entry)) (now (out .exit)) (endAnswer (e .ended))) ⌝ }
+{
+    let weights = Weights {
+        places: [0; 65],
+        ramps: [0; 64],
+    };
+    let tallied = run_opened(bytes, table, weights, false, true, out);
+    tallied.longest
 }

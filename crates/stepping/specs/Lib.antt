@@ -1,3 +1,4 @@
-pub mod StepAnswers
-pub mod Looked
+pub mod StepNeeds
+pub mod LentColumns
+pub mod Findings
 pub mod Nexts

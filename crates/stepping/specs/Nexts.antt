@@ -3,11 +3,11 @@ use mathlib.Core.Path.{_≡_}
 use mathlib.Core.List.{List}
 use Prim.Native.Nat.{ℕ, _+_}
 use lib.ListN.{length}
-use Rattle.road.specs.declared.Road.{Road}
-use Rattle.road.specs.declared.State.{State}
-use Rattle.columns.specs.Columns.{sending}
+use Rattle.model.specs.declared.Road.{Road}
+use Rattle.model.specs.declared.State.{State}
+use Rattle.outflows.specs.Columns.{sending}
 use Rattle.outflows.specs.Rooms.{Rooms}
-use Rattle.moves.specs.Asked.{Steppable}
+use Rattle.stepping.specs.StepNeeds.{Steppable}
 
 -- that it may be made on some road with these columns, whose rooms are given
 pub record Nexts (n gate : ℕ) (speed share capacity : List ℕ) (s : State) (row room y : List ℕ) : Type 0 where

@@ -1,12 +1,63 @@
+// The move in place by a row of outflows, and the count, on a road and a state that are lent column by column, so that nothing of them is copied.
 // A step made on a road and a state that are lent column by column, so that a run copies neither.
-use columns::Ledger;
+use model::Road;
+use numbers::wide;
+use outflows::Ledger;
 ghost use mathlib.Core.Path.{_≡_};
-ghost use Rattle.road.specs.declared.Road.{Road};
-ghost use Rattle.model.specs.Rules.{outflowsOf};
-ghost use Rattle.columns.specs.Columns.{sending, stateOf};
+ghost use Rattle.model.specs.declared.Road.{Road};
+ghost use Rattle.model.specs.Move.{nextOf};
+ghost use Rattle.outflows.specs.Columns.{sharing, stateOf, sending};
+ghost use Rattle.stepping.specs.LentColumns.{Advances, engineNext};
+ghost use Rattle.model.specs.Schedules.{outflowsOf};
 ghost use Rattle.outflows.specs.Rooms.{Rooms};
-ghost use Rattle.moves.specs.Lent.{engineNext};
 ghost use Rattle.stepping.specs.Nexts.{Nexts};
+
+// Moves every place by a row of outflows that obeys the rules, and counts the step: what each cell then holds and what waits at each ramp is
+// added as it is moved.
+pub fn advance(
+    n: usize,
+    share: &[u16; 64],
+    l: Ledger,
+    held: &mut [u32; 64],
+    queue: &mut [u32; 64],
+    cumulative: &mut [u32; 64],
+    row: &[u32],
+    y: &[u32],
+) -> Ledger
+    requires { ⌜ Advances n (now share) l (now held) (now queue) (now cumulative) (now row) (now y) ⌝ }
+    ensures { λ t. ⌜ ((r : Road) → stateOf t (now (held .exit)) (now (queue .exit)) (now (cumulative .exit))
+        ≡ nextOf (sharing r n (now (share .entry)))
+        (stateOf l (now (held .entry)) (now (queue .entry)) (now (cumulative .entry))) (now (row .entry)) (now (y .entry))) ⌝ }
+{
+    let first = y[0];
+    let waiting = l.gate_queue + row[0] - first;
+    let mut entering = flow::entering(Road::WHOLE, l.gate_cumulative, first);
+    let mut on_road: u64 = 0;
+    let mut at_ramps: u64 = 0;
+    let mut i = 0;
+    while i < n {
+        let release = row[2 * i + 2];
+        let outflow = y[i + 1];
+        let before = cumulative[i];
+        let holds = held[i] + (entering as u32) + release - outflow;
+        let waits = queue[i] + row[2 * i + 1] - release;
+        held[i] = holds;
+        queue[i] = waits;
+        cumulative[i] = before + outflow;
+        on_road += wide(holds);
+        at_ramps += wide(waits);
+        entering = flow::entering(share[i], before, outflow);
+        i += 1;
+    }
+    Ledger {
+        done: l.done + 1,
+        gate_time: l.gate_time + wide(waiting),
+        road_time: l.road_time + on_road,
+        ramp_time: l.ramp_time + at_ramps,
+        gate_queue: waiting,
+        gate_cumulative: l.gate_cumulative + first,
+    }
+}
 
 // Fills a row with the engine's outflows by the rooms of the cells, moves every place by it and counts the step.
 pub fn next<'a>(
@@ -48,5 +99,5 @@ pub fn next<'a>(
         room,
         y,
     );
-    moves::lent::advance(n, share, l, held, queue, cumulative, row, y)
+    advance(n, share, l, held, queue, cumulative, row, y)
 }

@@ -1,21 +1,20 @@
-// Stepping: the next state of a road, or a refusal with its place and the state that was given.
+// The move by a row of outflows, and the count; stepping.
 pub mod lent;
 
-use columns::Ledger;
-use road::Refusal;
-use road::Road;
-use road::State;
-use road::Stepped;
+use model::Refusal;
+use model::Road;
+use model::State;
+use model::Stepped;
+use outflows::Ledger;
 ghost use mathlib.Core.Path.{_≡_};
 ghost use Prim.Native.Nat.{_+_, _<_};
 ghost use lib.ListN.{length};
-ghost use Rattle.road.specs.Road.{mostSteps};
+ghost use Rattle.model.specs.Road.{mostSteps};
 ghost use Rattle.model.specs.Move.{nextOf};
-ghost use Rattle.model.specs.Rules.{outflowsOf};
-ghost use Rattle.model.specs.Step.{stepOn, steppingOf};
-ghost use Rattle.moves.specs.Asked.{Movable, Steppable};
-ghost use Rattle.stepping.specs.StepAnswers.{stepAnswer};
-ghost use Rattle.stepping.specs.Looked.{Stepping};
+ghost use Rattle.model.specs.Schedules.{outflowsOf};
+ghost use Rattle.model.specs.Stepping.{stepOn, steppingOf, stepAnswer};
+ghost use Rattle.stepping.specs.StepNeeds.{Movable, Steppable};
+ghost use Rattle.stepping.specs.Findings.{Stepping};
 
 // The state after a step by a row of outflows that obeys the rules.
 pub fn next_by(r: Road, s: State, row: &[u32], y: &[u32]) -> State
@@ -33,7 +32,7 @@ pub fn next_by(r: Road, s: State, row: &[u32], y: &[u32]) -> State
         gate_queue: s.gate_queue,
         gate_cumulative: s.gate_cumulative,
     };
-    let t = moves::lent::advance(
+    let t = lent::advance(
         r.n,
         &r.share,
         l,
@@ -52,7 +51,7 @@ fn fill_outflows(r: Road, s: State, row: &[u32], y: &mut [u32])
     ensures { λ _. ⌜ now (y .exit) ≡ outflowsOf r s (now (row .entry)) ⌝ }
 {
     let mut room = [0u32; 64];
-    releases::lent::releases(
+    outflows::lent::releases(
         r.n,
         &r.wave,
         &r.jam,
@@ -107,7 +106,7 @@ fn step_on(r: Road, s: State, row: &[u32]) -> Stepped
     if s.done == Road::STEPS {
         return refused(Refusal::StepsDone, 0, s);
     }
-    let q = releases::releases(r, s, row);
+    let q = outflows::releases(r, s, row);
     let refusal = q.refusal;
     if refusal.number() != 0 {
         return refused(refusal, q.place, s);

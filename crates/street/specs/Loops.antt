@@ -5,11 +5,9 @@ use Prim.Native.Nat.{ℕ, suc, _+_, _-_, _≤_, _<_, min}
 use native.Mathlib.Numerals.{add-one}
 use native.Mathlib.Omega.{arith}
 use lib.ListN.{length, set, drop-of-length-le}
-use Rattle.rows.specs.Sum.{sumOf}
-use Rattle.rows.specs.Rows.{fillOf, listOf}
-use Rattle.rows.specs.RowsLaws.{fill-more, fill-list, length-fill, sum-list-none, sum-list-more}
-use Rattle.numbers.specs.Lists.{at}
-use Rattle.street.specs.Street.{Asked, sureOf, restBefore, moreOf, grantAt, grantsOf}
+use Rattle.model.specs.Numbers.{sumOf, fillOf, listOf, at}
+use Rattle.numbers.specs.RowsLaws.{fill-more, fill-list, length-fill, sum-list-none, sum-list-more}
+use Rattle.model.specs.Street.{Asked, sureOf, restBefore, moreOf, grantAt, grantsOf}
 use Rattle.street.specs.StreetLaws.{sure-fits}
 
 -- what is left after what is sure of i ramps

@@ -10,15 +10,14 @@ use lib.ListN.{length, take}
 use lib.Dec.{leb}
 use lib.Seq.{take-all}
 use borrow.Author.Tests.{leb-true, le-leb}
-use Rattle.rows.specs.Sum.{sumOf}
-use Rattle.rows.specs.SumLaws.{sum-start, sum-more, sum-halves}
-use Rattle.rows.specs.Rows.{listOf}
-use Rattle.rows.specs.RowsLaws.{length-list, list-at, sum-list-none, sum-list-more}
-use Rattle.numbers.specs.Lists.{at}
-use Rattle.road.specs.Road.{mostRate, mostRamps}
+use Rattle.model.specs.Numbers.{sumOf, listOf, at}
+use Rattle.numbers.specs.SumLaws.{sum-start, sum-more, sum-halves}
+use Rattle.numbers.specs.RowsLaws.{length-list, list-at, sum-list-none, sum-list-more}
+use Rattle.model.specs.Road.{mostRate, mostRamps}
 use Rattle.numbers.specs.Tests.{and-true, both-true, le-head, eq-head, le-then, eq-then}
-use Rattle.limits.specs.AllWithin.{allWithin, within-at, within-true}
-use Rattle.street.specs.Street.{Asked, frameOk, askedOk, sureOf, restBefore, grantAt, grantsOf, grantingOf, grantsAfter}
+use Rattle.model.specs.Limits.{allWithin}
+use Rattle.limits.specs.AllWithin.{within-at, within-true}
+use Rattle.model.specs.Street.{Asked, frameOk, askedOk, sureOf, restBefore, grantAt, grantsOf, grantingOf, grantsAfter}
 
 module _ (limit : ℕ) (guarantees wishes : List ℕ) where
   -- 24's conditions, exactly

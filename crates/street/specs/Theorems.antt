@@ -8,27 +8,11 @@ use native.Mathlib.Nat.{le-refl, not-suc-le-zero, eq-or-lt-of-le, le-of-suc-le-s
 use native.Mathlib.Omega.{arith}
 use lib.ListN.{length, take}
 use lib.Seq.{ext-getD, take-all}
-use Rattle.numbers.specs.Lists.{at}
-use Rattle.numbers.specs.First.{unless}
+use Rattle.model.specs.Numbers.{at, unless, sumOf}
 use Rattle.numbers.specs.Tests.{never}
-use Rattle.rows.specs.Sum.{sumOf}
-use Rattle.rows.specs.SumLaws.{sum-start, sum-more}
-use Rattle.street.specs.Street.{Asked, askedOk, grantsOf, grantingOf, grantsAfter}
+use Rattle.numbers.specs.SumLaws.{sum-start, sum-more}
+use Rattle.model.specs.Street.{Asked, askedOk, grantsOf, grantingOf, grantsAfter, Fair, Ends}
 use Rattle.street.specs.StreetLaws.{asked-limits, limits-asked, grants-length, grants-limit, grants-sure, grants-wish, grants-order, grants-whole}
-
--- the grants of a street's ramps in a step
-pub record Fair (limit : ℕ) (guarantees wishes grants : List ℕ) : Type 0 where
-  pub ramps : length grants ≡ length guarantees
-  -- the limit is never passed
-  pub limited : sumOf grants ≤ limit
-  -- no ramp gets less than the smaller of wish and guarantee
-  pub sure : (i : ℕ) → i < length guarantees → min (at wishes i) (at guarantees i) ≤ at grants i
-  -- each up to its wish
-  pub wish : (i : ℕ) → i < length guarantees → at grants i ≤ at wishes i
-  -- in ramp order: after a ramp that got less than its wish, each got exactly the smaller of wish and guarantee
-  pub order : (i j : ℕ) → i < j → j < length guarantees → at grants i < at wishes i → at grants j ≡ min (at wishes j) (at guarantees j)
-  -- nothing is wasted: the whole limit is granted, or every wish
-  pub whole : sumOf grants ≡ min limit (sumOf wishes)
 
 -- 1: the grants are so
 pub fair : (limit : ℕ) (guarantees wishes : List ℕ) → Asked limit guarantees wishes → Fair limit guarantees wishes (grantsOf limit guarantees wishes)
@@ -91,12 +75,6 @@ module _ {limit : ℕ} {guarantees wishes : List ℕ} where
       let g = fair limit guarantees wishes h in
       ext-getD 0 x _ (f .ramps ∙ sym (g .ramps)) (λ k l. agree f g (length guarantees) (le-refl _) k (omega (arith, f .ramps)))
 
--- both ends, with what each leaves of the lent grants
-pub data Ends (limit : ℕ) (guarantees wishes grants : List ℕ) : ℕ → List ℕ → Type 0 where
-  refused : (Asked limit guarantees wishes → length grants ≡ length guarantees → ⊥) → Ends limit guarantees wishes grants 24 grants
-  granted : Asked limit guarantees wishes → length grants ≡ length guarantees → {filled : List ℕ} → Fair limit guarantees wishes filled
-      → Ends limit guarantees wishes grants 0 filled
-
 -- 4: every answer is one of them
 module _ (limit : ℕ) (guarantees wishes grants : List ℕ) where
   pub ends : Ends limit guarantees wishes grants (grantingOf limit guarantees wishes (length grants)) (grantsAfter limit guarantees wishes grants)
@@ -107,8 +85,8 @@ module _ (limit : ℕ) (guarantees wishes grants : List ℕ) where
           → Ends limit guarantees wishes grants (unless a 24 0) (unless a grants (grantsOf limit guarantees wishes))
       go true e =
           let asked = asked-limits limit guarantees wishes (length grants) e in
-          granted (asked .0) (asked .1) (fair limit guarantees wishes (asked .0))
-      go false e = refused (λ asked same. never (limits-asked limit guarantees wishes (length grants) asked same) e)
+          Ends.granted (asked .0) (asked .1) (fair limit guarantees wishes (asked .0))
+      go false e = Ends.refused (λ asked same. never (limits-asked limit guarantees wishes (length grants) asked same) e)
 
 -- an answer and grants that are those of the definitions are one of them; so a contract may promise all three
 pub ended : (limit : ℕ) (guarantees wishes grants : List ℕ) {number : ℕ} {left : List ℕ}

@@ -1,12 +1,11 @@
 // Several ramps that feed from one street: what each may release in a step.
-use road::Refusal;
-use road::Road;
+use model::Refusal;
+use model::Road;
 ghost use mathlib.Core.Path.{_≡_};
 ghost use Prim.Native.Nat.{min};
 ghost use lib.ListN.{length};
-ghost use Rattle.road.specs.Refusals.{refusalNumber};
-ghost use Rattle.street.specs.Street.{Asked, frameOk, askedOk, restBefore, grantsOf, grantingOf, grantsAfter};
-ghost use Rattle.street.specs.Theorems.{Ends};
+ghost use Rattle.model.specs.Refusals.{refusalNumber};
+ghost use Rattle.model.specs.Street.{Asked, frameOk, askedOk, restBefore, grantsOf, grantingOf, grantsAfter, Ends};
 
 fn smaller(a: u32, b: u32) -> u32
     ensures { λ r. ⌜ r ≡ min a b ⌝ }
@@ -36,7 +35,7 @@ fn asked_within(limit: u32, guarantees: &[u32], wishes: &[u32], places: usize) -
     if !limits::all_within(wishes, Road::RATE) {
         return false;
     }
-    rows::sum(guarantees) <= limit as u64
+    numbers::sum(guarantees) <= limit as u64
 }
 
 // What the smaller of wish and guarantee of every ramp leaves of the limit.

@@ -1,3 +1,3 @@
-pub mod Taking
+pub mod PickingLaws
 pub mod TakingLaws
 pub mod TakenRows

@@ -4,18 +4,17 @@ use mathlib.Core.Path.{_≡_, refl, ap, _∙_}
 use mathlib.Core.List.{List}
 use Prim.Native.Nat.{ℕ, _*_, _≤_, _<_}
 use lib.ListN.{length, take, drop}
-use Rattle.numbers.specs.Lists.{at}
-use Rattle.rows.specs.Concat.{length-concat}
-use Rattle.rows.specs.Tables.{rowAt}
-use Rattle.rows.specs.TablesLaws.{concat-row}
-use Rattle.road.specs.Road.{startIn}
-use Rattle.fields.specs.Fields.{rowNumbers, recordRow}
-use Rattle.reading.specs.Reading.{readingOf}
+use Rattle.model.specs.Numbers.{at, rowAt}
+use Rattle.numbers.specs.Concat.{length-concat}
+use Rattle.numbers.specs.TablesLaws.{concat-row}
+use Rattle.model.specs.Road.{startIn}
+use Rattle.model.specs.Record.{rowNumbers, recordRow}
+use Rattle.model.specs.Reading.{readingOf}
 use Rattle.reading.specs.Within.{read-within}
-use Rattle.picking.specs.PickingLaws.{row-read}
-use Rattle.writing.specs.Writing.{written, writingOf, targetAfter}
-use Rattle.writing.specs.Saved.{again-answer, again-bytes}
-use Rattle.taking.specs.Taking.{takenRow, takenCount, takenList}
+use Rattle.taking.specs.PickingLaws.{row-read}
+use Rattle.model.specs.Writing.{written, writingOf, targetAfter}
+use Rattle.writing.specs.Theorems.{again-answer, again-bytes}
+use Rattle.model.specs.RowNumbers.{takenRow, takenCount, takenList}
 use Rattle.taking.specs.TakingLaws.{Roomy, length-taken-row, count-all, taken-row, taken-past, taken-rows}
 
 -- the rows as writing takes them: the front of the list, as long as the count says

@@ -8,17 +8,14 @@ use native.Mathlib.Omega.{arith}
 use borrow.Author.Tests.{leb-true, le-leb, lt-leb}
 use lib.ListN.{length, take, drop, set}
 use lib.Seq.{length-take-le, getD-take, ext-getD}
-use Rattle.numbers.specs.Lists.{at}
+use Rattle.model.specs.Numbers.{at, fillOf, concatOf, rowAt, frontOf}
 use Rattle.numbers.specs.Tests.{unless-elim, le-head}
-use Rattle.rows.specs.Rows.{fillOf, concatOf}
-use Rattle.rows.specs.RowsLaws.{fill-more, fill-at, length-fill}
-use Rattle.rows.specs.Tables.{rowAt, frontOf}
-use Rattle.rows.specs.TablesLaws.{row-ends, mul-more, part-length, length-front, front-row, front-past, front-rows, front-more, front-none}
-use Rattle.road.specs.Road.{mostCells, mostSteps}
-use Rattle.fields.specs.Fields.{rowNumbers}
-use Rattle.picking.specs.Picking.{rowArray}
-use Rattle.picking.specs.PickingLaws.{length-array}
-use Rattle.taking.specs.Taking.{takenRow, roomy, takenCount, takenList}
+use Rattle.numbers.specs.RowsLaws.{fill-more, fill-at, length-fill}
+use Rattle.numbers.specs.TablesLaws.{row-ends, mul-more, part-length, length-front, front-row, front-past, front-rows, front-more, front-none}
+use Rattle.model.specs.Road.{mostCells, mostSteps}
+use Rattle.model.specs.Record.{rowNumbers}
+use Rattle.model.specs.RowNumbers.{rowArray, takenRow, roomy, takenCount, takenList}
+use Rattle.taking.specs.PickingLaws.{length-array}
 
 -- there is room for the rows
 pub record Roomy (n T room : ℕ) : Type 0 where

@@ -1,11 +1,62 @@
-// A record's rows in one list, as writing takes them.
-use road::Road;
+// A row of a record's numbers, of any bytes, and all rows in one list, as writing takes them.
+use model::Road;
 ghost use mathlib.Core.Path.{_≡_};
-ghost use Prim.Native.Nat.{_≤_};
+ghost use Prim.Native.Nat.{_≤_, _<_};
+ghost use Rattle.model.specs.Road.{mostCells, mostSteps};
+ghost use Rattle.model.specs.Record.{versionOf, rowNumbers};
+ghost use Rattle.model.specs.RowNumbers.{entryOr, numbersAt, rowArray, takenCount, takenList};
 ghost use lib.ListN.{length, take};
-ghost use Rattle.road.specs.Road.{mostCells};
-ghost use Rattle.fields.specs.Fields.{rowNumbers};
-ghost use Rattle.taking.specs.Taking.{takenCount, takenList};
+
+// The number in the four bytes from `at`, 0 where they are not all there.
+fn entry(bytes: &[u8], at: usize) -> u32
+    ensures { λ r. ⌜ r ≡ entryOr (now (bytes .entry)) at ⌝ }
+{
+    if bytes.len() < fields::NUMBER_SIZE {
+        return 0;
+    }
+    if bytes.len() - fields::NUMBER_SIZE < at {
+        return 0;
+    }
+    fields::number(bytes, at, fields::NUMBER_SIZE)
+}
+
+// The version that the bytes name, 0 where they end before it.
+fn version(bytes: &[u8]) -> u8
+    ensures { λ r. ⌜ r ≡ versionOf (now (bytes .entry)) ⌝ }
+{
+    if bytes.len() <= fields::VERSION_OFFSET {
+        return 0;
+    }
+    fields::version(bytes)
+}
+
+// The row's 1 + 2n numbers, then 0.
+fn numbers(bytes: &[u8], n: usize, t: usize) -> [u32; 129]
+    requires { ⌜ (n ≤ mostCells) × (t < mostSteps) ⌝ }
+    ensures { λ r. ⌜ r ≡ numbersAt (now (bytes .entry)) n t ⌝ }
+{
+    let start = fields::row_start(version(bytes), n, t);
+    let mut r = [0u32; 129];
+    let mut k = 0;
+    while k < 1 + 2 * n {
+        r[k] = entry(bytes, start + fields::NUMBER_SIZE * k);
+        k += 1;
+    }
+    r
+}
+
+// The numbers of step t's row as the layout of n cells places them, 0 where the bytes hold none.
+pub fn row(bytes: &[u8], n: usize, t: usize) -> [u32; 129]
+    ensures { λ r. ⌜ r ≡ rowArray (now (bytes .entry)) n t ⌝ }
+{
+    if Road::CELLS < n {
+        return [0; 129];
+    }
+    if Road::STEPS <= t {
+        return [0; 129];
+    }
+    numbers(bytes, n, t)
+}
 
 // Puts the first numbers of a row into a lent part, as many as it has.
 fn put_numbers(part: &mut [u32], row: [u32; 129])
@@ -37,7 +88,7 @@ pub fn rows(bytes: &[u8], n: usize, steps: usize, list: &mut [u32]) -> usize
     let mut from = 0;
     let mut t = 0;
     while t < steps {
-        let row = picking::row(bytes, n, t);
+        let row = row(bytes, n, t);
         let end = from + numbers;
         put_numbers(&mut list[from..end], row);
         from = end;

@@ -1,1 +1,1 @@
-pub mod Proposed
+pub mod ProposedRow

@@ -1,19 +1,19 @@
 // What judging says of one row, on a road and a state that are lent column by column, so that judging copies neither.
-use road::Fault;
-use road::Refusal;
-use road::Road;
+use model::Fault;
+use model::Refusal;
+use model::Road;
 ghost use mathlib.Core.Path.{_≡_};
 ghost use mathlib.Core.List.{List};
 ghost use Prim.Native.Nat.{ℕ, _+_, _≤_};
 ghost use lib.ListN.{length};
-ghost use Rattle.road.specs.Road.{mostCells};
-ghost use Rattle.road.specs.declared.Road.{Road};
-ghost use Rattle.model.specs.Verdict.{outflowsFaultOf, verdictOf};
-ghost use Rattle.columns.specs.declared.Ledger.{Ledger};
-ghost use Rattle.columns.specs.Columns.{roadOf, sending, gated, stateOf};
+ghost use Rattle.model.specs.Road.{mostCells};
+ghost use Rattle.model.specs.declared.Road.{Road};
+ghost use Rattle.model.specs.Judging.{outflowsFaultOf, verdictOf};
+ghost use Rattle.outflows.specs.declared.Ledger.{Ledger};
+ghost use Rattle.outflows.specs.Columns.{roadOf, sending, gated, stateOf};
 ghost use Rattle.outflows.specs.Rooms.{Rooms};
-ghost use Rattle.road.specs.Refusals.{faultAnswer};
-ghost use Rattle.verdict.specs.Proposed.{Proposed};
+ghost use Rattle.model.specs.Refusals.{faultAnswer};
+ghost use Rattle.verdict.specs.ProposedRow.{Proposed};
 
 // The lowest place whose outflow does not obey, with its refusal, where `room` has the room of each cell. No cell follows the last
 // place: only its demand is looked at.
@@ -92,7 +92,7 @@ pub fn verdict<'a, 'b>(
         (stateOf (gated l «gate_queue» «gate_cumulative») (now (held .entry)) (now (queue .entry)) (now (cumulative .entry))) (now (row .entry)) (now (y .entry))) ⌝ }
     ensures length { λ q. ⌜ length (now (room .exit)) ≡ mostCells ⌝ }
 {
-    let q = releases::lent::releases(n, wave, jam, capacity, held, queue, row, room);
+    let q = outflows::lent::releases(n, wave, jam, capacity, held, queue, row, room);
     let refusal = q.refusal;
     if refusal.number() != 0 {
         return q;

@@ -1,5 +1,3 @@
-pub mod Wanted
-pub mod Stated
 pub mod WantedLaws
 pub mod Loops
 pub mod Theorems

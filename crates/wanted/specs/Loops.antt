@@ -11,13 +11,12 @@ use lib.Dec.{leb}
 use lib.ListN.{length, set, length-set}
 use lib.Seq.{ext-getD, getD-set-same, getD-set-other}
 use borrow.Author.Tests.{le-leb, lt-leb}
-use Rattle.rows.specs.RowsLaws.{length-list, list-at}
-use Rattle.numbers.specs.Lists.{at}
-use Rattle.road.specs.Road.{mostStart, mostRate}
+use Rattle.numbers.specs.RowsLaws.{length-list, list-at}
+use Rattle.model.specs.Numbers.{at}
+use Rattle.model.specs.Road.{mostStart, mostRate}
 use Rattle.numbers.specs.FirstLaws.{Passed, passed-none, passed-more, passed-fails, passed-all}
-use Rattle.limits.specs.AllWithin.{allWithin}
-use Rattle.wanted.specs.Wanted.{Comes, Limits, frameOk, askedOk, lowestQueue, possibleOf, inflowOf, leastAt, releaseOf, tableOf}
-use Rattle.wanted.specs.Wanted.{WantedAnswer, answer, wantedOf, tableAfter}
+use Rattle.model.specs.Limits.{allWithin}
+use Rattle.model.specs.Wanted.{Comes, Limits, frameOk, askedOk, lowestQueue, possibleOf, inflowOf, leastAt, releaseOf, tableOf, WantedAnswer, answer, wantedOf, tableAfter}
 use Rattle.wanted.specs.WantedLaws.{inflow-none, inflow-more, inflow-most, least-last, least-more, least-grows}
 
 -- after k steps of releasing as much as each may

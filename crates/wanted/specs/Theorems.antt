@@ -7,16 +7,11 @@ use Prim.Native.Nat.{ℕ, suc, _≤_, _<_}
 use native.Mathlib.Omega.{arith}
 use lib.ListN.{length}
 use lib.Seq.{ext-getD}
-use Rattle.numbers.specs.Lists.{at}
+use Rattle.model.specs.Numbers.{at}
 use Rattle.numbers.specs.Tests.{unless-elim, never}
-use Rattle.rows.specs.SumLaws.{sum-more}
-use Rattle.wanted.specs.Wanted.{Asked, Obeys, runningSum, askedOk, possibleOf, tableOf, WantedAnswer, answer, wantedOf, tableAfter}
+use Rattle.numbers.specs.SumLaws.{sum-more}
+use Rattle.model.specs.Wanted.{Asked, Obeys, runningSum, askedOk, possibleOf, tableOf, WantedAnswer, answer, wantedOf, tableAfter, Least, Ends}
 use Rattle.wanted.specs.WantedLaws.{asked-limits, limits-asked, obeyed-possible, table-obeys, table-least}
-
--- a table that obeys, and whose running sum after every step is at most that of each table that obeys
-pub record Least (start ceiling rate : ℕ) (arrivals table : List ℕ) : Type 0 where
-  pub obeys : Obeys start ceiling rate arrivals table
-  pub least : (other : List ℕ) → Obeys start ceiling rate arrivals other → (k : ℕ) → k ≤ length arrivals → runningSum table k ≤ runningSum other k
 
 -- 1: there is only one such table
 module _ (start ceiling rate : ℕ) (arrivals : List ℕ) {one other : List ℕ} where
@@ -38,14 +33,6 @@ module _ (start ceiling rate : ℕ) (arrivals : List ℕ) {one other : List ℕ}
             sum-more k other (omega (arith, g .obeys .steps)),
           )
 
--- the three ends, with what each leaves of the lent table
-pub data Ends (start ceiling rate : ℕ) (arrivals table : List ℕ) : WantedAnswer → List ℕ → Type 0 where
-  refused : (Asked start ceiling rate arrivals (length table) → ⊥) → Ends start ceiling rate arrivals table (answer 23 false false) table
-  none : Asked start ceiling rate arrivals (length table) → ((other : List ℕ) → Obeys start ceiling rate arrivals other → ⊥)
-      → Ends start ceiling rate arrivals table (answer 0 true false) table
-  found : Asked start ceiling rate arrivals (length table) → {filled : List ℕ} → Least start ceiling rate arrivals filled
-      → Ends start ceiling rate arrivals table (answer 0 true true) filled
-
 -- 2: every answer is one of them
 module _ (start ceiling rate : ℕ) (arrivals table : List ℕ) where
   -- an answer, with the table that it leaves
@@ -56,10 +43,10 @@ module _ (start ceiling rate : ℕ) (arrivals table : List ℕ) where
   unfolding wantedOf tableAfter
   ends =
       unless-elim End (askedOk start ceiling rate arrivals (length table))
-      (λ e. refused (λ asked. never (limits-asked start ceiling rate arrivals (length table) asked) e)) (λ e.
+      (λ e. Ends.refused (λ asked. never (limits-asked start ceiling rate arrivals (length table) asked) e)) (λ e.
       let asked = asked-limits start ceiling rate arrivals (length table) e in
-      unless-elim End (possibleOf start ceiling rate arrivals) (λ f. none asked (λ other o. never (obeyed-possible start ceiling rate arrivals other o) f)) (λ f.
-      found asked (record { obeys = table-obeys start ceiling rate arrivals f; least = table-least start ceiling rate arrivals })))
+      unless-elim End (possibleOf start ceiling rate arrivals) (λ f. Ends.none asked (λ other o. never (obeyed-possible start ceiling rate arrivals other o) f)) (λ f.
+      Ends.found asked (record { obeys = table-obeys start ceiling rate arrivals f; least = table-least start ceiling rate arrivals })))
 
 -- an answer and a table that are those of the definitions are one of them; so a contract may promise all three
 pub ended : (start ceiling rate : ℕ) (arrivals table : List ℕ) {a : WantedAnswer} {left : List ℕ}

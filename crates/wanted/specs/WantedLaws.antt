@@ -7,15 +7,15 @@ use native.Mathlib.Nat.{le-refl}
 use native.Mathlib.Omega.{arith}
 use lib.ListN.{length}
 use borrow.Author.Tests.{leb-true, le-leb}
-use Rattle.rows.specs.SumLaws.{sum-start, sum-more, sum-bound}
-use Rattle.rows.specs.Rows.{listOf}
-use Rattle.rows.specs.RowsLaws.{length-list, list-at}
-use Rattle.numbers.specs.Lists.{at}
-use Rattle.road.specs.Road.{mostRate, mostStart}
+use Rattle.numbers.specs.SumLaws.{sum-start, sum-more, sum-bound}
+use Rattle.model.specs.Numbers.{listOf, at}
+use Rattle.numbers.specs.RowsLaws.{length-list, list-at}
+use Rattle.model.specs.Road.{mostRate, mostStart}
 use Rattle.numbers.specs.FirstLaws.{all-at, all-true}
 use Rattle.numbers.specs.Tests.{and-true, both-true, le-head, eq-head, le-then, eq-then}
-use Rattle.limits.specs.AllWithin.{allWithin, within-at, within-true}
-use Rattle.wanted.specs.Wanted.{Comes, Asked, queueAfter, Obeys, runningSum, frameOk, askedOk, lowestQueue, possibleOf, inflowOf, leastFrom, leastAt, releaseOf, tableOf}
+use Rattle.model.specs.Limits.{allWithin}
+use Rattle.limits.specs.AllWithin.{within-at, within-true}
+use Rattle.model.specs.Wanted.{Comes, Asked, queueAfter, Obeys, runningSum, frameOk, askedOk, lowestQueue, possibleOf, inflowOf, leastFrom, leastAt, releaseOf, tableOf}
 
 -- the inflow
 module _ (start : ℕ) (arrivals : List ℕ) where

@@ -1,12 +1,11 @@
 // Releases for a wanted queue: the table whose running sum is the least possible after every step.
-use road::Refusal;
-use road::Road;
-use road::Wanted;
+use model::Refusal;
+use model::Road;
+use model::Wanted;
 ghost use mathlib.Core.Path.{_≡_};
 ghost use Prim.Native.Nat.{_-_, max};
 ghost use lib.ListN.{length};
-ghost use Rattle.wanted.specs.Wanted.{Comes, Limits, frameOk, possibleOf, inflowOf, tableOf, wantedAnswer, wantedOf, tableAfter};
-ghost use Rattle.wanted.specs.Theorems.{Ends};
+ghost use Rattle.model.specs.Wanted.{Comes, Limits, frameOk, possibleOf, inflowOf, tableOf, wantedAnswer, wantedOf, tableAfter, Ends};
 
 // What `most` leaves after `used`, 0 where `used` is more.
 fn less(most: u32, used: u32) -> u32

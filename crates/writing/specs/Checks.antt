@@ -7,19 +7,19 @@ use native.Mathlib.Omega.{arith}
 use lib.Dec.{leb, eqb}
 use lib.ListN.{length}
 use borrow.Author.Tests.{leb-true, le-leb, lt-leb, eqb-true, eq-eqb, ne-eqb}
-use Rattle.numbers.specs.First.{unless, oneOf, unlessFirst, firstOf}
+use Rattle.model.specs.Numbers.{unless, oneOf, unlessFirst, firstOf}
 use Rattle.numbers.specs.Tests.{unless-elim}
-use Rattle.rows.specs.TablesLaws.{row-ends}
-use Rattle.road.specs.declared.Road.{Road}
-use Rattle.road.specs.declared.Start.{Start}
-use Rattle.road.specs.Road.{mostBytes, zeros, emptyState}
-use Rattle.studies.specs.Study.{Study, study}
-use Rattle.fields.specs.Fields.{secondsSize, rowNumbers}
-use Rattle.limits.specs.Limits.{placeOk}
-use Rattle.header.specs.Header.{sizeOf, bothVersions, cellsAndStepsOk, secondsOk}
-use Rattle.header.specs.HeaderLaws.{Counts, counts-facts, facts-counts}
-use Rattle.writing.specs.Writing.{unwritten, written, givenOk, frameFault, frameOf, writingBy, writingOf}
-use Rattle.encoding.specs.Record.{recordSize, given}
+use Rattle.numbers.specs.TablesLaws.{row-ends}
+use Rattle.model.specs.declared.Road.{Road}
+use Rattle.model.specs.declared.Start.{Start}
+use Rattle.model.specs.Road.{mostBytes, zeros, emptyState}
+use Rattle.model.specs.Schedules.{Study, study}
+use Rattle.model.specs.Record.{secondsSize, rowNumbers}
+use Rattle.model.specs.Limits.{placeOk}
+use Rattle.model.specs.Reading.{sizeOf, bothVersions, cellsAndStepsOk, secondsOk}
+use Rattle.fields.specs.HeaderLaws.{Counts, counts-facts, facts-counts}
+use Rattle.model.specs.Writing.{unwritten, written, givenOk, frameFault, frameOf, writingBy, writingOf}
+use Rattle.model.specs.Encoding.{recordSize, given}
 use Rattle.encoding.specs.Encoding.{Rows}
 
 -- a study of n cells and T steps without rows, whose other numbers are 0

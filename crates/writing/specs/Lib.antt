@@ -1,9 +1,8 @@
-pub mod Writing
 pub mod Checks
-pub mod Accepted
-pub mod Cut
+pub mod AcceptedStudy
+pub mod CutLaws
 pub mod Stands
 pub mod ReadBack
 pub mod ReadStudy
 pub mod WrittenAgain
-pub mod Saved
+pub mod Theorems

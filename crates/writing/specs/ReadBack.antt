@@ -8,27 +8,26 @@ use lib.Dec.{leb, eqb}
 use lib.ListN.{length}
 use lib.Seq.{ext-getD}
 use borrow.Author.Tests.{leb-true, eqb-true, eqb-false, eq-eqb}
-use Rattle.numbers.specs.Lists.{at}
-use Rattle.numbers.specs.First.{oneOf}
+use Rattle.model.specs.Numbers.{at, oneOf}
 use Rattle.numbers.specs.Tests.{le-head, le-then}
-use Rattle.rows.specs.RowsLaws.{fill-same, fill-own}
-use Rattle.road.specs.declared.Road.{Road}
-use Rattle.road.specs.declared.State.{State}
-use Rattle.road.specs.Road.{mostBytes, mostRate, mostSeconds, zeros, startState, startIn}
-use Rattle.studies.specs.Study.{Study}
-use Rattle.fields.specs.Fields.{secondVersion, countSize, secondsSize, headerSize, gateCapacityOffset, gateQueueOffset, cellSize, shortSize, numberSize, rowSize}
-use Rattle.fields.specs.Fields.{rowNumbers, rowStart, numberOf, versionOf, secondsOf, fieldOf, columnOf, entryOf, recordRow}
+use Rattle.numbers.specs.RowsLaws.{fill-same, fill-own}
+use Rattle.model.specs.declared.Road.{Road}
+use Rattle.model.specs.declared.State.{State}
+use Rattle.model.specs.Road.{mostBytes, mostRate, mostSeconds, zeros, startState, startIn}
+use Rattle.model.specs.Schedules.{Study}
+use Rattle.model.specs.Record.{secondVersion, countSize, secondsSize, headerSize, gateCapacityOffset, gateQueueOffset, cellSize, shortSize, numberSize, rowSize, rowNumbers}
+use Rattle.model.specs.Record.{rowStart, numberOf, versionOf, secondsOf, fieldOf, columnOf, entryOf, recordRow}
 use Rattle.fields.specs.FieldsLaws.{seconds-second, seconds-none, length-row, row-at}
 use Rattle.fields.specs.BytesLaws.{Field, field-number}
 use Rattle.limits.specs.LimitsLaws.{RoadOk, StateOk, RowOk, place-ok, row-ok}
-use Rattle.header.specs.Header.{cellsOf, stepsOf, sizeOf, bothVersions, leastSize, secondsOk}
-use Rattle.header.specs.HeaderLaws.{Counts, facts-counts, known-most, least-both}
+use Rattle.model.specs.Reading.{cellsOf, stepsOf, sizeOf, bothVersions, leastSize, secondsOk, roadOf, startOf, stepOk, acceptedOf, readingOf}
+use Rattle.fields.specs.HeaderLaws.{Counts, facts-counts, known-most, least-both}
 use Rattle.reading.specs.Headers.{Header}
-use Rattle.reading.specs.Reading.{roadOf, startOf, stepOk, acceptedOf, readingOf}
-use Rattle.reading.specs.Found.{reads}
-use Rattle.encoding.specs.Record.{recordSize, headerBytes, cellBytes, recordOf}
+use Rattle.reading.specs.Cases.{reads}
+use Rattle.model.specs.Encoding.{recordSize, headerBytes, cellBytes, recordOf}
 use Rattle.encoding.specs.Encoding.{length-record}
-use Rattle.writing.specs.Cut.{cutOf, keptSeconds, cutRoad, cutState, kept-ok, cut-road, cut-state, cut-row}
+use Rattle.model.specs.Writing.{cutOf, keptSeconds, cutRoad, cutState}
+use Rattle.writing.specs.CutLaws.{kept-ok, cut-road, cut-state, cut-row}
 use Rattle.writing.specs.Stands.{HeaderFields, header-fields, CellFields, cell-fields, in-header, in-cell, in-row}
 
 -- a study within the limits: its version is known, its record is short enough, and its road, its state before step 0 and each row are within theirs

@@ -7,17 +7,17 @@ use native.Mathlib.Omega.{arith}
 use lib.Dec.{eqb}
 use lib.ListN.{length}
 use borrow.Author.Tests.{eqb-true, eqb-false}
-use Rattle.road.specs.declared.Road.{Road}
-use Rattle.road.specs.declared.State.{State}
-use Rattle.road.specs.Road.{zeros, startState, startIn}
-use Rattle.fields.specs.Fields.{secondVersion}
+use Rattle.model.specs.declared.Road.{Road}
+use Rattle.model.specs.declared.State.{State}
+use Rattle.model.specs.Road.{zeros, startState, startIn}
+use Rattle.model.specs.Record.{secondVersion}
 use Rattle.limits.specs.LimitsLaws.{StateOk}
-use Rattle.header.specs.Header.{sizeOf}
-use Rattle.reading.specs.Reading.{readingOf, studyOf}
+use Rattle.model.specs.Reading.{sizeOf, readingOf, studyOf}
 use Rattle.reading.specs.Numbers.{read-numbers}
 use Rattle.reading.specs.Versions.{read-untimed}
 use Rattle.reading.specs.Within.{read-within}
-use Rattle.writing.specs.Cut.{keptSeconds, kept-second, kept-none}
+use Rattle.model.specs.Writing.{keptSeconds}
+use Rattle.writing.specs.CutLaws.{kept-second, kept-none}
 use Rattle.writing.specs.ReadBack.{Recordable}
 
 -- a state before step 0 is that of its start

@@ -4,15 +4,14 @@ use mathlib.Core.List.{List, _++_}
 use Prim.Native.Nat.{ℕ, _+_, _-_, _*_, _≤_, _<_}
 use native.Mathlib.Omega.{arith}
 use lib.ListN.{length}
-use Rattle.numbers.specs.Lists.{at}
-use Rattle.rows.specs.Rows.{concatOf}
-use Rattle.rows.specs.Concat.{length-concat}
-use Rattle.rows.specs.TablesLaws.{row-ends}
-use Rattle.studies.specs.Study.{Study}
-use Rattle.fields.specs.Fields.{countSize, headerSize, secondsSize, gateCapacityOffset, gateQueueOffset, cellSize, shortSize, numberSize, rowNumbers, rowSize, bytesOf}
+use Rattle.model.specs.Numbers.{at, concatOf}
+use Rattle.numbers.specs.Concat.{length-concat}
+use Rattle.numbers.specs.TablesLaws.{row-ends}
+use Rattle.model.specs.Schedules.{Study}
+use Rattle.model.specs.Record.{countSize, headerSize, secondsSize, gateCapacityOffset, gateQueueOffset, cellSize, shortSize, numberSize, rowNumbers, rowSize, bytesOf}
 use Rattle.fields.specs.BytesLaws.{Field, length-bytes, field-first, field-only, field-after, field-before, field-in, field-there}
-use Rattle.header.specs.Header.{sizeOf}
-use Rattle.encoding.specs.Record.{headerOf, cellOf, headerBytes, cellBytes, rowBytes, recordOf}
+use Rattle.model.specs.Reading.{sizeOf}
+use Rattle.model.specs.Encoding.{headerOf, cellOf, headerBytes, cellBytes, rowBytes, recordOf}
 use Rattle.encoding.specs.Encoding.{header-length, length-cell, length-row}
 
 -- the fields of a header

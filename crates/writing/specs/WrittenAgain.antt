@@ -5,22 +5,20 @@ use Prim.Native.Nat.{ℕ, _+_, _-_, _*_, _≤_, _<_}
 use native.Mathlib.Omega.{arith}
 use lib.ListN.{length}
 use lib.Seq.{take-all}
-use Rattle.numbers.specs.Lists.{at}
-use Rattle.rows.specs.Rows.{concatOf}
-use Rattle.rows.specs.Concat.{concat-same}
-use Rattle.rows.specs.TablesLaws.{row-ends}
-use Rattle.road.specs.Road.{startState, startIn}
-use Rattle.studies.specs.Study.{Study, study}
-use Rattle.fields.specs.Fields.{countSize, versionOf, secondsSize, headerSize, gateQueueOffset, cellSize, shortSize, numberSize}
-use Rattle.fields.specs.Fields.{rowNumbers, rowSize, rowStart, numberOf, recordRow, bytesOf}
+use Rattle.model.specs.Numbers.{at, concatOf}
+use Rattle.numbers.specs.Concat.{concat-same}
+use Rattle.numbers.specs.TablesLaws.{row-ends}
+use Rattle.model.specs.Road.{startState, startIn}
+use Rattle.model.specs.Schedules.{Study, study}
+use Rattle.model.specs.Record.{countSize, versionOf, secondsSize, headerSize, gateQueueOffset, cellSize, shortSize, numberSize, rowNumbers, rowSize, rowStart, numberOf}
+use Rattle.model.specs.Record.{recordRow, bytesOf}
 use Rattle.fields.specs.FieldsLaws.{row-at}
 use Rattle.fields.specs.BytesLaws.{partOf, part-join, part-next, part-concat, bytes-part}
-use Rattle.header.specs.Header.{sizeOf}
-use Rattle.reading.specs.Reading.{ReadAnswer, readingOf}
-use Rattle.reading.specs.Found.{Accepted}
+use Rattle.model.specs.Reading.{sizeOf, ReadAnswer, readingOf}
+use Rattle.reading.specs.Cases.{Accepted}
 use Rattle.reading.specs.Numbers.{Numbers, read-numbers}
 use Rattle.reading.specs.Within.{read-within}
-use Rattle.encoding.specs.Record.{headerOf, cellOf, headerBytes, cellBytes, rowBytes, recordOf}
+use Rattle.model.specs.Encoding.{headerOf, cellOf, headerBytes, cellBytes, rowBytes, recordOf}
 
 module _ (s : List ℕ) (small : (i : ℕ) → at s i < 256) (reads : readingOf s .number ≡ 0) (rows : ℕ → List ℕ)
     (same : (t : ℕ) → t < readingOf s .steps → rows t ≡ recordRow s (readingOf s .road .n) t) where

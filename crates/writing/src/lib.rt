@@ -1,29 +1,27 @@
 // Writing a record: a road, T, a start and its rows, into a lent target.
-use road::Refusal;
-use road::Road;
-use road::Start;
-use road::Written;
+use model::Refusal;
+use model::Road;
+use model::Start;
+use model::Written;
 ghost use mathlib.Core.Path.{_≡_};
-ghost use Rattle.numbers.specs.First.{firstOf};
-ghost use Rattle.rows.specs.Tables.{rowAt};
-ghost use Rattle.road.specs.Refusals.{refusalNumber};
-ghost use Rattle.fields.specs.Fields.{rowNumbers};
+ghost use Rattle.model.specs.Numbers.{firstOf, rowAt};
+ghost use Rattle.model.specs.Refusals.{refusalNumber};
+ghost use Rattle.model.specs.Record.{rowNumbers};
 ghost use Rattle.encoding.specs.Encoding.{Rows};
-ghost use Rattle.limits.specs.Limits.{rowOk};
-ghost use Rattle.writing.specs.Writing.{unwritten, writeAnswer, frameFault, writingOf, targetAfter};
-ghost use Rattle.writing.specs.Saved.{ReadsBack};
+ghost use Rattle.model.specs.Limits.{rowOk};
+ghost use Rattle.model.specs.Writing.{unwritten, writeAnswer, frameFault, writingOf, targetAfter, ReadsBack};
 
 // 2, 3, 19, 1 and 4: the version, n and T, the seconds, the record's size, and the count of the rows' numbers.
 fn frame_refusal(version: u8, seconds: u16, n: usize, steps: usize, numbers: usize) -> Refusal
     ensures { λ q. ⌜ refusalNumber q ≡ frameFault version seconds n steps numbers ⌝ }
 {
-    if !header::version_known(version) {
+    if !fields::version_known(version) {
         return Refusal::Version;
     }
-    if !header::cells_and_steps_within(n, steps) {
+    if !fields::cells_and_steps_within(n, steps) {
         return Refusal::Counts;
     }
-    if !header::seconds_within(version, seconds) {
+    if !fields::seconds_within(version, seconds) {
         return Refusal::Seconds;
     }
     if Road::BYTES < fields::row_start(version, n, steps) {

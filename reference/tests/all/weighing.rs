@@ -6,6 +6,7 @@ use crate::support::*;
 use reference::answer::Answer;
 use reference::draft::Draft;
 use reference::judge::judge as judge_under;
+use reference::longest;
 use reference::model::{Road, State};
 use reference::record::{head_bytes, read, version_of};
 use reference::run::run as run_under;
@@ -48,6 +49,20 @@ fn example(weights: &Weights) -> u64 {
 //   cell 1      2566  2991  3309   8866
 //   cell 2      4000  4000  4000  12000
 //   ramp 2      1700  1900  2100   5700
+
+#[test]
+fn the_longest_queues_by_hand() {
+    let record = record_of(EXAMPLE);
+    let mut list = [LENT; 9];
+    let (answer, queues) = longest::run(&record, &[], &mut list);
+    assert_eq!(answer.number, 0);
+    // 2500, 2142 and 1890 less the 1000 arrivals of each step; the 3000 of the start do not count.
+    assert_eq!((queues.gate, queues.waiting), (2_500, 1_500));
+    assert_eq!(queues.ramps[..3], [0, 2_100, 0]);
+    // A list that is too short: no step.
+    let (answer, queues) = longest::run(&record, &[], &mut list[..8]);
+    assert_eq!((answer.number, queues.gate, queues.waiting), (11, 0, 0));
+}
 
 #[test]
 fn the_printed_run_by_hand() {

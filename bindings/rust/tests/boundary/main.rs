@@ -3,8 +3,8 @@ mod header;
 
 use header::{declarations, Declaration};
 use nobyaluk::{
-    Ended, Lanes, Loaded, Reading, Released, Road, Row, Start, State, Stepped, Wanted, Weighed,
-    Weights, Written,
+    Ended, Lanes, Loaded, Longest, Reading, Released, Road, Row, Start, State, Stepped, Wanted,
+    Weighed, Weights, Written,
 };
 use std::fs;
 use std::io::Write;
@@ -148,6 +148,7 @@ fn rust_layout() -> Vec<String> {
         layout!("nobyaluk_reading", Reading, number place steps road state),
         layout!("nobyaluk_ended", Ended, number step place total present exits road state),
         layout!("nobyaluk_weighed", Weighed, weighted ended),
+        layout!("nobyaluk_longest", Longest, gate waiting ramps ended),
         layout!("nobyaluk_stepped", Stepped, number place state),
         layout!("nobyaluk_written", Written, number place count),
         layout!("nobyaluk_loaded", Loaded, number last),

@@ -2,11 +2,11 @@
 use mathlib.Core.Path.{_≡_}
 use Prim.Native.Nat.{_-_}
 use lib.ListN.{length}
-use Rattle.road.specs.Road.{mostCells}
+use Rattle.model.specs.Road.{mostCells}
 use Rattle.counts.specs.Cells.{Exited, exited-none, exited-more, exited-end}
-use borrow.Author.Needs.{needs}
 use Rattle.counts.proofs.exits.Statement.{statement}
 use Rattle.counts.proofs.exits.Tie as tie
+use borrow.Author.Needs.{needs}
 
 abbrev Inv-loop : tie.InvT-loop
 Inv-loop r s n sum₀ i₀ sum i = Exited r s n sum i

@@ -1,12 +1,12 @@
 -- `counts::of_cells` meets its contract. Assumes nothing.
 use mathlib.Core.Path.{_≡_}
 use lib.ListN.{length}
-use Rattle.road.specs.Road.{mostCells}
+use Rattle.model.specs.Road.{mostCells}
 use Rattle.counts.specs.Cells.{Part, part-length, part-sum}
-use native.Mathlib.Omega.{arith}
-use borrow.Author.Needs.{needs}
 use Rattle.counts.proofs.of_cells.Statement.{statement}
 use Rattle.counts.proofs.of_cells.Tie as tie
+use native.Mathlib.Omega.{arith}
+use borrow.Author.Needs.{needs}
 
 -- the array's length
 long : (a : tie.Start) → length (a .args .t1) ≡ mostCells

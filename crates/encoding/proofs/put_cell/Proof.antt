@@ -1,8 +1,8 @@
 -- `encoding::put_cell` meets its contract: its eight numbers, one after the other. Assumes nothing.
 use Rattle.encoding.specs.Encoding.{cell-puts}
-use borrow.Author.Needs.{needs}
 use Rattle.encoding.proofs.put_cell.Statement.{statement}
 use Rattle.encoding.proofs.put_cell.Tie as tie
+use borrow.Author.Needs.{needs}
 
 -- where each number has been put, from where the next has
 abbrev Queue : tie.After-slice-known9 → tie.After-put-number4

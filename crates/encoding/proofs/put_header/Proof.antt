@@ -1,10 +1,10 @@
 -- `encoding::put_header` meets its contract: its numbers, one after the other. Assumes nothing.
-use Rattle.header.specs.HeaderLaws.{size-small}
+use Rattle.fields.specs.HeaderLaws.{size-small}
 use Rattle.encoding.specs.Encoding.{header-puts}
-use native.Mathlib.Omega.{arith}
-use borrow.Author.Needs.{needs}
 use Rattle.encoding.proofs.put_header.Statement.{statement}
 use Rattle.encoding.proofs.put_header.Tie as tie
+use native.Mathlib.Omega.{arith}
+use borrow.Author.Needs.{needs}
 
 -- where each number has been put, from where the next has
 abbrev Queue : tie.After-slice-known8 → tie.After-put-number3

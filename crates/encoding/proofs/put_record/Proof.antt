@@ -1,11 +1,11 @@
 -- `encoding::put_record` meets its contract: the header, the cells and the rows, one after the other. Assumes nothing.
-use Rattle.studies.specs.Study.{Study}
-use Rattle.encoding.specs.Record.{given}
+use Rattle.model.specs.Schedules.{Study}
+use Rattle.model.specs.Encoding.{given}
 use Rattle.encoding.specs.Encoding.{header-ends, cells-end, record-puts}
-use native.Mathlib.Omega.{arith}
-use borrow.Author.Needs.{needs}
 use Rattle.encoding.proofs.put_record.Statement.{statement}
 use Rattle.encoding.proofs.put_record.Tie as tie
+use native.Mathlib.Omega.{arith}
+use borrow.Author.Needs.{needs}
 
 -- places of the code: the arguments, from the header; the header, from the cells' call; the cells, from the rows' call
 abbrev A : tie.After-put-header → tie.Start

@@ -1,14 +1,14 @@
 -- `encoding::put_row` meets its contract. The invariant: the first k numbers are put. Assumes nothing.
 use Prim.Native.Nat.{_-_, _≤_}
 use lib.ListN.{length, getD}
-use Rattle.fields.specs.Fields.{numberSize, bytesOf}
+use Rattle.model.specs.Record.{numberSize, bytesOf}
 use Rattle.fields.specs.BytesLaws.{length-bytes}
-use Rattle.fields.specs.Stored.{stored-puts}
+use Rattle.fields.specs.BytesStored.{stored-puts}
 use Rattle.encoding.specs.Encoding.{Putting, putting-none, putting-more, putting-end, putting-fits}
-use native.Mathlib.Omega.{arith}
-use borrow.Author.Needs.{needs}
 use Rattle.encoding.proofs.put_row.Statement.{statement}
 use Rattle.encoding.proofs.put_row.Tie as tie
+use native.Mathlib.Omega.{arith}
+use borrow.Author.Needs.{needs}
 
 abbrev Inv-loop : tie.InvT-loop
 Inv-loop target₀ at row end₀ k₀ target end k = (k ≤ length row) × Putting target₀ at (λ j. bytesOf numberSize (getD row j 0)) numberSize k target end

@@ -1,13 +1,13 @@
 -- `encoding::put_rows` meets its contract. The invariant: the rows of t steps are put. Assumes nothing.
 use Prim.Native.Nat.{_+_, _-_, _≤_}
 use lib.ListN.{length}
-use Rattle.rows.specs.TablesLaws.{part-row, part-length}
-use Rattle.fields.specs.Fields.{rowNumbers}
+use Rattle.numbers.specs.TablesLaws.{part-row, part-length}
+use Rattle.model.specs.Record.{rowNumbers}
 use Rattle.encoding.specs.Encoding.{Rowing, rowing-none, rowing-more, rowing-end, row-there, row-room}
-use native.Mathlib.Omega.{arith}
-use borrow.Author.Needs.{needs}
 use Rattle.encoding.proofs.put_rows.Statement.{statement}
 use Rattle.encoding.proofs.put_rows.Tie as tie
+use native.Mathlib.Omega.{arith}
+use borrow.Author.Needs.{needs}
 
 abbrev Inv-loop : tie.InvT-loop
 Inv-loop target₀ at n rows steps numbers end₀ from₀ t₀ target end from t = Rowing target₀ at rows n steps t from target end

@@ -1,9 +1,9 @@
 -- `exports::nobyaluk_join` meets its contract. Assumes nothing.
 use mathlib.Core.Path.{sym, _∙_}
 use Rattle.exports.specs.AnswersLaws.{written-is}
-use borrow.Author.Needs.{needs}
 use Rattle.exports.proofs.nobyaluk_join.Statement.{statement}
 use Rattle.exports.proofs.nobyaluk_join.Tie as tie
+use borrow.Author.Needs.{needs}
 
 returns : tie.Need-returns
 returns c =

@@ -1,8 +1,8 @@
 -- `exports::nobyaluk_load` meets its contract. Assumes nothing.
 use Rattle.exports.specs.AnswersLaws.{loaded-is}
-use borrow.Author.Needs.{needs}
 use Rattle.exports.proofs.nobyaluk_load.Statement.{statement}
 use Rattle.exports.proofs.nobyaluk_load.Tie as tie
+use borrow.Author.Needs.{needs}
 
 returns : tie.Need-returns
 returns c =

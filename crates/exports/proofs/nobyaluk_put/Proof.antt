@@ -1,8 +1,8 @@
 -- `exports::nobyaluk_put` meets its contract. Assumes nothing.
 use Rattle.exports.specs.AnswersLaws.{released-is}
-use borrow.Author.Needs.{needs}
 use Rattle.exports.proofs.nobyaluk_put.Statement.{statement}
 use Rattle.exports.proofs.nobyaluk_put.Tie as tie
+use borrow.Author.Needs.{needs}
 
 returns : tie.Need-returns
 returns c =

@@ -1,9 +1,9 @@
 -- `exports::nobyaluk_read_within` meets its contract. Assumes nothing.
 use mathlib.Core.Path.{ap, _∙_}
 use Rattle.exports.specs.Answers.{readingFor}
-use borrow.Author.Needs.{needs}
 use Rattle.exports.proofs.nobyaluk_read_within.Statement.{statement}
 use Rattle.exports.proofs.nobyaluk_read_within.Tie as tie
+use borrow.Author.Needs.{needs}
 
 returns : tie.Need-returns
 returns c = c .reading-of .ensures ∙ ap readingFor (c .before .read-within .ensures)

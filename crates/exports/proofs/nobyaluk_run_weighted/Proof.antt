@@ -1,9 +1,9 @@
 -- `exports::nobyaluk_run_weighted` meets its contract. Assumes nothing.
 use mathlib.Core.Path.{refl, ap, _∙_}
 use Rattle.exports.specs.Answers.{endedFor}
-use borrow.Author.Needs.{needs}
 use Rattle.exports.proofs.nobyaluk_run_weighted.Statement.{statement}
 use Rattle.exports.proofs.nobyaluk_run_weighted.Tie as tie
+use borrow.Author.Needs.{needs}
 
 returns : tie.Need-returns
 returns c =

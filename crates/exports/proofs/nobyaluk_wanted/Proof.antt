@@ -1,11 +1,11 @@
 -- `exports::nobyaluk_wanted` meets its contract: in each case of the answer. Assumes nothing.
 use mathlib.Core.Path.{_≡_, sym, ap, _∙_}
-use Rattle.road.specs.declared.Wanted.{Wanted}
-use Rattle.wanted.specs.Wanted.{WantedAnswer, wantedAnswer}
+use Rattle.model.specs.declared.Wanted.{Wanted}
+use Rattle.model.specs.Wanted.{WantedAnswer, wantedAnswer}
 use Rattle.exports.specs.Answers.{wantedFor}
-use borrow.Author.Needs.{needs}
 use Rattle.exports.proofs.nobyaluk_wanted.Statement.{statement}
 use Rattle.exports.proofs.nobyaluk_wanted.Tie as tie
+use borrow.Author.Needs.{needs}
 
 -- what the case that was met says
 case : {given met : Wanted} {a : WantedAnswer} → given ≡ met → wantedAnswer given ≡ a → wantedFor (wantedAnswer met) ≡ wantedFor a

@@ -3,9 +3,9 @@ use mathlib.Core.Path.{ap}
 use Prim.Native.Nat.{ℕ, _+_}
 use native.Mathlib.Omega.{arith}
 use Rattle.fields.specs.FieldsLaws.{seconds-most}
-use borrow.Author.Needs.{needs}
 use Rattle.fields.proofs.header_size.Statement.{statement}
 use Rattle.fields.proofs.header_size.Tie as tie
+use borrow.Author.Needs.{needs}
 
 seconds-size-requires : tie.Need-seconds-size-requires
 seconds-size-requires c κs = search needs

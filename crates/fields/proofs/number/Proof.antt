@@ -1,12 +1,12 @@
 -- `fields::number` meets its contract. The invariant: r is the number in the k bytes passed. Assumes nothing.
-use Rattle.fields.specs.Fields.{numberOf}
+use Rattle.model.specs.Record.{numberOf}
 use Rattle.fields.specs.FieldsLaws.{number-more, power-more, power-small}
+use Rattle.fields.proofs.number.Statement.{statement}
+use Rattle.fields.proofs.number.Tie as tie
 use mathlib.Core.Path.{_≡_, refl, ap, _∙_}
 use Prim.Native.Nat.{_≤_, _<_, _-_, _^_}
 use borrow.Author.Needs.{needs}
 use native.Mathlib.Omega.{arith}
-use Rattle.fields.proofs.number.Statement.{statement}
-use Rattle.fields.proofs.number.Tie as tie
 
 abbrev Inv-loop : tie.InvT-loop
 Inv-loop bytes i size r₀ k₀ r k = (k ≤ size) × ((r ≡ numberOf bytes i k) × (r < 256 ^ k))

@@ -2,10 +2,10 @@
 use mathlib.Core.Path.{_≡_}
 use Prim.Native.Nat.{_%_}
 use native.Mathlib.Omega.{arith}
-use Rattle.fields.specs.Stored.{stored, one-byte}
-use borrow.Author.Needs.{needs}
+use Rattle.fields.specs.BytesStored.{stored, one-byte}
 use Rattle.fields.proofs.put_byte.Statement.{statement}
 use Rattle.fields.proofs.put_byte.Tie as tie
+use borrow.Author.Needs.{needs}
 
 returns : tie.Need-returns
 returns c =

@@ -1,11 +1,11 @@
 -- `fields::put_number` meets its contract. Assumes nothing.
 use lib.ListN.{length-set}
 use native.Mathlib.Omega.{arith}
-use Rattle.fields.specs.Fields.{numberSize}
-use Rattle.fields.specs.Stored.{stored, four-bytes}
-use borrow.Author.Needs.{needs}
+use Rattle.model.specs.Record.{numberSize}
+use Rattle.fields.specs.BytesStored.{stored, four-bytes}
 use Rattle.fields.proofs.put_number.Statement.{statement}
 use Rattle.fields.proofs.put_number.Tie as tie
+use borrow.Author.Needs.{needs}
 
 slice-write-target-2 : tie.Need-slice-write-target-2
 slice-write-target-2 c = simp length-set (omega arith)

@@ -1,12 +1,12 @@
 -- `fields::put_seconds` meets its contract. Assumes nothing.
 use mathlib.Core.Path.{_≡_}
 use native.Mathlib.Omega.{arith}
-use Rattle.fields.specs.Fields.{shortSize, secondsSize}
+use Rattle.model.specs.Record.{shortSize, secondsSize}
 use Rattle.fields.specs.FieldsLaws.{seconds-second, seconds-none}
-use Rattle.fields.specs.Stored.{stored-none}
-use borrow.Author.Needs.{needs}
+use Rattle.fields.specs.BytesStored.{stored-none}
 use Rattle.fields.proofs.put_seconds.Statement.{statement}
 use Rattle.fields.proofs.put_seconds.Tie as tie
+use borrow.Author.Needs.{needs}
 
 -- the arguments, from both sides of the version's test
 abbrev A : tie.Then1 → tie.Start

@@ -1,11 +1,11 @@
 -- `fields::put_short` meets its contract. Assumes nothing.
 use lib.ListN.{length-set}
 use native.Mathlib.Omega.{arith}
-use Rattle.fields.specs.Fields.{shortSize}
-use Rattle.fields.specs.Stored.{stored, two-bytes}
-use borrow.Author.Needs.{needs}
+use Rattle.model.specs.Record.{shortSize}
+use Rattle.fields.specs.BytesStored.{stored, two-bytes}
 use Rattle.fields.proofs.put_short.Statement.{statement}
 use Rattle.fields.proofs.put_short.Tie as tie
+use borrow.Author.Needs.{needs}
 
 slice-write-target-2 : tie.Need-slice-write-target-2
 slice-write-target-2 c = simp length-set (omega arith)

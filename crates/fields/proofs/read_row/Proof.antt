@@ -1,14 +1,14 @@
 -- `fields::read_row` meets its contract. The invariant: the k numbers passed are stored. Assumes nothing.
 use mathlib.Core.Path.{_≡_, refl, ap, _∙_}
 use Prim.Native.Nat.{ℕ, _≤_, _-_, _+_, _*_}
-use Rattle.rows.specs.Rows.{fillOf}
-use Rattle.rows.specs.RowsLaws.{fill-more}
-use Rattle.fields.specs.Fields.{versionOf, numberSize, rowStart, numberOf, entryOf}
+use Rattle.model.specs.Numbers.{fillOf}
+use Rattle.numbers.specs.RowsLaws.{fill-more}
+use Rattle.model.specs.Record.{versionOf, numberSize, rowStart, numberOf, entryOf}
 use Rattle.fields.specs.FieldsLaws.{row-taken}
-use borrow.Author.Needs.{needs}
-use native.Mathlib.Omega.{arith}
 use Rattle.fields.proofs.read_row.Statement.{statement}
 use Rattle.fields.proofs.read_row.Tie as tie
+use borrow.Author.Needs.{needs}
+use native.Mathlib.Omega.{arith}
 
 abbrev Inv-loop : tie.InvT-loop
 Inv-loop bytes n t r₀ start k₀ r k = (k ≤ 1 + 2 * n) × (r ≡ fillOf (entryOf bytes n t) k r₀)

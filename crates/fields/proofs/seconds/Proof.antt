@@ -2,11 +2,11 @@
 use mathlib.Core.Path.{_≡_, ap, _∙_}
 use Prim.Native.Nat.{_≤_}
 use native.Mathlib.Omega.{arith}
-use Rattle.fields.specs.Fields.{shortSize, versionOf, secondsOffset, secondsSize, numberOf}
+use Rattle.model.specs.Record.{shortSize, versionOf, secondsOffset, secondsSize, numberOf}
 use Rattle.fields.specs.FieldsLaws.{seconds-most, power-short}
-use borrow.Author.Needs.{needs}
 use Rattle.fields.proofs.seconds.Statement.{statement}
 use Rattle.fields.proofs.seconds.Tie as tie
+use borrow.Author.Needs.{needs}
 
 -- the arguments, from the count of the seconds' bytes, and this count
 abbrev A : tie.After-seconds-size → tie.Start

@@ -1,15 +1,15 @@
 -- `filling::fill_row` meets its contract: the releases that are granted make the step ready. Assumes nothing.
 use mathlib.Core.Path.{_≡_, ap, _∙_}
 use Prim.Native.Nat.{ℕ}
-use Rattle.road.specs.declared.Road.{Road}
-use Rattle.fields.specs.Fields.{versionOf, rowStart}
-use Rattle.columns.specs.Columns.{roadOf}
-use Rattle.ramps.specs.Grants.{ramped}
+use Rattle.model.specs.declared.Road.{Road}
+use Rattle.model.specs.Record.{versionOf, rowStart}
+use Rattle.outflows.specs.Columns.{roadOf}
+use Rattle.passes.specs.Next.{demands-ask}
 use Rattle.filling.specs.Turn.{supplies-ask, grants-ask, gate-there, step-ready, row-filled}
-use borrow.Author.Needs.{needs}
-use native.Mathlib.Omega.{arith}
 use Rattle.filling.proofs.fill_row.Statement.{statement}
 use Rattle.filling.proofs.fill_row.Tie as tie
+use borrow.Author.Needs.{needs}
+use native.Mathlib.Omega.{arith}
 
 -- places of the code: the arguments from the supplies, and each call from the next
 abbrev A : tie.After-supplies → tie.Start
@@ -27,14 +27,17 @@ Started c = to-start (c .before)
 abbrev Granted : tie.After-number → tie.After-grant
 Granted c = c .before .before .before .before
 
-abbrev to-number : tie.After-next-arg9 → tie.After-number
-to-number c = let a = c .before .before .before .before .before in a .before .before .before .before
+abbrev Arrived : tie.After-demands → tie.After-number
+Arrived c = c .before .before .before
+
+abbrev to-demands : tie.After-next-arg9 → tie.After-demands
+to-demands c = let a = c .before .before .before .before .before in a .before .before .before .before
 
 -- any road with the columns that were lent
 abbrev On : tie.Start → Road → Road
 On c r =
     let a = c .args in
-    roadOf (ramped r (a .ramp .now)) (a .n) (a .gate-capacity) (a .speed .now) (a .wave .now) (a .share .now) (a .jam .now) (a .capacity .now)
+    roadOf r (a .n) (a .gate-capacity) (a .speed .now) (a .wave .now) (a .share .now) (a .jam .now) (a .capacity .now)
 
 -- where the row starts
 starts : (c : tie.After-row-start) → let a = A (Supplied c) .args in c .row-start .result ≡ rowStart (versionOf (a .bytes .now)) (a .n) (a .k)
@@ -79,9 +82,13 @@ number-requires c κs =
           (g .grant .ensures (p .laws) (On s (p .road)) (s .args .l) (p .releases) (p .entries) (s .args .k) (grants-ask (p .fills) e (starts t))),
     )
 
+demands-requires : tie.Need-demands-requires
+demands-requires c κs = demands-ask (A (Supplied (Started (Granted (c .before .before)))) .pre .fills .step .input)
+
 next-requires : tie.Need-next-requires
 next-requires c κs =
-    let m = to-number c in
+    let d = to-demands c in
+    let m = Arrived d in
     let g = Granted m in
     let t = Started g in
     let s = A (Supplied t) in
@@ -92,24 +99,26 @@ next-requires c κs =
       row = _;
       ready = step-ready (p .fills) e (starts t)
           (g .grant .ensures (p .laws) (On s (p .road)) (s .args .l) (p .releases) (p .entries) (s .args .k) (grants-ask (p .fills) e (starts t)))
-          (m .number .ensures .0);
+          (d .demands .ensures) (m .number .ensures .0);
       places = p .fills .places;
-      longDemand = p .fills .kept .longDemand;
     }
 
 returns : tie.Need-returns
 returns c laws r releases entries f =
     let n = c .before .before in
-    let m = to-number (n .before) in
+    let d = to-demands (n .before) in
+    let m = Arrived d in
     let g = Granted m in
     let t = Started g in
     let s = A (Supplied t) in
     let e = Supplied t .supplies .ensures in
     let given = g .grant .ensures laws (On s r) (s .args .l) releases entries (s .args .k) (grants-ask f e (starts t)) in
-    row-filled f e (starts t) given (n .next .ensures .0 (On s r) _ (step-ready f e (starts t) given (m .number .ensures .0))) (n .next .ensures .1)
+    let want = d .demands .ensures in
+    row-filled f e (starts t) given want (n .next .ensures (On s r) _ (step-ready f e (starts t) given want (m .number .ensures .0)))
 
 pub fill-row-spec : {M : Type 1} → statement M
 fill-row-spec =
     tie.close
     (tie.spec
-    supplies-requires version-requires row-start-requires grant-requires number-requires next-requires (λ c. search needs) (λ c. search needs) returns)
+    supplies-requires version-requires row-start-requires grant-requires number-requires demands-requires next-requires (λ c. search needs)
+    (λ c. search needs) returns)

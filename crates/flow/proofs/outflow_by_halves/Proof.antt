@@ -1,11 +1,11 @@
 -- `flow::outflow_by_halves` meets its contract. The invariant: the outflow lies between low and high. Assumes nothing.
 use Prim.Native.Nat.{_-_}
 use Rattle.numbers.specs.Halves.{Between, between-none, between-fits, between-above, between-end}
-use Rattle.flow.specs.Flow.{outflowOf}
+use Rattle.model.specs.Flow.{outflowOf}
 use Rattle.flow.specs.FlowLaws.{outflow-le, outflow-greatest, outflow-under}
-use native.Mathlib.Omega.{arith}
 use Rattle.flow.proofs.outflow_by_halves.Statement.{statement}
 use Rattle.flow.proofs.outflow_by_halves.Tie as tie
+use native.Mathlib.Omega.{arith}
 
 abbrev Inv-loop : tie.InvT-loop
 Inv-loop share cumulative room demand low₀ high₀ low high = Between (outflowOf share cumulative room demand) demand low high

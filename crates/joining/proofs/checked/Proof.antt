@@ -5,17 +5,16 @@ use mathlib.Core.List.{List, []}
 use Prim.Native.Nat.{ℕ, _+_, _≤_}
 use native.Mathlib.Omega.{arith}
 use borrow.Author.Tests.{not-true, not-false}
-use Rattle.road.specs.declared.State.{State}
-use Rattle.road.specs.Road.{mostBytes}
-use Rattle.studies.specs.Study.{Study, study}
-use Rattle.header.specs.Header.{sizeOf}
-use Rattle.reading.specs.Reading.{studyBy}
-use Rattle.writing.specs.Writing.{written}
-use Rattle.joining.specs.Joining.{alike, gateIdle, joinedFits, joinedStudy}
+use Rattle.model.specs.declared.State.{State}
+use Rattle.model.specs.Road.{mostBytes}
+use Rattle.model.specs.Schedules.{Study, study}
+use Rattle.model.specs.Reading.{sizeOf, studyBy}
+use Rattle.model.specs.Writing.{written}
+use Rattle.model.specs.Joining.{alike, gateIdle, joinedFits, joinedStudy}
 use Rattle.joining.specs.JoiningLaws.{within-bytes, answer-share, answer-differ, answer-gate, answer-size, answer-short, answer-written}
-use borrow.Author.Needs.{needs}
 use Rattle.joining.proofs.checked.Statement.{statement}
 use Rattle.joining.proofs.checked.Tie as tie
+use borrow.Author.Needs.{needs}
 
 -- places of the code, each from a later one: the arguments, and the places past each test
 abbrev A : tie.Else1 → tie.Start

@@ -2,11 +2,11 @@
 use mathlib.Core.Path.{_≡_, ap, _∙_}
 use Prim.Native.Nat.{ℕ}
 use native.Mathlib.Omega.{arith}
-use Rattle.fields.specs.Fields.{versionOf, rowStart}
+use Rattle.model.specs.Record.{versionOf, rowStart}
 use Rattle.joining.specs.JoiningLaws.{gate-number}
-use borrow.Author.Needs.{needs}
 use Rattle.joining.proofs.gate_arrivals.Statement.{statement}
 use Rattle.joining.proofs.gate_arrivals.Tie as tie
+use borrow.Author.Needs.{needs}
 
 -- the arguments, from the version
 abbrev A : tie.After-version → tie.Start

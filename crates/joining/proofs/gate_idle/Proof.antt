@@ -6,9 +6,9 @@ use borrow.Author.Tests.{eq-eqb, ne-eqb}
 use Rattle.numbers.specs.FirstLaws.{Passed, passed-none, passed-more, passed-fails, passed-all}
 use Rattle.reading.specs.ReadingLaws.{steps-row}
 use Rattle.joining.specs.JoiningLaws.{noArrival, idle-queue, idle-steps}
-use borrow.Author.Needs.{needs}
 use Rattle.joining.proofs.gate_idle.Statement.{statement}
 use Rattle.joining.proofs.gate_idle.Tie as tie
+use borrow.Author.Needs.{needs}
 
 abbrev Inv-loop : tie.InvT-loop
 Inv-loop bytes n steps queue t₀ t = (queue ≡ 0) × Passed (noArrival bytes n) steps t

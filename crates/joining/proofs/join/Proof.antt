@@ -2,15 +2,15 @@
 use mathlib.Core.Path.{_≡_, refl, sym, _∙_}
 use mathlib.Core.List.{[]}
 use lib.ListN.{length}
-use Rattle.road.specs.Refusals.{refusalNumber}
-use Rattle.fields.specs.Fields.{recordRow}
-use Rattle.reading.specs.Reading.{studyBy}
-use Rattle.writing.specs.Writing.{writeAnswer}
-use Rattle.joining.specs.Joining.{joiningBy}
+use Rattle.model.specs.Refusals.{refusalNumber}
+use Rattle.model.specs.Record.{recordRow}
+use Rattle.model.specs.Reading.{studyBy}
+use Rattle.model.specs.Writing.{writeAnswer}
+use Rattle.model.specs.Joining.{joiningBy}
 use Rattle.joining.specs.JoiningLaws.{promise, ends-upstream, ends-downstream, ends-refused, ends-joined, joinable, joins}
-use borrow.Author.Needs.{needs}
 use Rattle.joining.proofs.join.Statement.{statement}
 use Rattle.joining.proofs.join.Tie as tie
+use borrow.Author.Needs.{needs}
 
 -- places of the code, each from a later one: the arguments, both readings and the places past their tests, the checks and the place past them
 abbrev A : tie.After-read → tie.Start

@@ -3,13 +3,13 @@ use mathlib.Core.Path.{_≡_}
 use mathlib.Core.List.{[]}
 use native.Mathlib.Omega.{arith}
 use lib.ListN.{length}
-use Rattle.road.specs.Road.{mostCells, startState}
-use Rattle.studies.specs.Study.{Study}
-use Rattle.reading.specs.Reading.{studyBy}
+use Rattle.model.specs.Road.{mostCells, startState}
+use Rattle.model.specs.Schedules.{Study}
+use Rattle.model.specs.Reading.{studyBy}
 use Rattle.joining.specs.JoinedBytes.{room-first, room-second, room-rows, joined-puts}
-use borrow.Author.Needs.{needs}
 use Rattle.joining.proofs.put_joined.Statement.{statement}
 use Rattle.joining.proofs.put_joined.Tie as tie
+use borrow.Author.Needs.{needs}
 
 -- places of the code, each from a later one: the arguments, the header, the road with the joint's share, the cells of both roads
 abbrev Args : tie.After-put-header-arg → tie.Start

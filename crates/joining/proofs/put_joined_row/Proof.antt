@@ -1,9 +1,9 @@
 -- `joining::put_joined_row` meets its contract: one row after the other. Assumes nothing.
 use native.Mathlib.Omega.{arith}
 use Rattle.joining.specs.JoinedBytes.{room-row, room-rest, row-puts}
-use borrow.Author.Needs.{needs}
 use Rattle.joining.proofs.put_joined_row.Statement.{statement}
 use Rattle.joining.proofs.put_joined_row.Tie as tie
+use borrow.Author.Needs.{needs}
 
 -- the arguments, from the first row's call; the first row, from the part of the second
 abbrev A : tie.After-put-row-arg → tie.Start

@@ -1,15 +1,15 @@
 -- `judging::history` meets its contract. Each return, by the tests on the way to it. Assumes nothing.
 use mathlib.Core.Path.{_≡_, refl, sym, ap, _∙_}
-use Rattle.road.specs.Refusals.{refusalNumber}
-use Rattle.reading.specs.Reading.{studyBy, readAnswer}
-use Rattle.schedules.specs.Schedules.{endAnswer}
-use Rattle.schedules.specs.Opening.{opened-readable}
-use Rattle.schedules.specs.Readable.{Readable}
+use Rattle.model.specs.Refusals.{refusalNumber}
+use Rattle.model.specs.Reading.{studyBy, readAnswer}
+use Rattle.model.specs.Running.{endAnswer}
+use Rattle.theory.specs.Opening.{opened-readable}
+use Rattle.theory.specs.Readable.{Readable}
 use Rattle.judging.specs.WrittenStates.{history-unopened, history-length, history-short-held, history-short-queue, history-rows}
-use borrow.Author.Needs.{needs}
-use native.Mathlib.Omega.{arith}
 use Rattle.judging.proofs.history.Statement.{statement}
 use Rattle.judging.proofs.history.Tie as tie
+use borrow.Author.Needs.{needs}
+use native.Mathlib.Omega.{arith}
 
 -- places of the code: the arguments from the opening, the opening from its test, and that test from the lists'
 abbrev A : tie.After-opened → tie.Start

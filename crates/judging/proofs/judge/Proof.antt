@@ -1,16 +1,16 @@
 -- `judging::judge` meets its contract. Each return, by the tests on the way to it. Assumes nothing.
 use mathlib.Core.Path.{_≡_, refl, sym, ap, _∙_}
 use Rattle.numbers.specs.Tests.{never}
-use Rattle.road.specs.Refusals.{refusalNumber}
-use Rattle.reading.specs.Reading.{studyBy, readAnswer}
-use Rattle.schedules.specs.Schedules.{endAnswer}
-use Rattle.schedules.specs.Opening.{opened-readable}
-use Rattle.schedules.specs.Readable.{Readable}
-use Rattle.judging.specs.Obeyed.{answer-unopened, answer-length, answer-rows}
-use borrow.Author.Needs.{needs}
-use native.Mathlib.Omega.{arith}
+use Rattle.model.specs.Refusals.{refusalNumber}
+use Rattle.model.specs.Reading.{studyBy, readAnswer}
+use Rattle.model.specs.Running.{endAnswer}
+use Rattle.theory.specs.Opening.{opened-readable}
+use Rattle.theory.specs.Readable.{Readable}
+use Rattle.judging.specs.JudgingLoop.{answer-unopened, answer-length, answer-rows}
 use Rattle.judging.proofs.judge.Statement.{statement}
 use Rattle.judging.proofs.judge.Tie as tie
+use borrow.Author.Needs.{needs}
+use native.Mathlib.Omega.{arith}
 
 -- places of the code: the arguments from the opening, the opening from its test, and that test from the list's
 abbrev A : tie.After-opened → tie.Start

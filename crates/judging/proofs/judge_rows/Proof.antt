@@ -7,27 +7,27 @@ use mathlib.Core.Bool.{true}
 use mathlib.Core.List.{List}
 use Prim.Native.Nat.{ℕ, _+_, _-_, _*_, _≤_}
 use lib.ListN.{length, take, drop, length-take, length-replicate}
-use Rattle.rows.specs.TablesLaws.{part-row, part-length}
-use Rattle.road.specs.declared.Road.{Road}
-use Rattle.road.specs.declared.State.{State}
-use Rattle.road.specs.Refusals.{refusalNumber, fault}
-use Rattle.studies.specs.Study.{Study, places, withCapacity}
-use Rattle.fields.specs.Fields.{rowNumbers}
+use Rattle.numbers.specs.TablesLaws.{part-row, part-length}
+use Rattle.model.specs.declared.Road.{Road}
+use Rattle.model.specs.declared.State.{State}
+use Rattle.model.specs.Refusals.{refusalNumber, fault}
+use Rattle.model.specs.Schedules.{Study, places, withCapacity}
+use Rattle.model.specs.Record.{rowNumbers}
 use Rattle.fields.specs.FieldsLaws.{length-row}
 use Rattle.lanes.specs.LanesLaws.{rows-within}
-use Rattle.model.specs.Opened.{OnRoad, Turned, on-road, turned-road, turned-on}
-use Rattle.columns.specs.declared.Ledger.{Ledger}
-use Rattle.columns.specs.Columns.{stateOf}
-use Rattle.reading.specs.Reading.{studyBy}
-use Rattle.reading.specs.Table.{mostOutflows}
-use Rattle.schedules.specs.Schedules.{EndAnswer, ended, endAnswer}
+use Rattle.theory.specs.OpenRoad.{OnRoad, Turned, on-road, turned-road, turned-on}
+use Rattle.outflows.specs.declared.Ledger.{Ledger}
+use Rattle.outflows.specs.Columns.{stateOf}
+use Rattle.model.specs.Reading.{studyBy}
+use Rattle.model.specs.Listing.{mostOutflows}
+use Rattle.model.specs.Running.{EndAnswer, ended, endAnswer}
 use Rattle.judging.specs.JudgedStep.{JudgedStep}
-use Rattle.judging.specs.Obeyed.{JudgeTurn, judges}
+use Rattle.judging.specs.JudgingLoop.{JudgeTurn, judges}
 use Rattle.judging.specs.WrittenStates.{Judgeable, JudgedTo, Ends, judged-none, judged-more, judged-fault, judged-end, row-ends-by}
-use borrow.Author.Needs.{needs}
-use native.Mathlib.Omega.{arith}
 use Rattle.judging.proofs.judge_rows.Statement.{statement}
 use Rattle.judging.proofs.judge_rows.Tie as tie
+use borrow.Author.Needs.{needs}
+use native.Mathlib.Omega.{arith}
 
 abbrev Inv-loop : tie.InvT-loop
 Inv-loop bytes table steps schedule writes held₀ queue₀ r _ _ _ cells₀ ramps₀ cumulative₀ l₀ _ _ _ held queue capacity cells ramps cumulative l row room k =

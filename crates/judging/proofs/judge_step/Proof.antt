@@ -1,14 +1,14 @@
 -- `judging::judge_step` meets its contract: without a fault the row may be moved by. Assumes nothing.
 use mathlib.Core.Path.{_≡_, refl, sym, _∙_}
-use Rattle.road.specs.declared.Road.{Road}
-use Rattle.road.specs.declared.State.{State}
-use Rattle.road.specs.Refusals.{refusalNumber, faultAnswer}
-use Rattle.model.specs.Verdict.{verdictOf}
-use Rattle.columns.specs.Columns.{roadOf, stateOf}
+use Rattle.model.specs.declared.Road.{Road}
+use Rattle.model.specs.declared.State.{State}
+use Rattle.model.specs.Refusals.{refusalNumber, faultAnswer}
+use Rattle.model.specs.Judging.{verdictOf}
+use Rattle.outflows.specs.Columns.{roadOf, stateOf}
 use Rattle.judging.specs.JudgedStep.{proposed, movable}
-use borrow.Author.Needs.{needs}
 use Rattle.judging.proofs.judge_step.Statement.{statement}
 use Rattle.judging.proofs.judge_step.Tie as tie
+use borrow.Author.Needs.{needs}
 
 -- the arguments, from the verdict's arguments, and the verdict from the move's
 abbrev A : tie.After-verdict-arg4 → tie.Start

@@ -6,12 +6,13 @@ use Prim.Native.Nat.{ℕ, _+_, _-_, _≤_}
 use native.Mathlib.Omega.{arith}
 use borrow.Author.Tests.{not-true, not-false}
 use lib.ListN.{length, length-set}
-use Rattle.rows.specs.Placed.{placed, copied-length}
-use Rattle.judging.specs.History.{placesOf}
+use Rattle.model.specs.Numbers.{placed}
+use Rattle.numbers.specs.PlacedText.{copied-length}
+use Rattle.model.specs.History.{placesOf}
 use Rattle.judging.specs.PutPlaces.{Putting, putting-none, putting-more, putting-end}
-use borrow.Author.Needs.{needs}
 use Rattle.judging.proofs.put_places.Statement.{statement}
 use Rattle.judging.proofs.put_places.Tie as tie
+use borrow.Author.Needs.{needs}
 
 abbrev Inv-loop : tie.InvT-loop
 Inv-loop writes from gate cells n list₀ x₀ i₀ list x i = Putting gate cells n list₀ from list i x

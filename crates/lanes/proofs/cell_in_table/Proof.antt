@@ -5,12 +5,12 @@ use lib.ListN.{length}
 use native.Mathlib.Omega.{arith}
 use borrow.Author.Tests.{not-true, not-false}
 use Rattle.numbers.specs.FirstLaws.{Passed, passed-none, passed-more, passed-fails, passed-all}
-use Rattle.rows.specs.TablesLaws.{mul-more}
-use Rattle.lanes.specs.Lanes.{lanesAt, builtIn, openIn}
+use Rattle.numbers.specs.TablesLaws.{mul-more}
+use Rattle.model.specs.Lanes.{lanesAt, builtIn, openIn}
 use Rattle.lanes.specs.LanesLaws.{cell-found, byte-within}
-use borrow.Author.Needs.{needs}
 use Rattle.lanes.proofs.cell_in_table.Statement.{statement}
 use Rattle.lanes.proofs.cell_in_table.Tie as tie
+use borrow.Author.Needs.{needs}
 
 abbrev Inv-loop : tie.InvT-loop
 Inv-loop table n steps i built at₀ k₀ at k = (at ≡ k * n + i) × Passed (λ j. lanesAt (builtIn table n) (openIn table n j) i) steps k

@@ -2,10 +2,10 @@
 use Prim.Native.Nat.{_-_}
 use borrow.Author.Tests.{not-true, not-false}
 use Rattle.numbers.specs.FirstLaws.{Passed, passed-none, passed-more, passed-stop, passed-end}
-use Rattle.lanes.specs.Lanes.{lanesAt}
-use borrow.Author.Needs.{needs}
+use Rattle.model.specs.Lanes.{lanesAt}
 use Rattle.lanes.proofs.first_cell.Statement.{statement}
 use Rattle.lanes.proofs.first_cell.Tie as tie
+use borrow.Author.Needs.{needs}
 
 abbrev Inv-loop : tie.InvT-loop
 Inv-loop n built usable i₀ i = Passed (lanesAt built usable) n i

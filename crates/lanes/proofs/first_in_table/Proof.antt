@@ -2,10 +2,10 @@
 use Prim.Native.Nat.{_-_}
 use borrow.Author.Tests.{not-true, not-false}
 use Rattle.numbers.specs.FirstLaws.{Passed, passed-none, passed-more, passed-stop, passed-end}
-use Rattle.lanes.specs.Lanes.{tableAt}
-use borrow.Author.Needs.{needs}
+use Rattle.model.specs.Lanes.{tableAt}
 use Rattle.lanes.proofs.first_in_table.Statement.{statement}
 use Rattle.lanes.proofs.first_in_table.Tie as tie
+use borrow.Author.Needs.{needs}
 
 abbrev Inv-loop : tie.InvT-loop
 Inv-loop table n steps i₀ i = Passed (tableAt table n steps) n i

@@ -1,6 +1,6 @@
 -- `lanes::lanes_ok` meets its contract. Assumes nothing.
 use mathlib.Core.Path.{refl}
-use Rattle.lanes.specs.Lanes.{lanesOk}
+use Rattle.model.specs.Lanes.{lanesOk}
 use Rattle.lanes.proofs.lanes_ok.Statement.{statement}
 use Rattle.lanes.proofs.lanes_ok.Tie as tie
 

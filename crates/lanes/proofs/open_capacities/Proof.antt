@@ -2,9 +2,9 @@
 use Prim.Native.Nat.{_-_, _≤_}
 use native.Mathlib.Omega.{arith}
 use Rattle.lanes.specs.LanesLaws.{OpenedCells, opened-none, opened-more, opened-end}
-use borrow.Author.Needs.{needs}
 use Rattle.lanes.proofs.open_capacities.Statement.{statement}
 use Rattle.lanes.proofs.open_capacities.Tie as tie
+use borrow.Author.Needs.{needs}
 
 abbrev Inv-loop : tie.InvT-loop
 Inv-loop built usable n capacity left₀ i₀ left i = (i ≤ n) × OpenedCells capacity built usable left i

@@ -3,9 +3,9 @@ use mathlib.Core.Path.{_∙_, sym}
 use native.Mathlib.Nat.{mul-le-mul-left}
 use native.Mathlib.Omega.{arith}
 use Rattle.lanes.specs.LanesLaws.{open-fits, open-most, open-empty}
-use borrow.Author.Needs.{needs}
 use Rattle.lanes.proofs.open_capacity.Statement.{statement}
 use Rattle.lanes.proofs.open_capacity.Tie as tie
+use borrow.Author.Needs.{needs}
 
 returns : tie.Need-returns
 returns c = open-empty (c .before .before .args .capacity) _ _ (sym (c .before .count .ensures .0) ∙ omega arith)

@@ -3,11 +3,11 @@ use mathlib.Core.Path.{sym}
 use native.Mathlib.Nat.{le-of-eq}
 use native.Mathlib.Omega.{arith}
 use lib.Seq.{length-take-le}
-use Rattle.rows.specs.TablesLaws.{part-length}
+use Rattle.numbers.specs.TablesLaws.{part-length}
 use Rattle.lanes.specs.LanesLaws.{cut-capacities}
-use borrow.Author.Needs.{needs}
 use Rattle.lanes.proofs.step_capacities.Statement.{statement}
 use Rattle.lanes.proofs.step_capacities.Tie as tie
+use borrow.Author.Needs.{needs}
 
 -- the arguments, from the call
 abbrev A : tie.After-open-capacities-arg2 → tie.Start

@@ -2,12 +2,12 @@
 use Prim.Native.Nat.{ℕ, _-_, _≤_, _<_}
 use lib.ListN.{length}
 use borrow.Author.Count.{below-more, below-none}
-use Rattle.numbers.specs.Lists.{at}
+use Rattle.model.specs.Numbers.{at}
 use Rattle.limits.specs.AllWithin.{within-true, within-fails}
-use borrow.Author.Needs.{needs}
-use native.Mathlib.Omega.{arith}
 use Rattle.limits.proofs.all_within.Statement.{statement}
 use Rattle.limits.proofs.all_within.Tie as tie
+use borrow.Author.Needs.{needs}
+use native.Mathlib.Omega.{arith}
 
 abbrev Inv-loop : tie.InvT-loop
 Inv-loop list most i₀ i = (i ≤ length list) × ((j : ℕ) → j < i → at list j ≤ most)

@@ -1,8 +1,8 @@
 -- `listing::header` meets its contract. Assumes nothing.
-use Rattle.listing.specs.Listing.{headerLine}
-use borrow.Author.Needs.{needs}
+use Rattle.model.specs.Listing.{headerLine}
 use Rattle.listing.proofs.header.Statement.{statement}
 use Rattle.listing.proofs.header.Tie as tie
+use borrow.Author.Needs.{needs}
 
 -- where the names have been put
 abbrev Names : tie.After-slice-known2 → tie.After-put

@@ -1,11 +1,11 @@
 -- `listing::line` meets its contract: its five words, one after the other. Assumes nothing.
-use Rattle.rows.specs.Placed.{room-more}
-use Rattle.words.specs.WordsLaws.{Word, word-room, words-room}
+use Rattle.numbers.specs.PlacedText.{room-more}
+use Rattle.listing.specs.WordsLaws.{Word, word-room, words-room}
 use Rattle.listing.specs.ListingLaws.{line-put}
-use native.Mathlib.Omega.{arith}
-use borrow.Author.Needs.{needs}
 use Rattle.listing.proofs.line.Statement.{statement}
 use Rattle.listing.proofs.line.Tie as tie
+use native.Mathlib.Omega.{arith}
+use borrow.Author.Needs.{needs}
 
 -- where each word has been put, from where the next is asked for
 abbrev Step : tie.After-word-arg2 → tie.After-word

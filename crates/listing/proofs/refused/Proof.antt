@@ -1,11 +1,11 @@
 -- `listing::refused` meets its contract. Assumes nothing.
 use native.Mathlib.Omega.{arith}
-use Rattle.words.specs.WordsLaws.{Word, word-room, named-room}
+use Rattle.listing.specs.WordsLaws.{Word, word-room, named-room}
 use Rattle.listing.specs.ListingLaws.{refused-put}
-use Rattle.rows.specs.Placed.{Text, room-more}
-use borrow.Author.Needs.{needs}
+use Rattle.numbers.specs.PlacedText.{Text, room-more}
 use Rattle.listing.proofs.refused.Statement.{statement}
 use Rattle.listing.proofs.refused.Tie as tie
+use borrow.Author.Needs.{needs}
 
 -- where each text has been put, from where the next is asked for
 abbrev Name : tie.After-word-arg → tie.After-put

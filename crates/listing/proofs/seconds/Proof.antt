@@ -1,8 +1,8 @@
 -- `listing::seconds` meets its contract. Assumes nothing.
-use Rattle.listing.specs.Listing.{secondsLine}
-use borrow.Author.Needs.{needs}
+use Rattle.model.specs.Listing.{secondsLine}
 use Rattle.listing.proofs.seconds.Statement.{statement}
 use Rattle.listing.proofs.seconds.Tie as tie
+use borrow.Author.Needs.{needs}
 
 -- where the name and its number have been put
 abbrev Named : tie.After-slice-known2 → tie.After-named

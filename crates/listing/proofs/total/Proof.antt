@@ -1,12 +1,12 @@
 -- `listing::total` meets its contract: five names with their numbers, one after the other. Assumes nothing.
 use native.Mathlib.Omega.{arith}
-use Rattle.rows.specs.Placed.{room-more}
-use Rattle.listing.specs.Listing.{totalWord, gateWord, roadWord, rampWord}
-use Rattle.words.specs.WordsLaws.{Named, number-room}
+use Rattle.numbers.specs.PlacedText.{room-more}
+use Rattle.model.specs.Listing.{totalWord, gateWord, roadWord, rampWord}
+use Rattle.listing.specs.WordsLaws.{Named, number-room}
 use Rattle.listing.specs.ListingLaws.{total-put}
-use borrow.Author.Needs.{needs}
 use Rattle.listing.proofs.total.Statement.{statement}
 use Rattle.listing.proofs.total.Tie as tie
+use borrow.Author.Needs.{needs}
 
 -- where each name and its number have been put, from where the next are asked for
 abbrev Total : tie.After-named-arg4 → tie.After-named

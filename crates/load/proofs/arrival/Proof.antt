@@ -2,9 +2,9 @@
 use mathlib.Core.Path.{refl}
 use native.Mathlib.Omega.{arith}
 use Rattle.load.specs.LoadLaws.{dividend-most}
-use borrow.Author.Needs.{needs}
 use Rattle.load.proofs.arrival.Statement.{statement}
 use Rattle.load.proofs.arrival.Tie as tie
+use borrow.Author.Needs.{needs}
 
 mul-result : tie.Need-mul-result
 mul-result c = omega (arith, dividend-most (c .args .number) (c .args .peak) (search needs) (search needs))

@@ -1,11 +1,11 @@
 -- `load::load` meets its contract. Each return, by the test on the way to it. Assumes nothing.
 use mathlib.Core.Path.{sym, ap, _∙_}
-use Rattle.load.specs.Load.{loaded}
+use Rattle.model.specs.Load.{loaded}
 use Rattle.load.specs.LoadLaws.{refused-answer, refused-list, loaded-answer, loaded-list}
 use Rattle.load.specs.Theorems.{ended}
-use borrow.Author.Needs.{needs}
 use Rattle.load.proofs.load.Statement.{statement}
 use Rattle.load.proofs.load.Tie as tie
+use borrow.Author.Needs.{needs}
 
 -- the arguments, from each arm of the test
 abbrev Refused : tie.Then1 → tie.Start

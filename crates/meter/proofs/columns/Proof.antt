@@ -3,12 +3,12 @@ use mathlib.Core.Path.{_∙_}
 use Prim.Native.Nat.{ℕ, _-_}
 use lib.Ieee.{Float, ofBits, binary64}
 use lib.ListN.{length-replicate}
-use Rattle.road.specs.Road.{mostCells}
+use Rattle.model.specs.Road.{mostCells}
 use Rattle.meter.specs.LawColumns.{Split, split-none, split-more, split-end}
-use borrow.Author.Needs.{needs}
-use native.Mathlib.Omega.{arith}
 use Rattle.meter.proofs.columns.Statement.{statement}
 use Rattle.meter.proofs.columns.Tie as tie
+use borrow.Author.Needs.{needs}
+use native.Mathlib.Omega.{arith}
 
 abbrev Inv-loop : tie.InvT-loop
 Inv-loop laws kinds₀ numbers₀ i₀ kinds numbers i = Split laws kinds numbers i

@@ -5,15 +5,15 @@ use mathlib.Core.Bool.{Bool, _||_}
 use Prim.Native.Nat.{_-_}
 use lib.Dec.{eqb}
 use lib.ListN.{length}
-use Rattle.numbers.specs.Lists.{at}
+use Rattle.model.specs.Numbers.{at}
 use Rattle.numbers.specs.FirstLaws.{Passed, passed-none, passed-more}
-use Rattle.road.specs.Road.{mostCells}
-use Rattle.meter.specs.Meter.{lawOk}
+use Rattle.model.specs.Road.{mostCells}
+use Rattle.model.specs.Meter.{lawOk}
 use Rattle.meter.specs.MeterLaws.{ok-is, fault-stop, fault-past, fault-end}
-use borrow.Author.Needs.{needs}
-use native.Mathlib.Omega.{arith}
 use Rattle.meter.proofs.law_fault.Statement.{statement}
 use Rattle.meter.proofs.law_fault.Tie as tie
+use borrow.Author.Needs.{needs}
+use native.Mathlib.Omega.{arith}
 
 abbrev Inv-loop : tie.InvT-loop
 Inv-loop n laws ramp i₀ i = Passed (lawOk laws ramp) n i

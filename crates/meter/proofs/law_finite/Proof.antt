@@ -1,9 +1,9 @@
 -- `meter::law_finite` meets its contract: in each case of the law. Assumes nothing.
-use Rattle.meter.specs.Meter.{lawFinite}
+use Rattle.model.specs.Meter.{lawFinite}
 use Rattle.meter.specs.MeterLaws.{both-are}
-use borrow.Author.Needs.{needs}
 use Rattle.meter.proofs.law_finite.Statement.{statement}
 use Rattle.meter.proofs.law_finite.Tie as tie
+use borrow.Author.Needs.{needs}
 
 -- where the law's case is known, from the end of each case
 abbrev Fixed : tie.After-is-finite → tie.After-law

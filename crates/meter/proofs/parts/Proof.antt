@@ -1,9 +1,9 @@
 -- `meter::parts` meets its contract: in each case of the law. Assumes nothing.
 use mathlib.Core.Path.{refl, sym}
 use Rattle.meter.specs.LawColumns.{lawBy}
-use borrow.Author.Needs.{needs}
 use Rattle.meter.proofs.parts.Statement.{statement}
 use Rattle.meter.proofs.parts.Tie as tie
+use borrow.Author.Needs.{needs}
 
 returns : tie.Need-returns
 unfolding lawBy

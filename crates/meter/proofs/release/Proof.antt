@@ -2,7 +2,7 @@
 use mathlib.Core.Path.{_≡_, _∙_}
 use native.Mathlib.Omega.{arith}
 use borrow.Author.Needs.{needs}
-use Rattle.meter.specs.Meter.{wholeBelow}
+use Rattle.model.specs.Meter.{wholeBelow}
 use Rattle.meter.specs.MeterLaws.{whole-most, whole-all, whole-none, whole-between, above-minus-one, below-cast}
 use Rattle.meter.proofs.release.Statement.{statement}
 use Rattle.meter.proofs.release.Tie as tie

@@ -1,11 +1,11 @@
 -- `opening::opened` meets its contract. Each return, by the tests on the way to it. Assumes nothing.
 use mathlib.Core.Path.{_≡_, sym, _∙_}
-use Rattle.road.specs.Refusals.{refusalNumber}
+use Rattle.model.specs.Refusals.{refusalNumber}
 use Rattle.reading.specs.Within.{read-within}
 use Rattle.opening.specs.OpeningEnds.{opened-refused, opened-closed, opened-whole}
-use borrow.Author.Needs.{needs}
 use Rattle.opening.proofs.opened.Statement.{statement}
 use Rattle.opening.proofs.opened.Tie as tie
+use borrow.Author.Needs.{needs}
 
 -- places of the code: the arguments from the reading, the reading from its test, that test from the table's
 abbrev A : tie.After-read → tie.Start

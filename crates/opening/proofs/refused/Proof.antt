@@ -3,12 +3,12 @@ use mathlib.Core.Path.{sym, _∙_}
 use native.Mathlib.Nat.{mul-le-mul}
 use native.Mathlib.Omega.{arith}
 use Rattle.numbers.specs.FirstLaws.{first}
-use Rattle.lanes.specs.Lanes.{tableAt}
-use Rattle.model.specs.StepLaws.{table-empty, table-size, table-passes}
-use Rattle.opening.specs.Refused.{fault-cell}
-use borrow.Author.Needs.{needs}
+use Rattle.model.specs.Lanes.{tableAt}
+use Rattle.theory.specs.StepLaws.{table-empty, table-size, table-passes}
+use Rattle.opening.specs.RefusedCell.{fault-cell}
 use Rattle.opening.proofs.refused.Statement.{statement}
 use Rattle.opening.proofs.refused.Tie as tie
+use borrow.Author.Needs.{needs}
 
 -- places of the code: the arguments from the first test and past it, and the size's test from the search
 abbrev A : tie.Else1 → tie.Start

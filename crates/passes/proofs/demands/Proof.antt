@@ -2,9 +2,9 @@
 use Prim.Native.Nat.{_-_}
 use native.Mathlib.Omega.{arith}
 use Rattle.passes.specs.Supplies.{demandIn, FilledTo, filled-none, filled-more, filled-end, demand-found, demand-product}
-use borrow.Author.Needs.{needs}
 use Rattle.passes.proofs.demands.Statement.{statement}
 use Rattle.passes.proofs.demands.Tie as tie
+use borrow.Author.Needs.{needs}
 
 abbrev Inv-loop : tie.InvT-loop
 Inv-loop count speed capacity held demand₀ i₀ demand i = FilledTo (demandIn speed capacity held) count demand₀ demand i

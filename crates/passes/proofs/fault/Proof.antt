@@ -3,12 +3,12 @@ use mathlib.Core.Path.{_≡_, sym, ap, _∙_}
 use Prim.Native.Nat.{_+_, _*_}
 use lib.ListN.{length, take, length-replicate}
 use Prim.Native.Nat.{ℕ}
-use Rattle.columns.specs.Columns.{supplying, stateOf}
+use Rattle.outflows.specs.Columns.{supplying, stateOf}
 use Rattle.fields.specs.FieldsLaws.{length-row}
-use Rattle.model.specs.Step.{releasesOf}
-use borrow.Author.Needs.{needs}
+use Rattle.model.specs.Stepping.{releasesOf}
 use Rattle.passes.proofs.fault.Statement.{statement}
 use Rattle.passes.proofs.fault.Tie as tie
+use borrow.Author.Needs.{needs}
 
 -- the arguments, from the row
 abbrev A : tie.After-row → tie.Start

@@ -2,17 +2,18 @@
 use mathlib.Core.Path.{_≡_, refl, ap, _∙_}
 use Prim.Native.Nat.{ℕ}
 use native.Mathlib.Omega.{arith}
-use Rattle.road.specs.declared.Road.{Road}
-use Rattle.road.specs.declared.State.{State}
-use Rattle.columns.specs.Columns.{roadOf, stateOf}
-use Rattle.fields.specs.Fields.{versionOf, rowStart, recordRow}
+use Rattle.model.specs.declared.Road.{Road}
+use Rattle.model.specs.declared.State.{State}
+use Rattle.outflows.specs.Columns.{roadOf, stateOf}
+use Rattle.model.specs.Record.{versionOf, rowStart, recordRow}
 use Rattle.model.specs.Places.{gateArrivals}
 use Rattle.passes.specs.ReleasesFit.{FitFound, supplies-ask, takes-ask, fit-found}
-use Rattle.passes.specs.Step.{Asks, gate-row, fittable, ready, gives-fault, gives-step}
-use borrow.Author.Needs.{needs}
-use borrow.Author.Tests.{not-true, not-false}
+use Rattle.passes.specs.Next.{demands-ask}
+use Rattle.passes.specs.Step.{StepAsks, gate-row, fittable, ready, gives-fault, gives-step}
 use Rattle.passes.proofs.step.Statement.{statement}
 use Rattle.passes.proofs.step.Tie as tie
+use borrow.Author.Needs.{needs}
+use borrow.Author.Tests.{not-true, not-false}
 
 -- places of the code: the arguments from the row's start, that from the supplies, and these from the test of the releases
 abbrev A : tie.After-row-start → tie.Start
@@ -24,8 +25,11 @@ Start c = c .before .before .before
 abbrev Supplied : tie.After-take-releases → tie.After-supplies
 Supplied c = c .before .before .before .before .before
 
-abbrev to-number : tie.After-next-arg9 → tie.After-number
-to-number c = let a = c .before .before .before .before in a .before .before .before .before .before
+abbrev Arrived : tie.After-demands → tie.After-number
+Arrived c = c .before .before .before
+
+abbrev to-demands : tie.After-next-arg9 → tie.After-demands
+to-demands c = let a = c .before .before .before .before in a .before .before .before .before .before
 
 -- any road with the columns that were lent, and the state
 abbrev On : tie.Start → Road → Road
@@ -39,7 +43,7 @@ From c = let a = c .args in stateOf (a .l) (a .held .now) (a .queue .now) (a .cu
 abbrev Asked : tie.Start → Road → Type 0
 Asked c r =
     let a = c .args in
-    Asks (a .bytes .now) (a .k) (On c r) (From c) (a .ramps) (a .cell .now) (a .rest .now) (a .room .now) (a .release .now) (a .waiting .now) (a .demand .now) (a .y .now)
+    StepAsks (a .bytes .now) (a .k) (On c r) (From c) (a .ramps) (a .cell .now) (a .rest .now) (a .room .now) (a .release .now) (a .waiting .now) (a .demand .now) (a .y .now)
 
 start : (c : tie.After-row-start) → let a = A c .args in c .row-start .result ≡ rowStart (versionOf (a .bytes .now)) (a .n) (a .k)
 start c = let a = A c .args in c .row-start .ensures ∙ ap (λ (v : ℕ). rowStart v (a .n) (a .k)) (c .before .version .ensures)
@@ -96,32 +100,38 @@ number-requires c κs =
     let w = Start (Supplied (c .before)) in
     (omega arith, omega (arith, start w, A w .pre .asks .holds .row))
 
+demands-requires : tie.Need-demands-requires
+demands-requires c κs = demands-ask (A (Start (Supplied (c .before .before .before .before))) .pre .asks .input)
+
 next-requires : tie.Need-next-requires
 next-requires c κs =
-    let m = to-number c in
+    let d = to-demands c in
+    let m = Arrived d in
     let p = m .before .before in
     let s = A (Start (Supplied p)) in
     let k = s .pre in
     record {
       road = On s (k .road);
       row = _;
-      ready = ready (k .asks) (found p (k .road) (k .asks)) (not-false _ (m .before .if1 .left)) (arrives m);
+      ready = ready (k .asks) (found p (k .road) (k .asks)) (d .demands .ensures) (not-false _ (m .before .if1 .left)) (arrives m);
       places = k .asks .places;
-      longDemand = k .asks .arrays .longDemand;
     }
 
 returns-2 : tie.Need-returns-2
 returns-2 c r h =
     let n = c .before .before in
-    let m = to-number (n .before) in
+    let d = to-demands (n .before) in
+    let m = Arrived d in
     let p = m .before .before in
     let s = A (Start (Supplied p)) in
     let fits = not-false _ (m .before .if1 .left) in
     let f = found p r h in
-    gives-step h f fits refl (n .next .ensures .0 (On s r) _ (ready h f fits (arrives m))) (n .next .ensures .1)
+    let e = d .demands .ensures in
+    gives-step h f e fits refl (n .next .ensures (On s r) _ (ready h f e fits (arrives m)))
 
 pub step-spec : {M : Type 1} → statement M
 step-spec =
     tie.close
     (tie.spec
-    version-requires row-start-requires supplies-requires take-releases-requires fault-requires returns number-requires next-requires (λ c. search needs) returns-2)
+    version-requires row-start-requires supplies-requires take-releases-requires fault-requires returns number-requires demands-requires next-requires
+    (λ c. search needs) returns-2)

@@ -1,11 +1,11 @@
 -- `passes::supplies` meets its contract. The invariant: the first i entries are supplies. Assumes nothing.
 use Prim.Native.Nat.{_-_, _*_, _≤_}
 use native.Mathlib.Omega.{arith}
-use Rattle.numbers.specs.Lists.{at}
+use Rattle.model.specs.Numbers.{at}
 use Rattle.passes.specs.Supplies.{supplyIn, FilledTo, filled-none, filled-more, filled-end, supply-found, supply-product}
-use borrow.Author.Needs.{needs}
 use Rattle.passes.proofs.supplies.Statement.{statement}
 use Rattle.passes.proofs.supplies.Tie as tie
+use borrow.Author.Needs.{needs}
 
 abbrev Inv-loop : tie.InvT-loop
 Inv-loop count wave jam capacity held room₀ i₀ room i = FilledTo (supplyIn wave jam capacity held) count room₀ room i

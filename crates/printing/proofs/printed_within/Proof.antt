@@ -1,13 +1,13 @@
 -- `printing::printed_within` meets its contract. Each return, by the test on the way to it. Assumes nothing.
 use mathlib.Core.Path.{_≡_, sym, _∙_}
 use mathlib.Core.List.{[]}
-use Rattle.road.specs.Refusals.{refusalNumber}
-use Rattle.reading.specs.Reading.{studyBy, readAnswer}
-use Rattle.schedules.specs.Readable.{Readable, readable-open}
+use Rattle.model.specs.Refusals.{refusalNumber}
+use Rattle.model.specs.Reading.{studyBy, readAnswer}
+use Rattle.theory.specs.Readable.{Readable, readable-open}
 use Rattle.printing.specs.Lines.{holds-refused, read-same, holds-read}
-use borrow.Author.Needs.{needs}
 use Rattle.printing.proofs.printed_within.Statement.{statement}
 use Rattle.printing.proofs.printed_within.Tie as tie
+use borrow.Author.Needs.{needs}
 
 -- places of the code: the arguments from the reading, the reading from the test after it
 abbrev A : tie.After-read-within → tie.Start

@@ -5,25 +5,25 @@ use mathlib.Core.List.{List, []}
 use Prim.Native.Nat.{ℕ, _+_, _-_}
 use lib.ListN.{length}
 use lib.Seq.{length-take-le}
-use Rattle.road.specs.declared.Road.{Road}
-use Rattle.road.specs.declared.State.{State}
-use Rattle.road.specs.Refusals.{refusalNumber}
-use Rattle.studies.specs.Study.{Study}
-use Rattle.fields.specs.Fields.{recordRow}
-use Rattle.model.specs.Opened.{same-road}
-use Rattle.columns.specs.declared.Ledger.{Ledger}
-use Rattle.columns.specs.Columns.{stateOf}
-use Rattle.reading.specs.Reading.{studyBy}
-use Rattle.passes.specs.Step.{Arrays, Asks}
+use Rattle.model.specs.declared.Road.{Road}
+use Rattle.model.specs.declared.State.{State}
+use Rattle.model.specs.Refusals.{refusalNumber}
+use Rattle.model.specs.Schedules.{Study}
+use Rattle.model.specs.Record.{recordRow}
+use Rattle.theory.specs.OpenRoad.{same-road}
+use Rattle.outflows.specs.declared.Ledger.{Ledger}
+use Rattle.outflows.specs.Columns.{stateOf}
+use Rattle.model.specs.Reading.{studyBy}
+use Rattle.passes.specs.Step.{Arrays, StepAsks}
 use Rattle.running.specs.Arrays.{arrays-none}
 use Rattle.running.specs.Steps.{RanTurn, passes-ask, ends-fault}
 use Rattle.listing.specs.ListingLaws.{header-room}
-use Rattle.printing.specs.Printed.{printedRun}
-use Rattle.printing.specs.Lines.{Printable, Printed, Lined, lined-same, lined-none, lined-more, lines-fit, line-fits, lines-end, holds-fault, holds-run}
-use borrow.Author.Needs.{needs}
-use native.Mathlib.Omega.{arith}
+use Rattle.model.specs.Listing.{printedRun, Printed}
+use Rattle.printing.specs.Lines.{Printable, Lined, lined-same, lined-none, lined-more, lines-fit, line-fits, lines-end, holds-fault, holds-run}
 use Rattle.printing.proofs.run_lines.Statement.{statement}
 use Rattle.printing.proofs.run_lines.Tie as tie
+use borrow.Author.Needs.{needs}
+use native.Mathlib.Omega.{arith}
 
 abbrev Inv-loop : tie.InvT-loop
 Inv-loop bytes steps buffer₀ r _ _ cell ramps held₀ queue₀ sent₀ l₀ _ _ _ _ _ end₀ _
@@ -117,7 +117,7 @@ asked : (c : tie.In-loop Inv-loop μ-loop) {y : List ℕ} →
     let p = l .loop in
     let r = Listing (Opened (Header l)) .ramp-cells in
     length y ≡ On (A l) .n + 1
-    → Asks (A l .args .bytes .now) (p .k) (On (A l)) (Now l) (r .result) (r .last .1 .1 .0) (p .rest) (p .room) (p .release) (p .waiting) (p .demand) y
+    → StepAsks (A l .args .bytes .now) (p .k) (On (A l)) (Now l) (r .result) (r .last .1 .1 .0) (p .rest) (p .room) (p .release) (p .waiting) (p .demand) y
 asked c e =
     let l = c .before in
     passes-ask (turn c) (A l .pre .readable .row (l .loop .k) (c .loop-test .taken)) (l .loop .inv .1) e

@@ -2,14 +2,14 @@
 use mathlib.Core.Path.{_≡_, sym, ap, _∙_}
 use native.Mathlib.Omega.{arith}
 use lib.ListN.{length}
-use Rattle.road.specs.declared.State.{State}
-use Rattle.road.specs.Refusals.{refusalNumber}
-use Rattle.model.specs.RulesLaws.{length-outflows}
-use Rattle.columns.specs.Columns.{stateOf}
+use Rattle.model.specs.declared.State.{State}
+use Rattle.model.specs.Refusals.{refusalNumber}
+use Rattle.theory.specs.RulesLaws.{length-outflows}
+use Rattle.outflows.specs.Columns.{stateOf}
 use Rattle.printing.specs.Lines.{put-none, put-lines}
-use borrow.Author.Needs.{needs}
 use Rattle.printing.proofs.step_lines.Statement.{statement}
 use Rattle.printing.proofs.step_lines.Tie as tie
+use borrow.Author.Needs.{needs}
 
 -- places of the code: the arguments from where the step is asked for, and the step from its test
 abbrev A : tie.After-step-arg9 → tie.Start

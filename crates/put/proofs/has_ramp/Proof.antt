@@ -1,9 +1,9 @@
 -- `put::has_ramp` meets its contract. Each return, by the tests on the way to it. Assumes nothing.
 use native.Mathlib.Omega.{arith}
 use Rattle.put.specs.PutLaws.{no-cell, past-cells, at-cell}
-use borrow.Author.Needs.{needs}
 use Rattle.put.proofs.has_ramp.Statement.{statement}
 use Rattle.put.proofs.has_ramp.Tie as tie
+use borrow.Author.Needs.{needs}
 
 -- the arguments, from the test that the cell is one
 abbrev A : tie.Else1 → tie.Start

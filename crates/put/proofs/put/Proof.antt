@@ -2,14 +2,14 @@
 use mathlib.Core.Path.{_≡_, sym, _∙_}
 use mathlib.Core.Bool.{true}
 use borrow.Author.Tests.{not-true, not-false}
-use Rattle.road.specs.Refusals.{refusalNumber}
+use Rattle.model.specs.Refusals.{refusalNumber}
 use Rattle.reading.specs.Within.{read-within, read-row}
-use Rattle.put.specs.Put.{rampOk, ratesOk}
+use Rattle.model.specs.Put.{rampOk, ratesOk}
 use Rattle.put.specs.PutLaws.{ramp-facts, rates-facts, ends-unread, ends-ramp, ends-rates, ends-put}
 use Rattle.put.specs.Theorems.{ended}
-use borrow.Author.Needs.{needs}
 use Rattle.put.proofs.put.Statement.{statement}
 use Rattle.put.proofs.put.Tie as tie
+use borrow.Author.Needs.{needs}
 
 -- places of the code: the arguments from the reading, and each test from the next: reading's, the ramp's, the rates'
 abbrev A : tie.After-read → tie.Start

@@ -2,10 +2,10 @@
 use mathlib.Core.Path.{_≡_, ap, _∙_}
 use Prim.Native.Nat.{ℕ}
 use native.Mathlib.Omega.{arith}
-use Rattle.fields.specs.Fields.{versionOf, rowStart}
-use borrow.Author.Needs.{needs}
+use Rattle.model.specs.Record.{versionOf, rowStart}
 use Rattle.put.proofs.put_release.Statement.{statement}
 use Rattle.put.proofs.put_release.Tie as tie
+use borrow.Author.Needs.{needs}
 
 -- places of the code: the arguments from the version, and the row's start from the place of its number
 abbrev A : tie.After-version → tie.Start

@@ -4,29 +4,28 @@ use mathlib.Core.List.{List}
 use Prim.Native.Nat.{ℕ, _+_, _-_, _≤_}
 use native.Mathlib.Omega.{arith}
 use lib.ListN.{length}
-use Rattle.numbers.specs.Lists.{at}
-use Rattle.road.specs.declared.Road.{Road}
-use Rattle.fields.specs.Fields.{recordRow}
-use Rattle.meter.specs.declared.Law.{Law}
+use Rattle.model.specs.Numbers.{at}
+use Rattle.model.specs.declared.Road.{Road}
+use Rattle.model.specs.Record.{recordRow}
+use Rattle.model.specs.declared.Law.{Law}
 use Rattle.model.specs.Places.{arrivalsAt}
-use Rattle.columns.specs.declared.Ledger.{Ledger}
-use Rattle.columns.specs.Columns.{stateOf}
-use Rattle.ramps.specs.Ramps.{Metered, metered, grantedAt}
-use Rattle.ramps.specs.Grants.{ramped, Grants, Granting, GrantTurn, Given, granting-none, grant-turn, arrives-here, given-known, granting-more, granting-end}
-use Rattle.ramps.specs.Grants.{same-size}
-use borrow.Author.Needs.{needs}
+use Rattle.outflows.specs.declared.Ledger.{Ledger}
+use Rattle.outflows.specs.Columns.{stateOf}
+use Rattle.model.specs.Ramps.{Metered, metered, grantedAt}
+use Rattle.ramps.specs.Grants.{GrantAsks, Granting, GrantTurn, Given, granting-none, grant-turn, arrives-here, given-known, granting-more, granting-end, same-size}
 use Rattle.ramps.proofs.grant.Statement.{statement}
 use Rattle.ramps.proofs.grant.Tie as tie
+use borrow.Author.Needs.{needs}
 
 abbrev Inv-loop : tie.InvT-loop
-Inv-loop bytes₀ start ramps cell ramp kinds numbers held queue cumulative room₀ release₀ waits₀ came₀ j₀ bytes room release waits came j =
+Inv-loop bytes₀ start ramps cell kinds numbers held queue cumulative room₀ release₀ waits₀ came₀ j₀ bytes room release waits came j =
     (j ≤ ramps) × ((laws : List Law) (r : Road) (l : Ledger) (releases entries : List ℕ) (k : ℕ)
-    → Grants laws (ramped r ramp) (metered (stateOf l held queue cumulative) releases entries) bytes₀ k start ramps cell kinds numbers room₀ release₀ waits₀ came₀
-    → Granting (grantedAt laws (ramped r ramp) (metered (stateOf l held queue cumulative) releases entries) (recordRow bytes₀ (r .n) k)) (ramped r ramp)
+    → GrantAsks laws r (metered (stateOf l held queue cumulative) releases entries) bytes₀ k start ramps cell kinds numbers room₀ release₀ waits₀ came₀
+    → Granting (grantedAt laws r (metered (stateOf l held queue cumulative) releases entries) (recordRow bytes₀ (r .n) k)) r
     (metered (stateOf l held queue cumulative) releases entries) bytes₀ k ramps cell room₀ release₀ waits₀ came₀ bytes room release waits came j)
 
 abbrev μ-loop : tie.MeasureT-loop
-μ-loop bytes₀ start ramps cell ramp kinds numbers held queue cumulative room₀ release₀ waits₀ came₀ j₀ bytes room release waits came j = ramps - j
+μ-loop bytes₀ start ramps cell kinds numbers held queue cumulative room₀ release₀ waits₀ came₀ j₀ bytes room release waits came j = ramps - j
 
 -- places of the code: the arguments from the loop's place, and each call of a turn from the next
 abbrev A : tie.At-loop Inv-loop μ-loop → tie.Start Inv-loop μ-loop
@@ -42,7 +41,7 @@ abbrev Law-in : tie.After-law-in Inv-loop μ-loop → tie.After-number Inv-loop 
 Law-in c = c .before .before .before .before .before .before
 
 abbrev Grant : tie.After-granted Inv-loop μ-loop → tie.After-law-in Inv-loop μ-loop
-Grant c = c .before .before .before .before
+Grant c = c .before .before .before
 
 abbrev Put : tie.After-slice-known2 Inv-loop μ-loop → tie.After-granted Inv-loop μ-loop
 Put c = c .before .before .before .before
@@ -56,7 +55,7 @@ so-far : (c : tie.At-loop Inv-loop μ-loop) →
     let a = s .args in
     let p = s .pre in
     let l = c .loop in
-    Granting (grantedAt (p .laws) (ramped (p .road) (a .ramp .now)) (By s) (recordRow (a .bytes .now) (p .road .n) (p .step))) (ramped (p .road) (a .ramp .now)) (By s)
+    Granting (grantedAt (p .laws) (p .road) (By s) (recordRow (a .bytes .now) (p .road .n) (p .step))) (p .road) (By s)
     (a .bytes .now) (p .step) (a .ramps) (a .cell .now) (a .room .now) (a .release .now) (a .waiting .now) (a .came .now)
     (l .bytes) (l .room) (l .release) (l .waiting) (l .came) (l .j)
 so-far c = let p = A c .pre in c .loop .inv .1 (p .laws) (p .road) (p .ledger) (p .releases) (p .entries) (p .step) (p .grants)
@@ -158,16 +157,10 @@ law-in-requires : tie.Need-law-in-requires Inv-loop μ-loop
 law-in-requires c κs = omega (arith, known (Number (c .before .before .before .before .before)))
 
 mul-granted : tie.Need-mul-granted Inv-loop μ-loop
-mul-granted c = omega (arith, known (Number (Law-in c)))
+mul-granted c = let t = Number (Law-in c) in omega (arith, t .loop-test .taken, A (t .before) .pre .grants .listed .most, known t)
 
 element-copy-out-granted : tie.Need-element-copy-out-granted Inv-loop μ-loop
-element-copy-out-granted c = omega (arith, known (Number (Law-in c)))
-
-mul-granted-2 : tie.Need-mul-granted-2 Inv-loop μ-loop
-mul-granted-2 c = let t = Number (Law-in (c .before)) in omega (arith, t .loop-test .taken, A (t .before) .pre .grants .listed .most, known t)
-
-element-copy-out-granted-2 : tie.Need-element-copy-out-granted-2 Inv-loop μ-loop
-element-copy-out-granted-2 c = let t = Number (Law-in (c .before)) in omega (arith, t .loop-test .taken, A (t .before) .pre .grants .listed .most, known t)
+element-copy-out-granted c = let t = Number (Law-in c) in omega (arith, t .loop-test .taken, A (t .before) .pre .grants .listed .most, known t)
 
 add-put-number : tie.Need-add-put-number Inv-loop μ-loop
 add-put-number c = omega (arith, known (Number (Law-in (Grant (c .before)))))
@@ -215,7 +208,7 @@ grant-spec =
     (tie.spec
     Inv-loop μ-loop loop-holds mul-i element-copy-out-i add-from mul-from add-from-2 number-requires mul-coming element-copy-out-coming add-coming
     mul-supply element-copy-out-supply mul-count element-copy-out-count mul-into element-copy-out-into add-into mul-entered element-copy-out-entered
-    sub-entered law-in-requires mul-granted element-copy-out-granted mul-granted-2 element-copy-out-granted-2 (λ c κs. search needs) (λ c κs. search needs)
+    sub-entered law-in-requires mul-granted element-copy-out-granted (λ c κs. search needs) (λ c κs. search needs)
     add-put-number put-number-requires sub-room (λ c. omega (arith, cell-in c)) (λ c. omega (arith, cell-in c)) (λ c. omega (arith, place-in c))
     (λ c. omega (arith, place-in c)) sub-waiting (λ c. omega (arith, place-in c)) (λ c. omega (arith, place-in c)) add-came (λ c. omega (arith, cell-in c))
     (λ c. omega (arith, cell-in c)) (λ c. omega (arith, place-in c)) (λ c. search needs) loop-again same-length returns)

@@ -2,12 +2,12 @@
 use mathlib.Core.Path.{_≡_, sym, ap, _∙_}
 use Prim.Native.Nat.{ℕ, _*_, _/_, _≤_}
 use lib.ListN.{length}
-use Rattle.fields.specs.Fields.{versionOf, rowSize, rowStart}
+use Rattle.model.specs.Record.{versionOf, rowSize, rowStart}
 use Rattle.reading.specs.Greatest.{mostRow, Blocks, in-blocks, blocks-there, blocks-raisable, block-raisable, rest-raisable, rows-within}
-use borrow.Author.Needs.{needs}
-use native.Mathlib.Omega.{arith}
 use Rattle.reading.proofs.all_rows_within.Statement.{statement}
 use Rattle.reading.proofs.all_rows_within.Tie as tie
+use borrow.Author.Needs.{needs}
+use native.Mathlib.Omega.{arith}
 
 -- how many rows a block has, and how many blocks there are
 abbrev beside : tie.Start → ℕ

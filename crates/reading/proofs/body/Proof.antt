@@ -1,8 +1,8 @@
 -- `reading::body` meets its contract. Each return, by the tests on the way to it. Assumes nothing.
 use Rattle.reading.specs.ReadingLaws.{Body, header-cells, header-done, header-most, header-steps, answer-place, answer-step, answer-accepted}
-use borrow.Author.Needs.{needs}
 use Rattle.reading.proofs.body.Statement.{statement}
 use Rattle.reading.proofs.body.Tie as tie
+use borrow.Author.Needs.{needs}
 
 -- the arguments, from the road; the road, from the place; and the place, from the step
 abbrev A : tie.After-road-of → tie.Start

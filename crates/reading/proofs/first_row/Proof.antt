@@ -3,12 +3,12 @@ use mathlib.Core.Path.{sym}
 use borrow.Author.Tests.{not-true, not-false}
 use Prim.Native.Nat.{_-_}
 use Rattle.numbers.specs.FirstLaws.{Passed, passed-none, passed-more, passed-stop, passed-end, first-none}
-use Rattle.fields.specs.Fields.{recordRow}
-use Rattle.limits.specs.Limits.{rowOk}
+use Rattle.model.specs.Record.{recordRow}
+use Rattle.model.specs.Limits.{rowOk}
 use Rattle.reading.specs.ReadingLaws.{steps-row}
-use borrow.Author.Needs.{needs}
 use Rattle.reading.proofs.first_row.Statement.{statement}
 use Rattle.reading.proofs.first_row.Tie as tie
+use borrow.Author.Needs.{needs}
 
 abbrev Inv-loop : tie.InvT-loop
 Inv-loop bytes steps n ramp t₀ t = Passed (λ j. rowOk ramp n (recordRow bytes n j)) steps t

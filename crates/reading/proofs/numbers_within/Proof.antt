@@ -2,17 +2,17 @@
 use borrow.Author.Tests.{not-true, not-false}
 use mathlib.Core.Path.{_≡_}
 use Prim.Native.Nat.{_-_, _+_, _*_, _≤_}
-use Rattle.numbers.specs.Lists.{at}
+use Rattle.model.specs.Numbers.{at}
 use Rattle.numbers.specs.FirstLaws.{Passed, passed-none, passed-more, passed-fails, passed-all}
-use Rattle.road.specs.Road.{mostRate}
-use Rattle.limits.specs.Limits.{ratesAt}
+use Rattle.model.specs.Road.{mostRate}
+use Rattle.model.specs.Limits.{ratesAt}
 use Rattle.limits.specs.LimitsLaws.{gate-above, gate-within}
 use Rattle.reading.specs.Greatest.{rowAt}
 use Rattle.reading.specs.ReadingLaws.{entry-read, rates-read}
-use borrow.Author.Needs.{needs}
-use native.Mathlib.Omega.{arith}
 use Rattle.reading.proofs.numbers_within.Statement.{statement}
 use Rattle.reading.proofs.numbers_within.Tie as tie
+use borrow.Author.Needs.{needs}
+use native.Mathlib.Omega.{arith}
 
 abbrev Inv-loop : tie.InvT-loop
 Inv-loop bytes ramp n start i₀ i = let row = rowAt bytes n start in (at row 0 ≤ mostRate) × Passed (ratesAt ramp row) n i

@@ -1,10 +1,10 @@
 -- `reading::raise_to_part` meets its contract. The invariant: the first j greatest bytes are raised. Assumes nothing.
 use Prim.Native.Nat.{_-_, _≤_}
 use Rattle.reading.specs.Greatest.{AbovePart, part-none, part-more, part-end}
-use borrow.Author.Needs.{needs}
-use native.Mathlib.Omega.{arith}
 use Rattle.reading.proofs.raise_to_part.Statement.{statement}
 use Rattle.reading.proofs.raise_to_part.Tie as tie
+use borrow.Author.Needs.{needs}
+use native.Mathlib.Omega.{arith}
 
 abbrev Inv-loop : tie.InvT-loop
 Inv-loop bytes start size greatest₀ j₀ greatest j = (j ≤ size) × AbovePart bytes start j greatest₀ greatest

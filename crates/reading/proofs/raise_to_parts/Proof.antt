@@ -3,10 +3,10 @@ use mathlib.Core.Path.{refl}
 use Prim.Native.Nat.{_-_, _+_, _*_, _≤_}
 use lib.ListN.{length}
 use Rattle.reading.specs.Greatest.{AboveParts, part-within, parts-none, parts-next, parts-more, parts-end}
-use borrow.Author.Needs.{needs}
-use native.Mathlib.Omega.{arith}
 use Rattle.reading.proofs.raise_to_parts.Statement.{statement}
 use Rattle.reading.proofs.raise_to_parts.Tie as tie
+use borrow.Author.Needs.{needs}
+use native.Mathlib.Omega.{arith}
 
 abbrev Inv-loop : tie.InvT-loop
 Inv-loop bytes start size count greatest₀ k₀ greatest k = (k ≤ count) × AboveParts bytes start size k greatest₀ greatest

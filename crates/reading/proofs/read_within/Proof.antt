@@ -5,18 +5,17 @@ use mathlib.Core.Bool.{true}
 use mathlib.Core.List.{List}
 use Prim.Native.Nat.{ℕ, _≤_}
 use lib.ListN.{length}
-use Rattle.numbers.specs.First.{oneOf}
-use Rattle.fields.specs.Fields.{versionOf, secondsOf, headerSize}
-use Rattle.header.specs.Header.{bothVersions, lengthOk, cellsAndStepsOk, secondsOk, sizeOf}
-use Rattle.header.specs.HeaderLaws.{length-facts, counts-facts, size-small}
+use Rattle.model.specs.Numbers.{oneOf}
+use Rattle.model.specs.Record.{versionOf, secondsOf, headerSize}
+use Rattle.model.specs.Reading.{bothVersions, lengthOk, cellsAndStepsOk, secondsOk, sizeOf}
+use Rattle.fields.specs.HeaderLaws.{length-facts, counts-facts, size-small}
 use Rattle.reading.specs.Headers.{Header}
-use Rattle.reading.specs.ReadingLaws.{Opened, header-passed}
-use Rattle.reading.specs.ReadingLaws.{answer-length, answer-version, answer-counts, answer-seconds, answer-size, answer-caller}
+use Rattle.reading.specs.ReadingLaws.{Opened, header-passed, answer-length, answer-version, answer-counts, answer-seconds, answer-size, answer-caller}
 use Rattle.reading.specs.Caller.{answer-within}
-use native.Mathlib.Omega.{arith}
-use borrow.Author.Needs.{needs}
 use Rattle.reading.proofs.read_within.Statement.{statement}
 use Rattle.reading.proofs.read_within.Tie as tie
+use native.Mathlib.Omega.{arith}
+use borrow.Author.Needs.{needs}
 
 -- the arguments, from the length's test; the places past the tests of the length, the version, the counts and the seconds, each from a later one
 abbrev A : tie.After-length-within → tie.Start

@@ -2,13 +2,13 @@
 use mathlib.Core.Path.{_≡_, refl, ap, _∙_}
 use Prim.Native.Nat.{ℕ, _+_}
 use native.Mathlib.Omega.{arith}
-use Rattle.fields.specs.Fields.{versionOf, secondsSize, gateCapacityOffset, shortSize, numberSize, numberOf, columnOf}
-use Rattle.fields.specs.Fields.{speedOffset, waveOffset, shareOffset, rampOffset, jamOffset, capacityOffset}
+use Rattle.model.specs.Record.{versionOf, secondsSize, gateCapacityOffset, shortSize, numberSize, numberOf, columnOf, speedOffset, waveOffset, shareOffset, rampOffset}
+use Rattle.model.specs.Record.{jamOffset, capacityOffset}
 use Rattle.fields.specs.FieldsLaws.{seconds-most}
-use Rattle.header.specs.Header.{cellsOf}
-use borrow.Author.Needs.{needs}
+use Rattle.model.specs.Reading.{cellsOf}
 use Rattle.reading.proofs.road_of.Statement.{statement}
 use Rattle.reading.proofs.road_of.Tie as tie
+use borrow.Author.Needs.{needs}
 
 -- the arguments, from the count of the seconds' bytes, and this count; the gate's capacity, which stands so much later
 abbrev A : tie.After-seconds-size → tie.Start

@@ -1,13 +1,13 @@
 -- `reading::row_within` meets its contract. Assumes nothing.
 use mathlib.Core.Path.{_≡_, ap, _∙_}
 use Prim.Native.Nat.{ℕ}
-use Rattle.fields.specs.Fields.{versionOf, rowStart}
-use Rattle.limits.specs.Limits.{rowOk}
+use Rattle.model.specs.Record.{versionOf, rowStart}
+use Rattle.model.specs.Limits.{rowOk}
 use Rattle.reading.specs.Greatest.{rowAt}
-use borrow.Author.Needs.{needs}
-use native.Mathlib.Omega.{arith}
 use Rattle.reading.proofs.row_within.Statement.{statement}
 use Rattle.reading.proofs.row_within.Tie as tie
+use borrow.Author.Needs.{needs}
+use native.Mathlib.Omega.{arith}
 
 -- the arguments, from the version and from the row's start
 abbrev A : tie.After-version → tie.Start

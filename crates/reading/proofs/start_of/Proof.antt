@@ -2,11 +2,11 @@
 use mathlib.Core.Path.{_≡_, refl, ap, _∙_}
 use Prim.Native.Nat.{ℕ, _+_}
 use native.Mathlib.Omega.{arith}
-use Rattle.fields.specs.Fields.{versionOf, secondsSize, gateQueueOffset, numberSize, numberOf}
+use Rattle.model.specs.Record.{versionOf, secondsSize, gateQueueOffset, numberSize, numberOf}
 use Rattle.fields.specs.FieldsLaws.{seconds-most}
-use borrow.Author.Needs.{needs}
 use Rattle.reading.proofs.start_of.Statement.{statement}
 use Rattle.reading.proofs.start_of.Tie as tie
+use borrow.Author.Needs.{needs}
 
 -- the arguments, from the count of the seconds' bytes, and this count; the gate's queue, which stands so much later
 abbrev A : tie.After-seconds-size → tie.Start

@@ -1,17 +1,17 @@
 -- `running::run_opened` meets its contract. Each return, by the tests on the way to it. Assumes nothing.
 use mathlib.Core.Path.{_≡_, sym, ap, _∙_}
-use Rattle.road.specs.Refusals.{refusalNumber}
-use Rattle.reading.specs.Reading.{studyBy, readAnswer}
-use Rattle.schedules.specs.Schedules.{endAnswer}
-use Rattle.schedules.specs.Opening.{opened-readable}
-use Rattle.schedules.specs.Readable.{Readable}
-use Rattle.running.specs.Promise.{with-weights, promise-unopened, promise-short, promise-long}
-use Rattle.running.specs.Promise.{weighed-unopened, weighed-short, weighed-long}
-use Rattle.numbers.specs.Lists.{at}
-use borrow.Author.Needs.{needs}
-use native.Mathlib.Omega.{arith}
+use Rattle.model.specs.Refusals.{refusalNumber}
+use Rattle.model.specs.Reading.{studyBy, readAnswer}
+use Rattle.model.specs.Running.{endAnswer}
+use Rattle.theory.specs.Opening.{opened-readable}
+use Rattle.theory.specs.Readable.{Readable}
+use Rattle.running.specs.Promise.{with-tallies, promise-unopened, promise-short, promise-long, weighed-unopened, weighed-short, weighed-long, longs-unopened, longs-short}
+use Rattle.running.specs.Promise.{longs-long}
+use Rattle.model.specs.Numbers.{at}
 use Rattle.running.proofs.run_opened.Statement.{statement}
 use Rattle.running.proofs.run_opened.Tie as tie
+use borrow.Author.Needs.{needs}
+use native.Mathlib.Omega.{arith}
 
 -- places of the code: the arguments from the opening, the opening from its test, and that test from the list's
 abbrev A : tie.After-opened → tie.Start
@@ -40,10 +40,11 @@ returns c =
     let o = t .before .before in
     let a = A o .args in
     let n : refusalNumber (o .opened .result .refusal) ≡ 0 → ⊥ = λ z. t .if1 .taken (t .before .number .ensures ∙ z) in
-    with-weights
+    with-tallies
     (promise-unopened (a .bytes .now) (a .table .now) (a .out .now) (o .opened .ensures) n (ap endAnswer (c .unbegun .ensures .0)))
     (weighed-unopened (a .bytes .now) (a .table .now) (a .out .now) (o .opened .ensures) (a .weighs) (at (a .weights .places)) (at (a .weights .ramps)) n
-    (c .unbegun .ensures .1))
+    (c .unbegun .ensures .1 .1))
+    (longs-unopened (a .bytes .now) (a .table .now) (a .out .now) (o .opened .ensures) n (c .unbegun .ensures .1 .0))
 
 add-if2 : tie.Need-add-if2
 add-if2 c = omega (arith, held (to-passed c) .ok .road .cells)
@@ -56,10 +57,11 @@ returns-2 c =
     let k = to-passed (c .before .before) in
     let a = A (to-opened k) .args in
     let e = to-opened k .opened .ensures in
-    with-weights
+    with-tallies
     (promise-short (a .bytes .now) (a .table .now) (a .out .now) e (opens k) (omega arith) (ap endAnswer (c .unbegun2 .ensures .0)))
     (weighed-short (a .bytes .now) (a .table .now) (a .out .now) e (opens k) (a .weighs) (at (a .weights .places)) (at (a .weights .ramps)) (omega arith)
-    (c .unbegun2 .ensures .1))
+    (c .unbegun2 .ensures .1 .1))
+    (longs-short (a .bytes .now) (a .table .now) (a .out .now) e (opens k) (omega arith) (c .unbegun2 .ensures .1 .0))
 
 run-rows-requires : tie.Need-run-rows-requires
 run-rows-requires c κs = record { readable = held (to-passed (c .before .before)); long = omega arith }
@@ -70,10 +72,11 @@ returns-3 c =
     let k = to-passed (r .before .before .before) in
     let a = A (to-opened k) .args in
     let e = to-opened k .opened .ensures in
-    with-weights
+    with-tallies
     (promise-long (a .bytes .now) (a .table .now) (a .out .now) e (opens k) (search needs) (r .run-rows .ensures .0) (r .run-rows .ensures .1 .0))
     (weighed-long (a .bytes .now) (a .table .now) (a .out .now) e (opens k) (a .weighs) (at (a .weights .places)) (at (a .weights .ramps)) (search needs)
-    (r .run-rows .ensures .1 .1))
+    (r .run-rows .ensures .1 .1 .0))
+    (longs-long (a .bytes .now) (a .table .now) (a .out .now) e (opens k) (search needs) (r .run-rows .ensures .1 .1 .1))
 
 pub run-opened-spec : {M : Type 1} → statement M
 run-opened-spec =

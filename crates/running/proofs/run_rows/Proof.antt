@@ -1,44 +1,54 @@
 -- `running::run_rows` meets its contract. The invariant: the rows of the k steps made are in the list, no step had a fault, the road is
--- the record's but for its capacities, the weights of those steps are added, and the arrays of the passes are kept. Assumes nothing.
+-- the record's but for its capacities, the weights of those steps are added, the arrays of the passes are kept, and the longest queues are those
+-- of these steps. Assumes nothing.
 use mathlib.Core.Path.{_≡_, refl, sym, ap, subst, _∙_}
+use mathlib.Core.Bool.{true, true≢false}
 use mathlib.Core.Logic.{inl, inr}
 use mathlib.Core.List.{List}
 use Prim.Native.Nat.{ℕ, _+_, _-_, _≤_}
 use lib.ListN.{length, take, drop}
-use Rattle.rows.specs.TablesLaws.{part-length}
-use Rattle.road.specs.declared.Road.{Road}
-use Rattle.road.specs.declared.State.{State}
-use Rattle.road.specs.Refusals.{refusalNumber}
-use Rattle.studies.specs.Study.{Study, places, withCapacity}
-use Rattle.fields.specs.Fields.{recordRow, HoldsRow}
+use Rattle.numbers.specs.TablesLaws.{part-length}
+use Rattle.model.specs.declared.Road.{Road}
+use Rattle.model.specs.declared.State.{State}
+use Rattle.model.specs.Refusals.{refusalNumber}
+use Rattle.model.specs.Schedules.{Study, places, withCapacity, engineAfter}
+use Rattle.model.specs.Record.{recordRow}
+use Rattle.fields.specs.FieldsLaws.{HoldsRow}
 use Rattle.lanes.specs.LanesLaws.{rows-within}
-use Rattle.model.specs.Opened.{OnRoad, Turned, on-road, turned-road, turned-on}
-use Rattle.columns.specs.declared.Ledger.{Ledger}
-use Rattle.columns.specs.Columns.{stateOf}
-use Rattle.reading.specs.Reading.{studyBy}
-use Rattle.reading.specs.Table.{mostOutflows}
-use Rattle.schedules.specs.Schedules.{EndAnswer, ended, endAnswer, runEnd, runTable}
-use Rattle.numbers.specs.Lists.{at}
-use Rattle.passes.specs.Step.{Arrays, Asks}
+use Rattle.theory.specs.OpenRoad.{OnRoad, Turned, on-road, turned-road, turned-on}
+use Rattle.outflows.specs.declared.Ledger.{Ledger}
+use Rattle.outflows.specs.Columns.{stateOf}
+use Rattle.model.specs.Reading.{studyBy}
+use Rattle.model.specs.Listing.{mostOutflows}
+use Rattle.model.specs.Running.{EndAnswer, ended, endAnswer, runEnd}
+use Rattle.theory.specs.SchedulesLaws.{runTable}
+use Rattle.model.specs.Numbers.{at}
+use Rattle.counts.specs.declared.AtGate.{AtGate}
+use Rattle.model.specs.Longest.{Queues, queuesOf}
+use Rattle.counts.specs.LongestRun.{longestEnd}
+use Rattle.counts.specs.LongestSoFar.{Raised, raised-none, raised-more, raised-end}
+use Rattle.passes.specs.Step.{Arrays, StepAsks}
 use Rattle.running.specs.Steps.{RanTurn, same-places, passes-ask, steps-all, ends-ran, ends-fault, steps-fault}
 use Rattle.running.specs.Arrays.{arrays-none, arrays-on, arrays-off}
 use Rattle.running.specs.WeightedTotal.{weighedEnd, Totalled, totalled-none, totalled-fits, totalled-more, totalled-end}
 use Rattle.running.specs.LentList.{Runnable, part-back, Made, made-none, made-more, same-length, row-fits, row-ends-by, table-end, table-fault}
-use borrow.Author.Needs.{needs}
-use native.Mathlib.Omega.{arith}
 use Rattle.running.proofs.run_rows.Statement.{statement}
 use Rattle.running.proofs.run_rows.Tie as tie
+use borrow.Author.Needs.{needs}
+use native.Mathlib.Omega.{arith}
 
 abbrev Inv-loop : tie.InvT-loop
-Inv-loop bytes table r steps weighs out₀ weights _ _ _ _ cell ramps held₀ queue₀ sent₀ l₀ _ _ _ _ _ _ _ _
-    out road held queue sent l rest room release waiting demand total k to =
+Inv-loop bytes table r steps weighs longs out₀ weights _ _ _ _ cell ramps held₀ queue₀ sent₀ l₀ _ _ _ _ _ _ _ _ _ _
+    out road held queue sent l rest room release waiting demand gate most total k to =
     let a = studyBy bytes table r (stateOf l₀ held₀ queue₀ sent₀) steps in
     Made a out₀ out (stateOf l held queue sent) k to
-    × (OnRoad a road × (Totalled weighs (at (weights .places)) (at (weights .ramps)) a total k × Arrays r ramps cell sent rest room release waiting demand))
+    × (OnRoad a road × (Totalled weighs (at (weights .places)) (at (weights .ramps)) a total k
+    × (Arrays r ramps cell sent rest room release waiting demand
+    × Raised longs (r .n) (engineAfter a) (queuesOf (gate .gate) (gate .waiting) most) k)))
 
 abbrev μ-loop : tie.MeasureT-loop
-μ-loop bytes table r steps weighs out₀ weights _ _ _ _ cell ramps held₀ queue₀ sent₀ l₀ _ _ _ _ _ _ _ _
-    out road held queue sent l rest room release waiting demand total k to =
+μ-loop bytes table r steps weighs longs out₀ weights _ _ _ _ cell ramps held₀ queue₀ sent₀ l₀ _ _ _ _ _ _ _ _ _ _
+    out road held queue sent l rest room release waiting demand gate most total k to =
     steps - k
 
 -- places of the code: the arguments from the loop's place, a turn's start from its test of releases, and the test from the places after it
@@ -130,17 +140,22 @@ list-kept : (c : tie.At-loop Inv-loop μ-loop) → length (c .loop .out) ≡ len
 list-kept c = let k = runnable (c .before) in same-length (c .loop .inv .0) (k .readable .ok) (k .long)
 
 -- at the end, what holds of the loop's study holds of the arguments'
-ends : (c : tie.After-of Inv-loop μ-loop) {x : EndAnswer} {out : List ℕ} {t : ℕ} →
+ends : (c : tie.After-of Inv-loop μ-loop) {x : EndAnswer} {out : List ℕ} {t : ℕ} {q : Queues} →
     let a = Begun (Listing c) .args in
     let w = at (a .t6 .places) in
     let u = at (a .t6 .ramps) in
-    x ≡ runEnd (Of c) → out ≡ runTable (Of c) (a .out .now) → t ≡ weighedEnd (a .weighs) w u (Of c) →
+    x ≡ runEnd (Of c) → out ≡ runTable (Of c) (a .out .now) → t ≡ weighedEnd (a .weighs) w u (Of c) → (a .longs ≡ true → q ≡ longestEnd (Of c)) →
     let b = studyBy (a .bytes .now) (a .table .now) (a .r) (a .s) (a .steps) in
-    (x ≡ runEnd b) × ((out ≡ runTable b (a .out .now)) × (t ≡ weighedEnd (a .weighs) w u b))
-ends c e o t =
+    (x ≡ runEnd b) × ((out ≡ runTable b (a .out .now)) × ((t ≡ weighedEnd (a .weighs) w u b) × (a .longs ≡ true → q ≡ longestEnd b)))
+ends c e o t q =
     let a = Begun (Listing c) .args in
-    let k = begins c in
-    (e ∙ ap runEnd k, (o ∙ ap (λ (b : Study). runTable b (a .out .now)) k, t ∙ ap (weighedEnd (a .weighs) (at (a .t6 .places)) (at (a .t6 .ramps))) k))
+    let k = begins c in (
+      e ∙ ap runEnd k,
+      (
+        o ∙ ap (λ (b : Study). runTable b (a .out .now)) k,
+        (t ∙ ap (weighedEnd (a .weighs) (at (a .t6 .places)) (at (a .t6 .ramps))) k, λ asked. q asked ∙ ap longestEnd k),
+      ),
+    )
 
 -- what the test of its fault says
 faulty : (c : tie.Then2 Inv-loop μ-loop) → refusalNumber (Made-step (c .before) .step .result .fault .refusal) ≡ 0 → ⊥
@@ -157,12 +172,12 @@ asked : (c : tie.Joined1 Inv-loop μ-loop) →
     let l = c .before .before in
     let p = l .loop in
     let r = Listing (l .before) .ramp-cells in
-    Asks (A l .args .bytes .now) (p .k) (c .if1 .road) (Now l) (r .result) (r .last .1 .1 .0) (p .rest) (p .room) (p .release) (p .waiting) (p .demand) (Part c)
+    StepAsks (A l .args .bytes .now) (p .k) (c .if1 .road) (Now l) (r .result) (r .last .1 .1 .0) (p .rest) (p .room) (p .release) (p .waiting) (p .demand) (Part c)
 asked c =
     let l = c .before .before in
     let p = l .loop in
     passes-ask (turn c) (subst (λ (n : ℕ). HoldsRow (A l .args .bytes .now) n (p .k)) (sym (same-cells c)) (holds (c .before)))
-    (arrays-on (turned-on (turned c)) (p .inv .1 .1 .1)) (same-places (turn c) (part-length (p .out) (p .to) (places (Of (l .before))) (fits (c .before))))
+    (arrays-on (turned-on (turned c)) (p .inv .1 .1 .1 .0)) (same-places (turn c) (part-length (p .out) (p .to) (places (Of (l .before))) (fits (c .before))))
 
 add-places : tie.Need-add-places Inv-loop μ-loop
 add-places c = search needs
@@ -173,7 +188,7 @@ ramp-cells-requires c κs = let b = c .before .before .before .before in (b .bef
 loop-holds : tie.Need-loop-holds Inv-loop μ-loop
 loop-holds c =
     let ok = runnable c .readable .ok in
-    (made-none, (on-road, (totalled-none _ _ _ _, arrays-none ok (Listing c .ramp-cells .ensures .0))))
+    (made-none, (on-road, (totalled-none _ _ _ _, (arrays-none ok (Listing c .ramp-cells .ensures .0), raised-none _ _ _))))
 
 step-capacities-requires : tie.Need-step-capacities-requires Inv-loop μ-loop
 step-capacities-requires c κs =
@@ -235,6 +250,7 @@ returns c =
     (c .before .state .ensures ∙ ap (λ (u : State). stateOf (p .l) (u .held) (u .queue) (u .cumulative)) (same .0)) in
     ends (l .before) (ends-fault (turn j) (gave .says) n e) (part-back (p .out) (p .to) (places (Of (l .before))) (same .1) ∙ table-fault (p .inv .0) (turn j) (gave .says) n)
     (totalled-end _ _ _ _ (p .inv .1 .1 .0) (steps-fault (turn j) (gave .says) n))
+    (raised-end _ _ _ (p .inv .1 .1 .1 .1) (steps-fault (turn j) (gave .says) n))
 
 added-requires : tie.Need-added-requires Inv-loop μ-loop
 added-requires c κs =
@@ -242,31 +258,45 @@ added-requires c κs =
     let ok = A (i .before) .pre .readable .ok in
     (totalled-fits _ _ _ _ (i .before .loop .inv .1 .1 .0) (omega (arith, i .loop-test .taken, ok .steps)), ok .road .cells)
 
+raised-requires : tie.Need-raised-requires Inv-loop μ-loop
+raised-requires c κs =
+    let i = Step (Made-step (to-passed (c .before .before .before .before) .before)) .before in
+    A (i .before) .pre .readable .ok .road .cells
+
 add-k : tie.Need-add-k Inv-loop μ-loop
 add-k c =
-    let i = Step (Made-step (to-passed (c .before) .before)) .before in
+    let i = Step (Made-step (to-passed (c .before .before) .before)) .before in
     omega (arith, i .loop-test .taken, A (i .before) .pre .readable .ok .steps)
 
 loop-less : tie.Need-loop-less Inv-loop μ-loop
-loop-less c = omega (arith, Step (Made-step (to-passed (c .before) .before)) .before .loop-test .taken)
+loop-less c = omega (arith, Step (Made-step (to-passed (c .before .before) .before)) .before .loop-test .taken)
 
 loop-again : tie.Need-loop-again Inv-loop μ-loop
 loop-again c =
-    let d = to-passed (c .before) in
+    let joined = c in
+    let d = to-passed (joined .before .before) in
     let m = Made-step (d .before) in
     let j = Step m in
     let p = j .before .before .loop in
     let gave = m .step .ensures (j .if1 .road) (asked j) in
     let z = faultless d in
     let made = made-more (p .inv .0) (turn j) (gave .says) z (gave .state z) (gave .outflows z) in
-    let e = c .added .ensures in
+    let e = joined .before .added .ensures in
     let on = turned-on (turned j) in (
       made,
       (
         on,
         (
           totalled-more _ _ _ _ (p .inv .1 .1 .0) (made .ran) (e .0 _ (record { atGate = refl; onRoad = refl; atRamps = refl })) (e .1),
-          arrays-off on (gave .arrays z),
+          (
+            arrays-off on (gave .arrays z),
+            raised-more _ _ _ (p .inv .1 .1 .1 .1) (turn j .ok .road .cells) (p .inv .0 .ran .state) (made .ran .state) (λ asked. elim (joined .if3 .came) [
+              | inl q ↦ ap (λ (g : AtGate). queuesOf (g .gate) (g .waiting) (joined .if3 .most)) (q .4)
+                  ∙ ap (queuesOf (q .3 .result .gate) (q .3 .result .waiting)) (q .5)
+                  ∙ q .3 .ensures
+              | inr q ↦ absurd (true≢false (sym asked ∙ q .0 .left))
+            ]),
+          ),
         ),
       ),
     )
@@ -287,6 +317,7 @@ returns-2 c =
     let ran = l .loop .inv .0 .ran in
     ends (l .before) (ends-ran ran (search needs) e) (table-end (l .loop .inv .0) (search needs))
     (totalled-end _ _ _ _ (l .loop .inv .1 .1 .0) (steps-all ran (search needs)))
+    (raised-end _ _ _ (l .loop .inv .1 .1 .1 .1) (steps-all ran (search needs)))
 
 pub run-rows-spec : {M : Type 1} → statement M
 run-rows-spec =
@@ -311,6 +342,7 @@ run-rows-spec =
     same-length-fault
     returns
     added-requires
+    raised-requires
     add-k
     loop-less
     loop-again

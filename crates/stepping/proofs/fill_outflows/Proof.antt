@@ -1,18 +1,21 @@
 -- `stepping::fill_outflows` meets its contract: the releases fit, so their look leaves the rooms. Assumes nothing.
 use mathlib.Core.Path.{ap, _∙_}
-use Rattle.road.specs.Refusals.{FaultAnswer}
-use Rattle.model.specs.StepLaws.{fit-releases}
-use Rattle.columns.specs.Columns.{ledgerOf}
-use borrow.Author.Needs.{needs}
+use Rattle.model.specs.Refusals.{FaultAnswer}
+use Rattle.theory.specs.StepLaws.{fit-releases}
+use Rattle.outflows.specs.Columns.{ledgerOf}
 use Rattle.stepping.proofs.fill_outflows.Statement.{statement}
 use Rattle.stepping.proofs.fill_outflows.Tie as tie
+use borrow.Author.Needs.{needs}
 
--- the arguments, from where the rooms are lent, and that place from the row filled
+-- the arguments, from where the rooms are lent; the look at the releases, from the row filled, and where its rooms were lent
 abbrev A : tie.After-room → tie.Start
 A c = let s = c .before .before .before .before .before in s .before .before .before .before .before
 
+abbrev Looked : tie.After-outflows-arg6 → tie.After-releases
+Looked c = let r = c .before .before .before .before .before in r .before .before .before .before
+
 abbrev Room : tie.After-outflows-arg6 → tie.After-room
-Room c = let r = c .before .before .before .before .before in r .before .before .before .before .before
+Room c = Looked c .before
 
 releases-requires : tie.Need-releases-requires
 releases-requires c κs = let p = A c .pre .0 .input in (p .road .cells, (p .row .numbers, search needs))
@@ -24,7 +27,7 @@ returns : tie.Need-returns
 returns c =
     let o = c .before .before in
     let a = A (Room (o .before)) in
-    let l = o .before .before .before .before .before .before .before .before .before .before in
+    let l = Looked (o .before) in
     let r = a .args .t1 in
     let s = a .args .t2 in
     let row = a .args .row .now in

@@ -1,8 +1,8 @@
 -- `stepping::next` meets its contract. Assumes nothing.
-use Rattle.stepping.specs.Looked.{movable, next-by-outflows}
-use borrow.Author.Needs.{needs}
+use Rattle.stepping.specs.Findings.{movable, next-by-outflows}
 use Rattle.stepping.proofs.next.Statement.{statement}
 use Rattle.stepping.proofs.next.Tie as tie
+use borrow.Author.Needs.{needs}
 
 -- the arguments, from where the outflows are asked for, and the row filled, from where the next state is
 abbrev A : tie.After-fill-outflows-arg → tie.Start

@@ -4,16 +4,16 @@ use mathlib.Core.Bool.{true}
 use borrow.Author.Tests.{not-true, not-false}
 use Prim.Native.Nat.{_≤_}
 use lib.ListN.{length}
-use Rattle.road.specs.Road.{mostCells}
-use Rattle.limits.specs.Limits.{inputOk}
+use Rattle.model.specs.Road.{mostCells}
+use Rattle.model.specs.Limits.{inputOk}
 use Rattle.limits.specs.LimitsLaws.{input-facts}
-use Rattle.model.specs.Rules.{Sized}
-use Rattle.stepping.specs.StepAnswers.{stepAnswer}
-use Rattle.stepping.specs.Looked.{answer-input, cell-within, answer-lanes, answer-on, steps-on, sized}
-use native.Mathlib.Omega.{arith}
-use borrow.Author.Needs.{needs}
+use Rattle.theory.specs.RulesLaws.{Sized}
+use Rattle.model.specs.Stepping.{stepAnswer}
+use Rattle.stepping.specs.Findings.{answer-input, cell-within, answer-lanes, answer-on, steps-on, sized}
 use Rattle.stepping.proofs.step.Statement.{statement}
 use Rattle.stepping.proofs.step.Tie as tie
+use native.Mathlib.Omega.{arith}
+use borrow.Author.Needs.{needs}
 
 -- places of the code: the arguments from the input's test, the place past that test from the lanes', and the lanes' from the capacities
 abbrev A : tie.After-input-within → tie.Start

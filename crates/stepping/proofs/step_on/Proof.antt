@@ -2,13 +2,13 @@
 use mathlib.Core.Path.{ap, sym, _∙_}
 use Prim.Native.Nat.{_≤_}
 use lib.Seq.{length-take-le}
-use Rattle.road.specs.Road.{mostCells}
-use Rattle.stepping.specs.StepAnswers.{stepAnswer}
-use Rattle.stepping.specs.Looked.{Looked, answer-done, answer-fault, answer-next, steppable}
-use native.Mathlib.Omega.{arith}
-use borrow.Author.Needs.{needs}
+use Rattle.model.specs.Road.{mostCells}
+use Rattle.model.specs.Stepping.{stepAnswer}
+use Rattle.stepping.specs.Findings.{Looked, answer-done, answer-fault, answer-next, steppable}
 use Rattle.stepping.proofs.step_on.Statement.{statement}
 use Rattle.stepping.proofs.step_on.Tie as tie
+use native.Mathlib.Omega.{arith}
+use borrow.Author.Needs.{needs}
 
 -- places of the code: the arguments from both sides of the steps' test, past that test, and past the releases'
 abbrev Done : tie.Then1 → tie.Start

@@ -4,13 +4,13 @@ use mathlib.Core.Bool.{true}
 use native.Mathlib.Omega.{arith}
 use lib.ListN.{length}
 use borrow.Author.Tests.{not-true, not-false}
-use Rattle.road.specs.Road.{mostRate}
-use Rattle.limits.specs.AllWithin.{allWithin}
-use Rattle.street.specs.Street.{frameOk}
+use Rattle.model.specs.Road.{mostRate}
+use Rattle.model.specs.Limits.{allWithin}
+use Rattle.model.specs.Street.{frameOk}
 use Rattle.street.specs.StreetLaws.{asked-frame, frame-ramps, asked-guarantees, asked-wishes, asked-sum}
-use borrow.Author.Needs.{needs}
 use Rattle.street.proofs.asked_within.Statement.{statement}
 use Rattle.street.proofs.asked_within.Tie as tie
+use borrow.Author.Needs.{needs}
 
 -- the arguments, from each place, and what the tests have shown there
 abbrev A : tie.Else1 → tie.Start

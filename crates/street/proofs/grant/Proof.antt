@@ -3,12 +3,12 @@ use mathlib.Core.Path.{_≡_, sym, _∙_}
 use mathlib.Core.Bool.{true}
 use lib.ListN.{length}
 use borrow.Author.Tests.{not-true, not-false}
-use Rattle.street.specs.Street.{askedOk}
+use Rattle.model.specs.Street.{askedOk}
 use Rattle.street.specs.StreetLaws.{asked-limits, refused-answer, refused-grants, granted-answer, granted-grants}
 use Rattle.street.specs.Theorems.{ended}
-use borrow.Author.Needs.{needs}
 use Rattle.street.proofs.grant.Statement.{statement}
 use Rattle.street.proofs.grant.Tie as tie
+use borrow.Author.Needs.{needs}
 
 -- the arguments, and what the test has shown of them
 abbrev A : tie.After-asked-within → tie.Start

@@ -1,14 +1,14 @@
 -- `taking::rows` meets its contract. The invariant: the rows of the first t steps stand in the list. Assumes nothing.
 use Prim.Native.Nat.{_+_, _-_, _≤_}
 use lib.ListN.{length}
-use Rattle.rows.specs.TablesLaws.{part-length}
-use Rattle.fields.specs.Fields.{rowNumbers}
-use Rattle.taking.specs.TakingLaws.{Roomy, mostNumbers, over-cells, over-steps, too-short, count-small, untaken}
-use Rattle.taking.specs.TakingLaws.{Listed, listed-none, listed-length, row-fits, row-small, listed-more, listed-end}
-use borrow.Author.Needs.{needs}
-use native.Mathlib.Omega.{arith}
+use Rattle.numbers.specs.TablesLaws.{part-length}
+use Rattle.model.specs.Record.{rowNumbers}
+use Rattle.taking.specs.TakingLaws.{Roomy, mostNumbers, over-cells, over-steps, too-short, count-small, untaken, Listed, listed-none, listed-length, row-fits, row-small}
+use Rattle.taking.specs.TakingLaws.{listed-more, listed-end}
 use Rattle.taking.proofs.rows.Statement.{statement}
 use Rattle.taking.proofs.rows.Tie as tie
+use borrow.Author.Needs.{needs}
+use native.Mathlib.Omega.{arith}
 
 abbrev Inv-loop : tie.InvT-loop
 Inv-loop bytes n steps list₀ numbers from₀ t₀ list from t = Listed bytes n steps list₀ list from t

@@ -3,16 +3,16 @@ use mathlib.Core.Path.{_≡_, sym, _∙_}
 use mathlib.Core.Bool.{true}
 use lib.ListN.{length}
 use borrow.Author.Tests.{not-true, not-false}
-use Rattle.road.specs.Road.{mostRate}
+use Rattle.model.specs.Road.{mostRate}
 use Rattle.numbers.specs.Tests.{both-true}
-use Rattle.limits.specs.AllWithin.{allWithin}
-use Rattle.wanted.specs.Wanted.{Asked, frameOk}
+use Rattle.model.specs.Limits.{allWithin}
+use Rattle.model.specs.Wanted.{Asked, frameOk}
 use Rattle.wanted.specs.WantedLaws.{asked-limits}
 use Rattle.wanted.specs.Theorems.{ended}
 use Rattle.wanted.specs.Loops.{ends-frame, ends-arrivals, ends-none, ends-found}
-use borrow.Author.Needs.{needs}
 use Rattle.wanted.proofs.wanted.Statement.{statement}
 use Rattle.wanted.proofs.wanted.Tie as tie
+use borrow.Author.Needs.{needs}
 
 -- places of the code: the arguments, and each test from the next
 abbrev A : tie.After-frame-within → tie.Start

@@ -2,19 +2,19 @@
 use mathlib.Core.Path.{_≡_, ap, sym, _∙_}
 use Prim.Native.Nat.{ℕ, _+_}
 use lib.ListN.{length}
-use Rattle.numbers.specs.First.{firstOf}
-use Rattle.road.specs.declared.State.{State}
-use Rattle.road.specs.Refusals.{refusalNumber}
-use Rattle.studies.specs.Study.{Study}
-use Rattle.limits.specs.Limits.{placeOk}
-use Rattle.header.specs.HeaderLaws.{size-small}
-use Rattle.writing.specs.Writing.{unwritten, written, frameOf, writingBy, writingOf}
-use Rattle.encoding.specs.Record.{given}
+use Rattle.model.specs.Numbers.{firstOf}
+use Rattle.model.specs.declared.State.{State}
+use Rattle.model.specs.Refusals.{refusalNumber}
+use Rattle.model.specs.Schedules.{Study}
+use Rattle.model.specs.Limits.{placeOk}
+use Rattle.fields.specs.HeaderLaws.{size-small}
+use Rattle.model.specs.Writing.{unwritten, written, frameOf, writingBy, writingOf}
+use Rattle.model.specs.Encoding.{given}
 use Rattle.writing.specs.Checks.{Framed, framed, answer-frame, answer-place, answer-step, answer-short, answer-written, by-given}
-use native.Mathlib.Omega.{arith}
-use borrow.Author.Needs.{needs}
 use Rattle.writing.proofs.checked.Statement.{statement}
 use Rattle.writing.proofs.checked.Tie as tie
+use native.Mathlib.Omega.{arith}
+use borrow.Author.Needs.{needs}
 
 -- places of the code, each from a later one: the arguments, the frame's test, the place, the step and the size
 abbrev A : tie.After-frame-refusal → tie.Start

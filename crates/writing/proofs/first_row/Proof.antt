@@ -5,15 +5,15 @@ use Prim.Native.Nat.{ℕ, _+_, _-_, _*_, _≤_}
 use lib.ListN.{length, take, drop}
 use borrow.Author.Tests.{not-true, not-false}
 use Rattle.numbers.specs.FirstLaws.{Passed, passed-none, passed-more, passed-stop, passed-end}
-use Rattle.rows.specs.Tables.{rowAt}
-use Rattle.rows.specs.TablesLaws.{part-row, part-length, mul-more}
-use Rattle.fields.specs.Fields.{rowNumbers}
-use Rattle.limits.specs.Limits.{rowOk}
+use Rattle.model.specs.Numbers.{rowAt}
+use Rattle.numbers.specs.TablesLaws.{part-row, part-length, mul-more}
+use Rattle.model.specs.Record.{rowNumbers}
+use Rattle.model.specs.Limits.{rowOk}
 use Rattle.writing.specs.Checks.{row-fits}
-use borrow.Author.Needs.{needs}
-use native.Mathlib.Omega.{arith}
 use Rattle.writing.proofs.first_row.Statement.{statement}
 use Rattle.writing.proofs.first_row.Tie as tie
+use borrow.Author.Needs.{needs}
+use native.Mathlib.Omega.{arith}
 
 abbrev Inv-loop : tie.InvT-loop
 Inv-loop ramp n rows steps numbers from₀ t₀ from t =

@@ -3,15 +3,15 @@ use mathlib.Core.Path.{_≡_, sym, _∙_}
 use mathlib.Core.Bool.{true}
 use Prim.Native.Nat.{_≤_}
 use borrow.Author.Tests.{not-true, not-false}
-use Rattle.numbers.specs.First.{oneOf}
-use Rattle.road.specs.Road.{mostBytes}
-use Rattle.header.specs.Header.{bothVersions, sizeOf, cellsAndStepsOk, secondsOk}
-use Rattle.header.specs.HeaderLaws.{counts-facts, size-small}
+use Rattle.model.specs.Numbers.{oneOf}
+use Rattle.model.specs.Road.{mostBytes}
+use Rattle.model.specs.Reading.{bothVersions, sizeOf, cellsAndStepsOk, secondsOk}
+use Rattle.fields.specs.HeaderLaws.{counts-facts, size-small}
 use Rattle.writing.specs.Checks.{frame-version, frame-counts, frame-seconds, frame-size, frame-numbers, frame-none}
-use native.Mathlib.Omega.{arith}
-use borrow.Author.Needs.{needs}
 use Rattle.writing.proofs.frame_refusal.Statement.{statement}
 use Rattle.writing.proofs.frame_refusal.Tie as tie
+use native.Mathlib.Omega.{arith}
+use borrow.Author.Needs.{needs}
 
 -- the arguments, from the version's test; the places past each test, from the next
 abbrev A : tie.After-version-known → tie.Start

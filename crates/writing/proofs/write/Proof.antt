@@ -1,12 +1,12 @@
 -- `writing::write` meets its contract. Each return, by the test on the way to it. Assumes nothing.
 use mathlib.Core.Path.{_≡_, sym, ap, _∙_}
-use Rattle.road.specs.Refusals.{refusalNumber}
-use Rattle.writing.specs.Writing.{WriteAnswer, writingOf}
-use Rattle.writing.specs.Accepted.{fits, target-refused, target-put}
-use Rattle.writing.specs.Saved.{promise}
-use borrow.Author.Needs.{needs}
+use Rattle.model.specs.Refusals.{refusalNumber}
+use Rattle.model.specs.Writing.{WriteAnswer, writingOf}
+use Rattle.writing.specs.AcceptedStudy.{fits, target-refused, target-put}
+use Rattle.writing.specs.Theorems.{promise}
 use Rattle.writing.proofs.write.Statement.{statement}
 use Rattle.writing.proofs.write.Tie as tie
+use borrow.Author.Needs.{needs}
 
 -- places of the code: the arguments, from the checks; the checks, from the test after them
 abbrev A : tie.After-checked → tie.Start

@@ -3,14 +3,14 @@ use mathlib.Core.Path.{_≡_, sym, _∙_}
 use mathlib.Core.List.{List}
 use Prim.Native.Nat.{ℕ, _+_, _-_}
 use lib.ListN.{length, length-set}
-use Rattle.road.specs.declared.Road.{Road}
-use Rattle.columns.specs.declared.Ledger.{Ledger}
-use Rattle.columns.specs.Columns.{sending, gated, stateOf}
+use Rattle.model.specs.declared.Road.{Road}
+use Rattle.outflows.specs.declared.Ledger.{Ledger}
+use Rattle.outflows.specs.Columns.{sending, gated, stateOf}
 use Rattle.outflows.specs.Outflows.{FilledOutflows, filled-none, filled-more, filled-end}
 use Rattle.outflows.specs.Rooms.{Rooms}
-use borrow.Author.Needs.{needs}
 use Rattle.outflows.proofs.lent.outflows.Statement.{statement}
 use Rattle.outflows.proofs.lent.outflows.Tie as tie
+use borrow.Author.Needs.{needs}
 
 abbrev Inv-loop : tie.InvT-loop
 Inv-loop n gate-capacity speed share capacity gate-queue gate-cumulative held cumulative room y₀ part₀ before₀ demand₀ i₀ y part before demand i =

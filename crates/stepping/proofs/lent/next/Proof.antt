@@ -1,13 +1,13 @@
 -- `stepping::lent::next` meets its contract: the row that is filled may be moved by. Assumes nothing.
 use mathlib.Core.Path.{ap, _∙_}
-use Rattle.road.specs.declared.Road.{Road}
-use Rattle.road.specs.declared.State.{State}
+use Rattle.model.specs.declared.Road.{Road}
+use Rattle.model.specs.declared.State.{State}
 use Rattle.model.specs.Move.{nextOf}
-use Rattle.stepping.specs.Looked.{movable}
-use Rattle.columns.specs.Columns.{sending, stateOf}
-use borrow.Author.Needs.{needs}
+use Rattle.stepping.specs.Findings.{movable}
+use Rattle.outflows.specs.Columns.{sending, stateOf}
 use Rattle.stepping.proofs.lent.next.Statement.{statement}
 use Rattle.stepping.proofs.lent.next.Tie as tie
+use borrow.Author.Needs.{needs}
 
 -- the row filled, from the move's arguments, and the arguments from it
 abbrev Filled : tie.After-advance-arg4 → tie.After-outflows

@@ -2,21 +2,21 @@
 use mathlib.Core.Path.{_≡_, sym, ap, _∙_}
 use mathlib.Core.List.{List}
 use Prim.Native.Nat.{ℕ, _+_, _-_}
-use Rattle.road.specs.declared.Road.{Road}
-use Rattle.road.specs.declared.State.{State}
-use Rattle.road.specs.Refusals.{refusalNumber, fault}
+use Rattle.model.specs.declared.Road.{Road}
+use Rattle.model.specs.declared.State.{State}
+use Rattle.model.specs.Refusals.{refusalNumber, fault}
 use Rattle.numbers.specs.FirstLaws.{Faultless, faultless-none, faultless-more}
-use Rattle.model.specs.StepLaws.{lowest-stop}
-use Rattle.model.specs.Verdict.{outflowFaultAt}
-use Rattle.columns.specs.declared.Ledger.{Ledger}
-use Rattle.columns.specs.Columns.{sending, gated, stateOf}
+use Rattle.theory.specs.StepLaws.{lowest-stop}
+use Rattle.model.specs.Judging.{outflowFaultAt}
+use Rattle.outflows.specs.declared.Ledger.{Ledger}
+use Rattle.outflows.specs.Columns.{sending, gated, stateOf}
 use Rattle.outflows.specs.Rooms.{Rooms}
-use Rattle.outflows.specs.Carried.{Carried, carried-gate, carried-cell}
-use Rattle.verdict.specs.Proposed.{outflow-found, last-fault, last-end}
-use borrow.Author.Needs.{needs}
-use native.Mathlib.Omega.{arith}
+use Rattle.outflows.specs.CarriedValues.{Carried, carried-gate, carried-cell}
+use Rattle.verdict.specs.ProposedRow.{outflow-found, last-fault, last-end}
 use Rattle.verdict.proofs.lent.outflows_fault.Statement.{statement}
 use Rattle.verdict.proofs.lent.outflows_fault.Tie as tie
+use borrow.Author.Needs.{needs}
+use native.Mathlib.Omega.{arith}
 
 abbrev Inv-loop : tie.InvT-loop
 Inv-loop n gate-capacity speed share capacity gate-queue gate-cumulative held cumulative room y part₀ before₀ demand₀ i₀ part before demand i =

@@ -1,14 +1,14 @@
 -- `verdict::lent::verdict` meets its contract. Assumes nothing.
 use mathlib.Core.Path.{sym, _∙_}
-use Rattle.road.specs.declared.Road.{Road}
-use Rattle.road.specs.declared.State.{State}
-use Rattle.columns.specs.declared.Ledger.{Ledger}
-use Rattle.columns.specs.Columns.{roadOf, gated, stateOf}
-use Rattle.road.specs.Refusals.{faultAnswer}
-use Rattle.verdict.specs.Proposed.{Looked, verdict-fault, verdict-end}
-use borrow.Author.Needs.{needs}
+use Rattle.model.specs.declared.Road.{Road}
+use Rattle.model.specs.declared.State.{State}
+use Rattle.outflows.specs.declared.Ledger.{Ledger}
+use Rattle.outflows.specs.Columns.{roadOf, gated, stateOf}
+use Rattle.model.specs.Refusals.{faultAnswer}
+use Rattle.verdict.specs.ProposedRow.{Looked, verdict-fault, verdict-end}
 use Rattle.verdict.proofs.lent.verdict.Statement.{statement}
 use Rattle.verdict.proofs.lent.verdict.Tie as tie
+use borrow.Author.Needs.{needs}
 
 -- the arguments, from the number of the releases' refusal
 abbrev A : tie.After-number → tie.Start

@@ -1,0 +1,20 @@
+-- `counts::added` meets its contract. Assumes nothing.
+use native.Mathlib.Omega.{arith}
+use Rattle.counts.specs.WeightSums.{added-more, added-none}
+use Rattle.counts.proofs.added.Statement.{statement}
+use Rattle.counts.proofs.added.Tie as tie
+use borrow.Author.Needs.{needs}
+
+add-result : tie.Need-add-result
+add-result c = omega (arith, c .weighed-places .ensures .1, c .before .before .pre .0)
+
+returns : tie.Need-returns
+returns c =
+    let e = c .weighed-places .ensures in
+    (λ s h. added-more (c .before .before .args .total) (c .before .if1 .taken) (e .0 s h), omega (arith, e .1))
+
+returns-2 : tie.Need-returns-2
+returns-2 c = (λ s h. added-none (c .before .args .total) _ (c .if1 .left), omega arith)
+
+pub added-spec : {M : Type 1} → statement M
+added-spec = tie.close (tie.spec (λ c κs. search needs) add-result returns returns-2)

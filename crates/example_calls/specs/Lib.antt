@@ -1,0 +1,2 @@
+pub mod ReleasedRecord
+pub mod ReleasedLaws

@@ -1,0 +1,37 @@
+-- docs/MODEL.md, 'Filling': the longest queues over the steps that filling makes, and how they end. Assumes nothing.
+use mathlib.Core.Path.{_≡_, refl, ap, _∙_}
+use mathlib.Core.List.{List}
+use Prim.Native.Nat.{ℕ, _≤_}
+use lib.ListN.{length}
+use borrow.Author.Tests.{ne-eqb}
+use Rattle.model.specs.Schedules.{Study, tableSize}
+use Rattle.model.specs.declared.Law.{Law}
+use Rattle.model.specs.Reading.{readingOf, studyOf}
+use Rattle.model.specs.Running.{EndAnswer, noState, stepsMade, lanesFault}
+use Rattle.model.specs.Longest.{Queues, longestOf, filledAfter, longestFill}
+use Rattle.counts.specs.Longest.{noQueues}
+use Rattle.counts.specs.LongestLaws.{longest-none}
+use Rattle.model.specs.Filling.{lawPlace, fillingOf}
+use Rattle.filling.specs.Cases.{fills-all}
+
+-- the longest queues over all T steps
+abbrev pub longestFilled : List Law → Study → Queues
+longestFilled laws a = longestOf (a .road .n) (filledAfter laws a) (a .steps)
+
+module _ (laws : List Law) (bytes lanes list : List ℕ) where
+  -- a refusal does no step
+  pub longest-refused : (number place : ℕ) {e : EndAnswer} → (number ≡ 0 → ⊥) → e ≡ noState number place → e ≡ fillingOf laws bytes lanes list
+      → longestFill laws bytes lanes list ≡ noQueues
+  unfolding longestFill
+  longest-refused number place d ee ef =
+      let a = studyOf bytes lanes in
+      let none : stepsMade a (fillingOf laws bytes lanes list) ≡ 0 = rw (← ef, ee, ne-eqb number 0 d) refl in
+      ap (longestOf (a .road .n) (filledAfter laws a)) none ∙ longest-none (a .road .n) (filledAfter laws a)
+
+  -- without one all are done
+  pub longest-all : readingOf bytes .number ≡ 0 → lawPlace laws (studyOf bytes lanes) ≡ 0 → lanesFault (studyOf bytes lanes) .number ≡ 0
+      → tableSize (studyOf bytes lanes) ≤ length list → longestFill laws bytes lanes list ≡ longestFilled laws (studyOf bytes lanes)
+  unfolding longestFill
+  longest-all reads finite opens l =
+      let a = studyOf bytes lanes in
+      ap (λ (e : EndAnswer). longestOf (a .road .n) (filledAfter laws a) (stepsMade a e)) (fills-all laws bytes lanes list reads finite opens l .answers)

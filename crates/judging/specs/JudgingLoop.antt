@@ -1,0 +1,114 @@
+-- What the loop over the steps of a schedule knows, and how judging ends. Assumes nothing.
+use mathlib.Core.Path.{_≡_, refl, sym, ap, _∙_}
+use mathlib.Core.List.{List}
+use Prim.Native.Nat.{ℕ, _+_, _≤_, _<_}
+use native.Mathlib.Numerals.{add-one}
+use lib.ListN.{length}
+use Rattle.numbers.specs.FirstLaws.{Faultless, faultless-none, faultless-more}
+use Rattle.model.specs.Refusals.{FaultAnswer}
+use Rattle.model.specs.declared.Road.{Road}
+use Rattle.model.specs.declared.State.{State}
+use Rattle.model.specs.Road.{mostCells}
+use Rattle.model.specs.Schedules.{Study, roadAt, places, tableSize, scheduleAfter, proposedAt, scheduledAt}
+use Rattle.theory.specs.StepLaws.{number-of}
+use Rattle.theory.specs.RunsLaws.{StudyOk, StepOf, step-road, step-input, step-sized, step-left}
+use Rattle.model.specs.Reading.{ReadAnswer, readingOf, studyBy}
+use Rattle.model.specs.Judging.{judgeSays, judgeEnd, judgingOf}
+use Rattle.model.specs.Running.{EndAnswer, ended, noState, openingOf}
+use Rattle.theory.specs.SchedulesLaws.{judge-reached, ends-all, ends-at}
+use Rattle.model.specs.Demand.{Taken, AcceptsExactly}
+use Rattle.theory.specs.Opening.{opened-taken, opened-reads}
+use Rattle.theory.specs.RunEnds.{judges-unopened, judges-length, judges-ends}
+use Rattle.theory.specs.JudgingExact.{accepts-exactly}
+use Rattle.judging.specs.JudgedStep.{Judges, JudgedStep}
+
+-- the schedule obeys in the first k steps, and u is its own state after them
+pub record Obeyed (a : Study) (zs : List ℕ) (u : State) (k : ℕ) : Type 0 where
+  pub state : u ≡ scheduledAt a zs k
+  pub faultless : Faultless (λ j. judgeSays a zs j .number) (a .steps) k
+
+-- a turn of it: q is the step's road, and the code holds the row of step k and the schedule's row of outflows
+pub record JudgeTurn (a : Study) (zs : List ℕ) (u : State) (k : ℕ) (q : Road) (row y : List ℕ) : Type 0 where
+  pub ok : StudyOk a
+  pub obeyed : Obeyed a zs u k
+  pub left : k < a .steps
+  pub road : q ≡ roadAt a k
+  pub numbers : row ≡ a .rows k
+  pub outflows : y ≡ proposedAt a zs k
+  pub size : length y ≡ places a
+
+module _ {a : Study} {zs : List ℕ} where
+  pub obeyed-none : Obeyed a zs (a .start) 0
+  unfolding scheduleAfter
+  obeyed-none = record { state = refl; faultless = faultless-none }
+
+  -- the end after all steps
+  pub obeyed-end : {u : State} {k : ℕ} → Obeyed a zs u k → {e : EndAnswer} → a .steps ≤ k → e ≡ ended 0 0 0 (a .road) u → e ≡ judgeEnd a zs
+  obeyed-end h l g = g ∙ ends-all a (judgeSays a zs) (scheduledAt a zs) (h .faultless) (h .state) l
+
+  module _ {u : State} {k : ℕ} {q : Road} {row y : List ℕ} (t : JudgeTurn a zs u k q row y) where
+    this-step : StepOf a q u row k
+    this-step = record {
+      ok = t .ok;
+      left = t .left;
+      road = t .road;
+      numbers = t .numbers;
+      reached = rw (t .obeyed .state) (judge-reached a (t .ok) zs k (t .obeyed .faultless .within) (t .obeyed .faultless .before));
+    }
+
+    -- it may be judged and made
+    pub judges : {room : List ℕ} → length room ≡ mostCells
+        → Judges (q .n) (q .«gate_capacity») (q .speed) (q .wave) (q .share) (q .jam) (q .capacity) u row room y
+    judges e = record {
+      road = q;
+      input = step-input this-step;
+      sized = step-sized this-step;
+      left = step-left this-step;
+      places = t .size ∙ ap (λ (n : ℕ). n + 1) (sym (step-road this-step .n));
+      rooms = e;
+    }
+
+    module _ {f : FaultAnswer} {v : State} (j : JudgedStep q u row y f v) where
+      pub says : f ≡ judgeSays a zs k
+      says = rw (j .found, t .road, t .obeyed .state, t .numbers, t .outflows)
+
+      -- the end at a fault
+      pub ends-fault : {x : EndAnswer} → (f .number ≡ 0 → ⊥) → x ≡ ended (f .number) k (f .place) (a .road) v → x ≡ judgeEnd a zs
+      ends-fault n g =
+          g ∙ ends-at a (judgeSays a zs) (scheduledAt a zs) (t .obeyed .faultless) (j .kept n ∙ t .obeyed .state) (t .left) says n
+
+      -- no fault: the next turn follows
+      pub obeyed-more : f .number ≡ 0 → Obeyed a zs v (k + 1)
+      unfolding scheduleAfter
+      obeyed-more z = record {
+        state = rw (j .moved z, t .road, t .obeyed .state, t .numbers, t .outflows, add-one k);
+        faultless = faultless-more (t .obeyed .faultless) (t .left) (number-of says) z;
+      }
+
+-- the answer, and that it accepts exactly the schedules that obey
+abbrev pub Promise : List ℕ → List ℕ → List ℕ → EndAnswer → Type 0
+Promise bytes lanes zs e = (e ≡ judgingOf bytes lanes zs) × AcceptsExactly bytes lanes zs e
+
+promise : {bytes lanes zs : List ℕ} {e : EndAnswer} → e ≡ judgingOf bytes lanes zs → Promise bytes lanes zs e
+promise {bytes} {lanes} {zs} ee = (ee, accepts-exactly bytes lanes zs ee)
+
+-- how judging ends, from what opening gave
+module _ (bytes lanes zs : List ℕ) {x : ReadAnswer} (ex : x ≡ openingOf bytes lanes) where
+  pub answer-unopened : {e : EndAnswer} → (x .number ≡ 0 → ⊥) → e ≡ noState (x .number) (x .place) → Promise bytes lanes zs e
+  answer-unopened h ee = promise (rw ex at ee ∙ sym (judges-unopened bytes lanes (rw ex at h) zs))
+
+  -- without a refusal
+  module _ (h : x .number ≡ 0) where
+    taken : Taken bytes lanes
+    taken = opened-taken bytes lanes ex h
+
+    reads : x ≡ readingOf bytes
+    reads = opened-reads bytes lanes ex h
+
+    pub answer-length : {e : EndAnswer} → (length zs ≡ tableSize (studyBy bytes lanes (x .road) (x .state) (x .steps)) → ⊥) → e ≡ noState 12 0
+        → Promise bytes lanes zs e
+    answer-length n ee = promise (ee ∙ sym (judges-length bytes lanes taken zs (rw reads at n)))
+
+    pub answer-rows : {e : EndAnswer} → length zs ≡ tableSize (studyBy bytes lanes (x .road) (x .state) (x .steps))
+        → e ≡ judgeEnd (studyBy bytes lanes (x .road) (x .state) (x .steps)) zs → Promise bytes lanes zs e
+    answer-rows l ee = promise (rw reads at ee ∙ sym (judges-ends bytes lanes taken zs (rw reads at l)))

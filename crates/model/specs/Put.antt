@@ -1,0 +1,82 @@
+-- docs/MODEL.md, 'Putting a release': its refusals in order, and the record afterwards. Assumes nothing.
+use mathlib.Core.Path.{_≡_}
+use mathlib.Core.Bool.{Bool, false, _&&_}
+use mathlib.Core.List.{List}
+use Prim.Native.Nat.{ℕ, zero, suc, _*_, _-_, _≤_, _+_, _<_}
+use lib.Dec.{leb, ltb, eqb}
+use lib.ListN.{length, set}
+use Rattle.model.specs.Numbers.{at, unless}
+use Rattle.model.specs.Road.{mostRate}
+use Rattle.model.specs.Record.{numberSize, versionOf, entryStart, entryOf, recordRow}
+use Rattle.model.specs.Refusals.{FaultAnswer, fault}
+use Rattle.model.specs.Reading.{readingOf}
+use Rattle.model.specs.Ramps.{putEntry}
+use Rattle.model.specs.Filling.{Outside}
+
+-- 5: a cell from 1 to n that has a ramp
+unfoldable pub rampOk : List ℕ → ℕ → ℕ → Bool
+rampOk ramp n zero = false
+rampOk ramp n (suc i) = leb (suc i) n && eqb (at ramp i) 1
+
+-- 6: a step before T, and a release of at most 1,000,000
+abbrev pub ratesOk : ℕ → ℕ → ℕ → Bool
+ratesOk step T release = ltb step T && leb release mostRate
+
+-- the release of cell i is number 2i of a row
+abbrev pub releasedAt : List ℕ → ℕ → ℕ → ℕ → ℕ → List ℕ
+releasedAt bytes n step cell release = putEntry bytes n step (2 * cell) release
+
+-- the refusals of reading; 5 at a cell that has no ramp or isn't on the road; 6 at a step from T on or with a release above 1,000,000
+unfoldable pub puttingOf : List ℕ → ℕ → ℕ → ℕ → FaultAnswer
+puttingOf bytes step cell release =
+    unless (eqb (readingOf bytes .number) 0) (fault (readingOf bytes .number) (readingOf bytes .place))
+    (unless (rampOk (readingOf bytes .road .ramp) (readingOf bytes .road .n) cell) (fault 5 cell)
+    (unless (ratesOk step (readingOf bytes .steps) release) (fault 6 step)
+    (fault 0 0)))
+
+-- the record then; a refusal leaves it unchanged
+unfoldable pub releasedRecord : List ℕ → ℕ → ℕ → ℕ → List ℕ
+releasedRecord bytes step cell release =
+    unless (eqb (puttingOf bytes step cell release .number) 0) bytes (releasedAt bytes (readingOf bytes .road .n) step cell release)
+
+-- a cell that has a ramp, as the code counts it
+pub record Ramp (ramp : List ℕ) (n cell : ℕ) : Type 0 where
+  pub some : 1 ≤ cell
+  pub within : cell ≤ n
+  pub mark : at ramp (cell - 1) ≡ 1
+
+-- u is s with x put as number k of the row of step t: exactly that number is changed
+pub record Put (s u : List ℕ) (n t k x : ℕ) : Type 0 where
+  pub size : length u ≡ length s
+  pub version : versionOf u ≡ versionOf s
+  -- every byte outside its four is as it was
+  pub byte : (b : ℕ) → Outside b (entryStart (versionOf s) n t k) numberSize → at u b ≡ at s b
+  -- it is there, and every other number of every row is as it was
+  pub number : entryOf u n t k ≡ x
+  pub others : (q j : ℕ) → j < 1 + 2 * n → (q ≡ t → j ≡ k → ⊥) → entryOf u n q j ≡ entryOf s n q j
+  -- the same of whole rows
+  pub row : recordRow u n t ≡ set (recordRow s n t) k x
+  pub rows : (q : ℕ) → (q ≡ t → ⊥) → recordRow u n q ≡ recordRow s n q
+
+-- what no refusal asks: the record reads, the cell is on the road and has a ramp, the step is one of its T, and the release is a rate
+pub record Asked (bytes : List ℕ) (step cell release : ℕ) : Type 0 where
+  pub reads : readingOf bytes .number ≡ 0
+  pub ramp : Ramp (readingOf bytes .road .ramp) (readingOf bytes .road .n) cell
+  pub before : step < readingOf bytes .steps
+  pub rate : release ≤ mostRate
+
+-- the record with the release put
+pub record Stands (bytes after : List ℕ) (step cell release : ℕ) : Type 0 where
+  -- exactly that number is changed: every other byte, and every other number of every row, is as it was
+  pub put : Put bytes after (readingOf bytes .road .n) step (2 * cell) release
+  -- it reads without refusal, as before: the same road, T and start
+  pub reads : readingOf after ≡ readingOf bytes
+
+-- the ends of putting, with what each leaves of the record
+pub data Ends (bytes : List ℕ) (step cell release : ℕ) : FaultAnswer → List ℕ → Type 0 where
+  unread : (readingOf bytes .number ≡ 0 → ⊥) → Ends bytes step cell release (fault (readingOf bytes .number) (readingOf bytes .place)) bytes
+  noRamp : readingOf bytes .number ≡ 0 → (Ramp (readingOf bytes .road .ramp) (readingOf bytes .road .n) cell → ⊥)
+      → Ends bytes step cell release (fault 5 cell) bytes
+  noRate : readingOf bytes .number ≡ 0 → Ramp (readingOf bytes .road .ramp) (readingOf bytes .road .n) cell
+      → (step < readingOf bytes .steps → release ≤ mostRate → ⊥) → Ends bytes step cell release (fault 6 step) bytes
+  put : Asked bytes step cell release → {after : List ℕ} → Stands bytes after step cell release → Ends bytes step cell release (fault 0 0) after

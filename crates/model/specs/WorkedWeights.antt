@@ -1,0 +1,37 @@
+-- docs/MODEL.md, 'Weights': that weights fall is needed. Assumes nothing.
+use mathlib.Core.Path.{_≡_, refl}
+use mathlib.Core.List.{[], _∷_}
+use Prim.Native.Nat.{ℕ}
+use Rattle.model.specs.Numbers.{at, oneOf, firstFrom, firstOf, firstFault, sumOf, fillOf, listOf, rowAt}
+use Rattle.model.specs.Flow.{thousandthsOf, demandOf, gateDemandOf, supplyOf, roomOf, onwardOf, enteringOf, greatestOf, outflowOf}
+use Rattle.model.specs.Places.{capacityAt, demandAt, mostReleaseAt, shareAt, cumulativeAt}
+use Rattle.model.specs.Move.{movedTo, countedOf}
+use Rattle.model.specs.Schedules.{roadAt, outflowsOf, scheduleAfter, engineAfter}
+use Rattle.model.specs.Weights.{weightedOf, weightedTotal, weighingOf, weighedIn}
+use Rattle.model.specs.Record.{numberOf, secondsSize}
+use Rattle.model.specs.Limits.{placeOk, rowOk}
+use Rattle.model.specs.Reading.{readingBy, studyOf}
+use Rattle.model.specs.Stepping.{lowestOf, tableFault}
+use Rattle.model.specs.Running.{endOf, openingOf, runningOf}
+use Rattle.model.specs.WorkedRecord.{sample, header, upstream, downstream, row}
+use Rattle.model.specs.WorkedSchedule.{still}
+
+-- gate 0, cell 1 200, cell 2 255; no weight at the ramps
+abbrev pub rising : ℕ → ℕ
+rising = at (0 ∷ 200 ∷ 255 ∷ [])
+
+abbrev pub unweighed : ℕ → ℕ
+unweighed i = 0
+
+-- the engine has held more upstream, and weight 255 makes less of the smaller count downstream
+pub record Beaten : Type 0 where
+  pub engine : weighingOf rising unweighed sample [] still ≡ 4833200
+  pub schedule : weighedIn rising unweighed (studyOf sample []) still 3 ≡ 4719000
+
+pub beaten : Beaten
+unfolding sample header upstream downstream row readingBy oneOf numberOf secondsSize
+    thousandthsOf demandOf gateDemandOf supplyOf roomOf onwardOf enteringOf greatestOf outflowOf
+    sumOf fillOf listOf firstFrom firstOf firstFault placeOk rowOk
+    capacityAt demandAt mostReleaseAt shareAt cumulativeAt movedTo countedOf outflowsOf lowestOf
+    tableFault roadAt scheduleAfter engineAfter rowAt endOf openingOf runningOf weightedOf weightedTotal weighingOf
+beaten = record { engine = refl; schedule = refl }

@@ -1,2 +1,0 @@
-// The move of a step.
-pub mod lent;

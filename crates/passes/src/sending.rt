@@ -1,0 +1,83 @@
+// The pass that sends: outflows and move, cell after cell.
+ghost use mathlib.Core.Path.{_≡_};
+ghost use Prim.Native.Nat.{ℕ, _+_, _≤_};
+ghost use lib.ListN.{length};
+ghost use Rattle.model.specs.Flow.{whole};
+ghost use Rattle.model.specs.Road.{mostRate};
+ghost use Rattle.passes.specs.Rest.{restOf, Sent};
+ghost use Rattle.passes.specs.Outflows.{passOf, Sends, SentTo};
+
+// What a place sends in a step: its outflow, what of it enters the next cell, and then the remainder of b x F by 1,000.
+struct Flow {
+    outflow: u32,
+    entering: u32,
+    rest: u32,
+}
+
+// What a place sends, from the remainder of b x F by 1,000, its demand and the room of the next cell. Where the demand does not fit, exactly the
+// room enters.
+fn outflow_by_rest(share: u16, rest: u32, demand: u32, room: u32) -> Flow
+    requires { ⌜ (share ≤ whole) × ((demand ≤ mostRate) × (rest ≤ 999)) ⌝ }
+    ensures { λ s. ⌜ ((F : ℕ) → rest ≡ restOf share F → Sent share F room demand (s .outflow) (s .entering) (s .rest)) ⌝ }
+{
+    if share == 1000 {
+        let all = crate::least(demand, room);
+        return Flow {
+            outflow: all,
+            entering: all,
+            rest: 0,
+        };
+    }
+    let b = share as u32;
+    let all = rest + b * demand;
+    let entering = all / 1000;
+    if room < entering {
+        let outflow = (1000 * room + 999 - rest) / b;
+        return Flow {
+            outflow: outflow,
+            entering: room,
+            rest: rest + b * outflow - 1000 * room,
+        };
+    }
+    Flow {
+        outflow: demand,
+        entering: entering,
+        rest: all - 1000 * entering,
+    }
+}
+
+// Outflows and move of all cells but for their releases. Gives the sum of what the cells then hold; `rest` has the remainders of b x F by 1,000.
+pub fn send(
+    n: usize,
+    share: &[u16; 64],
+    demand: &[u32; 64],
+    room: &[u32; 65],
+    first: u32,
+    held: &mut [u32; 64],
+    rest: &mut [u32; 64],
+    cumulative: &mut [u32; 64],
+    y: &mut [u32],
+) -> u32
+    requires { ⌜ Sends n (passOf first (now share) (now demand) (now room) (now held) (now cumulative)) (now rest)
+        × (length (now y) ≡ n + 1) ⌝ }
+    ensures { λ sum. ⌜ SentTo n (passOf first (now (share .entry)) (now (demand .entry)) (now (room .entry)) (now (held .entry)) (now (cumulative .entry)))
+        (now (rest .entry)) (now (y .entry)) (now (held .exit)) (now (rest .exit)) (now (cumulative .exit)) (now (y .exit)) sum ⌝ }
+{
+    y[0] = first;
+    let mut entering = first;
+    let mut on_road: u32 = 0;
+    let mut i = 0;
+    while i < n {
+        let s = outflow_by_rest(share[i], rest[i], demand[i], room[i + 1]);
+        let outflow = s.outflow;
+        let left = held[i] + entering - outflow;
+        y[i + 1] = outflow;
+        cumulative[i] = cumulative[i] + outflow;
+        held[i] = left;
+        rest[i] = s.rest;
+        on_road = on_road + left;
+        entering = s.entering;
+        i += 1;
+    }
+    on_road
+}

@@ -1,4 +1,0 @@
-pub mod Releases
-pub mod Bytes
-pub mod ReleasesLaws
-pub mod Same

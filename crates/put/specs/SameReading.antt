@@ -1,0 +1,98 @@
+-- Theorem: a record that differs from one that reads in its rows alone, and whose rows are within the limits, reads the same. Assumes nothing.
+use mathlib.Core.Path.{_≡_, sym, ap, _∙_}
+use mathlib.Core.Bool.{true}
+use mathlib.Core.List.{List}
+use Prim.Native.Nat.{ℕ, _+_, _*_, _≤_, _<_}
+use native.Mathlib.Omega.{arith}
+use lib.ListN.{length}
+use Rattle.model.specs.Numbers.{at}
+use Rattle.numbers.specs.RowsLaws.{fill-same}
+use Rattle.model.specs.declared.Road.{Road}
+use Rattle.model.specs.Road.{zeros}
+use Rattle.model.specs.Record.{countSize, shortSize, numberSize, cellSize, versionOffset, versionOf, cellsOffset, stepsOffset, secondsOffset, secondsSize, secondsOf}
+use Rattle.model.specs.Record.{gateCapacityOffset, gateQueueOffset, speedOffset, waveOffset, shareOffset, rampOffset, jamOffset, capacityOffset, heldOffset, queueOffset}
+use Rattle.model.specs.Record.{rowStart, numberOf, fieldOf, columnOf, recordRow}
+use Rattle.fields.specs.BytesLaws.{number-same}
+use Rattle.model.specs.Limits.{rowOk}
+use Rattle.limits.specs.LimitsLaws.{place-ok}
+use Rattle.model.specs.Reading.{cellsOf, stepsOf, ReadAnswer, roadOf, startOf, stepOk, acceptedOf, readingOf}
+use Rattle.reading.specs.Headers.{Header}
+use Rattle.reading.specs.Cases.{Accepted, Found, read-found, early-refused, reads}
+
+-- the bytes before the rows are the same
+module _ (s u : List ℕ) (head : (b : ℕ) → b < rowStart (versionOf s) (cellsOf s) 0 → at u b ≡ at s b) where
+  number : (i w : ℕ) → i + w ≤ rowStart (versionOf s) (cellsOf s) 0 → numberOf u i w ≡ numberOf s i w
+  number i w h = number-same u s i i w (λ k l. head (i + k) (omega arith))
+
+  version : versionOf u ≡ versionOf s
+  version = number versionOffset 1 (omega arith)
+
+  cells : cellsOf u ≡ cellsOf s
+  cells = number cellsOffset 1 (omega arith)
+
+  seconds : secondsOf u ≡ secondsOf s
+  seconds = rw version (number secondsOffset (secondsSize (versionOf s)) (omega arith))
+
+  column : (offset w : ℕ) → offset + w ≤ cellSize → columnOf u offset w (cellsOf u) ≡ columnOf s offset w (cellsOf s)
+  column offset w h =
+      ap (columnOf u offset w) cells
+      ∙ fill-same (fieldOf u offset w) (fieldOf s offset w) (cellsOf s) zeros
+      (λ i l. rw version (number (16 + secondsSize (versionOf s) + 24 * i + offset) w (omega arith)))
+
+  gate-capacity : numberOf u (gateCapacityOffset (versionOf u)) numberSize ≡ numberOf s (gateCapacityOffset (versionOf s)) numberSize
+  gate-capacity = rw version (number (gateCapacityOffset (versionOf s)) numberSize (omega arith))
+
+  gate-queue : numberOf u (gateQueueOffset (versionOf u)) numberSize ≡ numberOf s (gateQueueOffset (versionOf s)) numberSize
+  gate-queue = rw version (number (gateQueueOffset (versionOf s)) numberSize (omega arith))
+
+  road-same : roadOf u ≡ roadOf s
+  road-same = rw (
+    column speedOffset shortSize (omega arith),
+    column waveOffset shortSize (omega arith),
+    column shareOffset shortSize (omega arith),
+    column rampOffset shortSize (omega arith),
+    column jamOffset numberSize (omega arith),
+    column capacityOffset numberSize (omega arith),
+    gate-capacity,
+    seconds,
+    version,
+    cells,
+  )
+
+  start-same : startOf u ≡ startOf s
+  start-same = rw (column heldOffset numberSize (omega arith), column queueOffset numberSize (omega arith), gate-queue)
+
+  header-same : Header s (cellsOf s) (stepsOf s) → length u ≡ length s → Header u (cellsOf s) (stepsOf s)
+  header-same h size = record {
+    lengths = rw (number 0 countSize (omega arith), version, size) (h .lengths);
+    version = rw version (h .version);
+    cells = sym cells;
+    steps = sym (number stepsOffset shortSize (omega arith));
+    counts = h .counts;
+    seconds = rw (seconds, version) (h .seconds);
+    size = rw (size, version) (h .size);
+  }
+
+  reading-same : Accepted s (stepsOf s) (roadOf s) (startOf s) → length u ≡ length s → ((t : ℕ) → t < stepsOf s → stepOk u (roadOf s) t ≡ true)
+      → readingOf u ≡ acceptedOf (stepsOf s) (roadOf s) (startOf s)
+  reading-same w size rows =
+      reads (header-same (w .header) size) (λ p l. rw (road-same, start-same) (place-ok (roadOf s) (startOf s) (w .road) (w .state) p l))
+      (λ t l. ap (λ (r : Road). stepOk u r t) road-same ∙ rows t l)
+      ∙ rw (road-same, start-same)
+
+-- u's rows are within the limits of a road
+abbrev RowsOk : List ℕ → ReadAnswer → Type 0
+RowsOk u a = (t : ℕ) → t < a .steps → rowOk (a .road .ramp) (a .road .n) (recordRow u (a .road .n) t) ≡ true
+
+module _ (s u : List ℕ) (size : length u ≡ length s) where
+  found-same : {a : ReadAnswer} → Found s a → a .number ≡ 0 → ((b : ℕ) → b < rowStart (versionOf s) (a .road .n) 0 → at u b ≡ at s b) → RowsOk u a
+      → readingOf u ≡ a
+  found-same (Found.early k l) h head rows = absurd (early-refused l h)
+  found-same (Found.atPlace p l) h head rows = absurd (omega arith)
+  found-same (Found.atStep t l) h head rows = absurd (omega arith)
+  found-same (Found.clear w) h head rows = reading-same s u head w size rows
+
+  -- rows replaced by rows within the limits leave the answer as it was
+  pub rows-replaced : readingOf s .number ≡ 0 → ((b : ℕ) → b < rowStart (versionOf s) (readingOf s .road .n) 0 → at u b ≡ at s b) → RowsOk u (readingOf s)
+      → readingOf u ≡ readingOf s
+  rows-replaced = found-same (read-found s)

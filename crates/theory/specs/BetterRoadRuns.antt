@@ -1,0 +1,92 @@
+-- Theorem over whole records: raising speeds, waves, jam counts or capacities of cells, or the gate's capacity, makes no cumulative outflow smaller and
+-- never makes the total larger, when both records are run with the same start, arrivals, releases and closures, after every step that both reach.
+-- Not a share: `Raised` has a record whose total grows with one, and another whose run is refused once a speed is raised. Assumes nothing.
+use mathlib.Core.Path.{_≡_, refl, sym, ap, _∙_}
+use mathlib.Core.Logic.{⊎-elim}
+use mathlib.Core.List.{List}
+use Prim.Native.Nat.{ℕ, _≤_, _<_}
+use native.Mathlib.Nat.{le-refl}
+use native.Mathlib.Omega.{arith}
+use lib.ListN.{length}
+use Rattle.numbers.specs.Tests.{order}
+use Rattle.model.specs.Road.{totalOf}
+use Rattle.model.specs.Schedules.{Study, tableSize, engineAfter}
+use Rattle.theory.specs.RunsLaws.{Fitting, StudyOk}
+use Rattle.theory.specs.BetterRoad.{Improved, improved-behind}
+use Rattle.model.specs.Reading.{readingOf, studyOf}
+use Rattle.reading.specs.Numbers.{read-numbers}
+use Rattle.model.specs.Running.{runSays, firstStep, stepsMade, runningOf}
+use Rattle.theory.specs.SchedulesLaws.{step-within, step-before, end-made, end-state, run-fits}
+use Rattle.theory.specs.RunEnds.{runs-short, runs-long}
+use Rattle.theory.specs.Readable.{readable}
+use Rattle.model.specs.Demand.{Ahead, Taken}
+use Rattle.theory.specs.DemandLaws.{behind-ahead}
+use Rattle.theory.specs.DemandWhole.{promised}
+
+-- a record that is taken
+module _ (bytes lanes : List ℕ) (taken : Taken bytes lanes) where
+  abbrev a : Study
+  a = studyOf bytes lanes
+
+  ok : StudyOk (studyOf bytes lanes)
+  ok = readable bytes lanes (readingOf bytes) refl (taken .reads) (taken .opens) .ok
+
+  entries : studyOf bytes lanes .road .n ≤ length (studyOf bytes lanes .road .capacity)
+  entries = omega (arith, ok .road .cells, read-numbers bytes (readingOf bytes) refl (taken .reads) .capacity .entries)
+
+  -- a run reaches no step from its first fault on, and its releases fit up to there
+  module _ (list : List ℕ) where
+    within : stepsMade (studyOf bytes lanes) (runningOf bytes lanes list) ≤ firstStep (runSays (studyOf bytes lanes)) (studyOf bytes lanes .steps)
+    within = ⊎-elim
+        (λ (l : tableSize a ≤ length list). rw (runs-long bytes lanes taken list l) (omega (arith, end-made a (runSays a) (engineAfter a))))
+        (λ (l : length list < tableSize a). rw (runs-short bytes lanes taken list l) (omega arith))
+        (order (tableSize a) (length list))
+
+    fits : (k : ℕ) → k ≤ stepsMade (studyOf bytes lanes) (runningOf bytes lanes list) → Fitting (studyOf bytes lanes) k
+    fits k l = run-fits a k (λ j m. step-before (runSays a) (a .steps) j (omega (arith, within)))
+
+    -- the state of a run whose list is long enough is the one after the steps made
+    final : tableSize (studyOf bytes lanes) ≤ length list
+        → runningOf bytes lanes list .state ≡ engineAfter (studyOf bytes lanes) (stepsMade (studyOf bytes lanes) (runningOf bytes lanes list))
+    final l =
+        let e = runs-long bytes lanes taken list l in
+        rw e (end-state a (runSays a) (engineAfter a) ∙ ap (engineAfter a) (sym (end-made a (runSays a) (engineAfter a))))
+
+    -- a run that is not refused has a list that is long enough, and makes all steps
+    long : runningOf bytes lanes list .number ≡ 0 → tableSize (studyOf bytes lanes) ≤ length list
+    long h = ⊎-elim
+        (λ (l : tableSize a ≤ length list). l)
+        (λ (l : length list < tableSize a).
+        let e : runningOf bytes lanes list .number ≡ 11 = rw (runs-short bytes lanes taken list l) refl in
+        absurd (omega (arith, h, e)))
+        (order (tableSize a) (length list))
+
+    all : runningOf bytes lanes list .number ≡ 0 → stepsMade (studyOf bytes lanes) (runningOf bytes lanes list) ≡ studyOf bytes lanes .steps
+    all h = promised bytes lanes taken list .grounds .allRows h
+
+-- two records under one table of lanes, the second improved, each run into a list
+module _ (s t lanes : List ℕ) (first : Taken s lanes) (other : Taken t lanes) (h : Improved (studyOf s lanes) (studyOf t lanes)) (list out : List ℕ) where
+  -- after every step that both runs reach
+  pub improved-steps : (k : ℕ) → k ≤ stepsMade (studyOf s lanes) (runningOf s lanes list) → k ≤ stepsMade (studyOf t lanes) (runningOf t lanes out)
+      → Ahead (studyOf s lanes .road) (engineAfter (studyOf t lanes) k) (engineAfter (studyOf s lanes) k)
+  improved-steps k l m =
+      let a = studyOf s lanes in
+      behind-ahead (a .road) (engineAfter (studyOf t lanes) k) (engineAfter a k)
+      (improved-behind h (ok s lanes first) (ok t lanes other) (entries s lanes first) (entries t lanes other) k
+      (omega (arith, within s lanes first list, step-within (runSays a) (a .steps)))
+      (fits s lanes first list k l) (fits t lanes other out k m))
+
+  -- and so of the states that are returned, where both lists are long enough and both runs make equally many steps
+  pub improved-returned : tableSize (studyOf s lanes) ≤ length list → tableSize (studyOf t lanes) ≤ length out
+      → stepsMade (studyOf s lanes) (runningOf s lanes list) ≡ stepsMade (studyOf t lanes) (runningOf t lanes out)
+      → Ahead (studyOf s lanes .road) (runningOf t lanes out .state) (runningOf s lanes list .state)
+  improved-returned l m e =
+      let K = stepsMade (studyOf s lanes) (runningOf s lanes list) in
+      rw (final s lanes first list l, final t lanes other out m, ← e) (improved-steps K (le-refl K) (omega (arith, e)))
+
+  -- 'when both roads accept the same releases, start, arrivals and closures': where neither run is refused, the total returned is not larger
+  pub improved-accepted : runningOf s lanes list .number ≡ 0 → runningOf t lanes out .number ≡ 0
+      → totalOf (runningOf t lanes out .state) ≤ totalOf (runningOf s lanes list .state)
+  improved-accepted a b =
+      improved-returned (long s lanes first list a) (long t lanes other out b)
+      (all s lanes first list a ∙ sym (h .steps) ∙ sym (all t lanes other out b)) .total

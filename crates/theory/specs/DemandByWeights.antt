@@ -1,0 +1,124 @@
+-- Theorem: the weighted total of a run is at most that of each schedule, for weights that fall from the gate on. Assumes nothing.
+use mathlib.Core.Path.{_≡_, refl, sym, ap, _∙_}
+use mathlib.Core.Logic.{⊎-elim}
+use mathlib.Core.List.{List}
+use Prim.Native.Nat.{ℕ, suc, _≤_, _<_}
+use native.Mathlib.Nat.{le-refl}
+use native.Mathlib.Omega.{arith}
+use lib.ListN.{length}
+use borrow.Author.Tests.{ne-eqb}
+use Rattle.numbers.specs.Tests.{order}
+use Rattle.model.specs.Schedules.{Study, tableSize, scheduleAfter, engineAfter, proposedAt, scheduledAt}
+use Rattle.theory.specs.RunsLaws.{Fitting, StudyOk, rivals-self, run-weighted}
+use Rattle.model.specs.Weights.{weightedTotal, Falling, weighingOf, weighedIn}
+use Rattle.theory.specs.WeightsLaws.{weighted-total-same, weighted-total-none}
+use Rattle.model.specs.Reading.{readingOf, studyOf}
+use Rattle.model.specs.Running.{runSays, firstStep, stepsMade, openingOf, runningOf, tableOf, listAfter}
+use Rattle.model.specs.Judging.{judgeSays, judgingOf}
+use Rattle.theory.specs.SchedulesLaws.{step-before, end-made, run-fits}
+use Rattle.theory.specs.TableLaws.{table-row}
+use Rattle.theory.specs.RunEnds.{runs-unopened, runs-short, runs-long, writes-long, judges-length, judges-ends}
+use Rattle.theory.specs.Readable.{readable}
+use Rattle.model.specs.Demand.{Reaches, Taken, WeightedDemand}
+use Rattle.theory.specs.DemandLaws.{own-state, run-done, judge-done}
+use Rattle.theory.specs.DemandWhole.{sized, promised}
+
+module _ (bytes lanes : List ℕ) (taken : Taken bytes lanes) (list : List ℕ) where
+  abbrev a : Study
+  a = studyOf bytes lanes
+
+  ok : StudyOk (studyOf bytes lanes)
+  ok = readable bytes lanes (readingOf bytes) refl (taken .reads) (taken .opens) .ok
+
+  abbrev K : ℕ
+  K = firstStep (runSays a) (a .steps)
+
+  -- no more steps are made than those before the first fault
+  made : stepsMade (studyOf bytes lanes) (runningOf bytes lanes list) ≤ K
+  made = ⊎-elim
+      (λ (l : tableSize a ≤ length list). rw (runs-long bytes lanes taken list l) (omega (arith, end-made a (runSays a) (engineAfter a))))
+      (λ (l : length list < tableSize a). rw (runs-short bytes lanes taken list l) (omega arith))
+      (order (tableSize a) (length list))
+
+  fits : Fitting a K
+  fits = run-fits a K (step-before (runSays a) (a .steps))
+
+  -- the states of the rows written are the engine's
+  states : (j : ℕ) → j ≤ stepsMade (studyOf bytes lanes) (runningOf bytes lanes list)
+      → scheduledAt (studyOf bytes lanes) (listAfter bytes lanes list) j ≡ engineAfter (studyOf bytes lanes) j
+  unfolding scheduleAfter engineAfter
+  states j m = ⊎-elim
+      (λ (l : tableSize a ≤ length list).
+      rw (writes-long bytes lanes taken list l) (own-state a ok (tableOf a list K) (λ i n. table-row a ok list K i n) j (omega (arith, made))))
+      (λ (l : length list < tableSize a).
+      let none : stepsMade a (runningOf bytes lanes list) ≡ 0 = rw (runs-short bytes lanes taken list l) refl in
+      let z : j ≡ 0 = omega arith in
+      rw z refl)
+      (order (tableSize a) (length list))
+
+  -- as many steps are made as the state returned has done, by running and by judging, and a schedule reaches those that are judged
+  run-made : stepsMade (studyOf bytes lanes) (runningOf bytes lanes list) ≡ runningOf bytes lanes list .state .done
+  run-made = ⊎-elim
+      (λ (l : tableSize a ≤ length list). rw (runs-long bytes lanes taken list l) (end-made a (runSays a) (engineAfter a) ∙ sym (run-done a ok)))
+      (λ (l : length list < tableSize a). rw (runs-short bytes lanes taken list l) refl)
+      (order (tableSize a) (length list))
+
+  judge-made : (zs : List ℕ) → stepsMade (studyOf bytes lanes) (judgingOf bytes lanes zs) ≡ judgingOf bytes lanes zs .state .done
+  judge-made zs = ⊎-elim
+      (λ (l : length zs ≡ tableSize a). rw (judges-ends bytes lanes taken zs l) (end-made a (judgeSays a zs) (scheduledAt a zs) ∙ sym (judge-done a ok zs)))
+      (λ (n : length zs ≡ tableSize a → ⊥). rw (judges-length bytes lanes taken zs n) refl)
+      (sized bytes lanes taken zs)
+
+  judge-reaches : (zs : List ℕ) → Reaches (studyOf bytes lanes) zs (stepsMade (studyOf bytes lanes) (judgingOf bytes lanes zs))
+  judge-reaches zs = ⊎-elim
+      (promised bytes lanes taken list .grounds .reached zs)
+      (λ (n : length zs ≡ tableSize a → ⊥).
+      rw (judges-length bytes lanes taken zs n) (record { within = omega arith; obeys = λ j m. absurd (omega arith) }))
+      (sized bytes lanes taken zs)
+
+  module _ (w u : ℕ → ℕ) where
+    own : (k : ℕ) → k ≤ stepsMade (studyOf bytes lanes) (runningOf bytes lanes list)
+        → weighedIn w u (studyOf bytes lanes) (listAfter bytes lanes list) k ≡ weightedTotal w u (studyOf bytes lanes .road .n) (engineAfter (studyOf bytes lanes)) k
+    own k l = weighted-total-same w u (a .road .n) (scheduledAt a (listAfter bytes lanes list)) (engineAfter a) k (λ j m. states (suc j) (omega arith))
+
+    best : Falling w (studyOf bytes lanes .road .n) → (zs : List ℕ) (k : ℕ) → k ≤ stepsMade (studyOf bytes lanes) (runningOf bytes lanes list)
+        → Reaches (studyOf bytes lanes) zs k
+        → weighedIn w u (studyOf bytes lanes) (listAfter bytes lanes list) k ≤ weighedIn w u (studyOf bytes lanes) zs k
+    best falling zs k l reach =
+        rw (own k l)
+        (run-weighted a a (proposedAt a zs) k (rivals-self a ok k) (λ j m. fits j (omega (arith, made))) (reach .obeys) (ok .road) w u falling)
+
+    pub weighted-demand : WeightedDemand bytes lanes w u (listAfter bytes lanes list) (runningOf bytes lanes list) (weighingOf w u bytes lanes list)
+    unfolding weighingOf
+    weighted-demand =
+        let m = stepsMade a (runningOf bytes lanes list) in
+        record {
+          own = sym (own m (le-refl m));
+          best = best;
+          returned = λ falling zs e.
+              let k : m ≡ stepsMade a (judgingOf bytes lanes zs) = run-made ∙ e ∙ sym (judge-made zs) in
+              rw (← k, ← own m (le-refl m)) (best falling zs m (le-refl m) (rw (← k) at (judge-reaches zs)));
+        }
+
+-- how the number ends: 0 where the run did not begin, else that of the steps before the first fault
+module _ (w u : ℕ → ℕ) (bytes lanes list : List ℕ) where
+  weighed-none : stepsMade (studyOf bytes lanes) (runningOf bytes lanes list) ≡ 0 → weighingOf w u bytes lanes list ≡ 0
+  unfolding weighingOf
+  weighed-none e =
+      ap (weightedTotal w u (studyOf bytes lanes .road .n) (engineAfter (studyOf bytes lanes))) e
+      ∙ weighted-total-none w u (studyOf bytes lanes .road .n) (engineAfter (studyOf bytes lanes))
+
+  pub weighs-unopened : (openingOf bytes lanes .number ≡ 0 → ⊥) → weighingOf w u bytes lanes list ≡ 0
+  weighs-unopened h = weighed-none (rw (runs-unopened bytes lanes h list, ne-eqb (openingOf bytes lanes .number) 0 h) refl)
+
+  module _ (taken : Taken bytes lanes) where
+    pub weighs-short : length list < tableSize (studyOf bytes lanes) → weighingOf w u bytes lanes list ≡ 0
+    weighs-short l = weighed-none (rw (runs-short bytes lanes taken list l) refl)
+
+    pub weighs-long : tableSize (studyOf bytes lanes) ≤ length list
+        → weighingOf w u bytes lanes list
+        ≡ weightedTotal w u (studyOf bytes lanes .road .n) (engineAfter (studyOf bytes lanes)) (firstStep (runSays (studyOf bytes lanes)) (studyOf bytes lanes .steps))
+    unfolding weighingOf
+    weighs-long l =
+        let a = studyOf bytes lanes in
+        ap (weightedTotal w u (a .road .n) (engineAfter a)) (ap (stepsMade a) (runs-long bytes lanes taken list l) ∙ end-made a (runSays a) (engineAfter a))
