@@ -1,0 +1,59 @@
+"""What pyproject.toml can't say: the engine's library and the words of refusals come from the checkout around this folder, where bindings/build makes
+the library unless it is built; a source archive has both. The library makes the wheel one of its platform, for any Python 3.
+
+NOBYALUK_LIB_DIR names an archive proved elsewhere, NOBYALUK_ROOT a checkout elsewhere.
+"""
+import os
+import shutil
+import subprocess
+from pathlib import Path
+
+from setuptools import Distribution, setup
+from setuptools.command.build_py import build_py
+from setuptools.command.sdist import sdist
+
+try:
+    from setuptools.command.bdist_wheel import bdist_wheel
+except ImportError:  # before setuptools 70
+    from wheel.bdist_wheel import bdist_wheel
+
+HERE = Path(__file__).resolve().parent
+ROOT = Path(os.environ.get("NOBYALUK_ROOT") or HERE.parent.parent)
+ADDED = {"libnobyaluk.so": "target/bindings/libnobyaluk.so", "refusals.tsv": "docs/refusals.tsv"}
+
+
+def add(package):
+    """Puts what the checkout has into a package's folder; what is there already came with a source archive."""
+    missing = [name for name in ADDED if not (HERE / "nobyaluk" / name).exists()]
+    if missing and not (ROOT / "bindings/build").exists():
+        raise SystemExit("nobyaluk: not in its repository: set NOBYALUK_ROOT to a checkout")
+    if "libnobyaluk.so" in missing:
+        subprocess.run([ROOT / "bindings/build", "--unless-built"], check=True)
+    for name in missing:
+        shutil.copyfile(ROOT / ADDED[name], package / name)
+
+
+class Package(build_py):
+    def run(self):
+        shutil.rmtree(self.build_lib, ignore_errors=True)  # no module of an earlier build
+        super().run()
+        add(Path(self.build_lib, "nobyaluk"))
+
+
+class Source(sdist):
+    def make_release_tree(self, base_dir, files):
+        super().make_release_tree(base_dir, files)
+        add(Path(base_dir, "nobyaluk"))
+
+
+class Platform(Distribution):
+    def has_ext_modules(self):
+        return True
+
+
+class Wheel(bdist_wheel):
+    def get_tag(self):
+        return "py3", "none", super().get_tag()[2]
+
+
+setup(distclass=Platform, cmdclass={"build_py": Package, "sdist": Source, "bdist_wheel": Wheel})
