@@ -2,6 +2,7 @@
 import base64
 import csv
 import json
+import os
 import re
 import shutil
 import struct
@@ -19,6 +20,7 @@ from selenium.webdriver.common.keys import Keys
 
 ROOT = Path(__file__).resolve().parents[2]
 PAGE = ROOT / "target/wasm/nobyaluk.html"
+VERSION = (ROOT / "VERSION").read_text().strip()
 CTM, REFERENCE = ROOT / "target/bin/ctm", ROOT / "reference/target/release/reference"
 BASES = {"bottleneck": "bottleneck", "rocade": "rocade-sud-seconds", "classroom": "classroom", "printed": "printed-run"}
 RAMPS = {"bottleneck": (4, 6), "rocade": (2, 5, 7, 11, 14, 16, 19, 21), "classroom": (), "printed": (2,)}
@@ -464,12 +466,36 @@ def graded(page):
         shape = {"record": base64.b64encode(exercise).decode(), "seed": seed, "cells": road.n, "steps": road.steps}
         assert saved == {"format": "nobyaluk-answers", "version": 1, "exercise": shape, "name": "Zoë O’Neill", "total": int(total[0]), "gate": int(total[1]),
                          "road": int(total[2]), "ramp": "12.5", "whose": "everyone’s"}, saved
+        marked(page, exercise, seed, total)
     page.drop("road.toml", b"title = 1")  # a file dropped on it changes nothing
     assert page["sheet"].is_displayed() and page["name"].get_attribute("value") == "Zoë O’Neill"
     page.open(mode="graded", rec=in_link(record)[:-9])
     assert page.text("exercise-refused").startswith("This link is cut short") and not page["sheet"].is_displayed()
     page.driver.execute_script("location.hash = 'lang=en&mode=exercise'")  # and the same tab takes another link
     page.until(lambda: page.driver.find_elements(By.ID, "judge") and page["judge"].is_displayed(), "the practice form")
+
+
+def marked(page, exercise, seed, total):
+    """The file that the page has saved, marked as it is: against the exercise, and in a class of the same seed with a second student."""
+    folder, file = page.folder / f"class-{seed}", page.folder / "answers-zoë-o-neill.json"
+    (page.folder / "exercise.rec").write_bytes(exercise)
+    (page.folder / "names.txt").write_text("Zoë O’Neill\nBen\n")
+    of = ["--seed", seed, "--cells", 3, "--steps", 4] if seed is not None else [page.folder / "exercise.rec"]
+    nobyaluk("exercise", *of, "--students", page.folder / "names.txt", "-o", folder, "--no-pdf", "--force")
+    for against in (page.folder / "exercise.rec", folder):
+        nobyaluk("mark", against, file, "-o", page.folder / "marks")
+        with open(page.folder / "marks.csv", encoding="utf-8", newline="") as f:
+            row = next(row for row in csv.DictReader(f) if row["student"] == "Zoë O’Neill")
+        told = [row[key] for key in ("outflows", "states", "gate time", "road time", "ramp time", "total given", "total", "whose waiting, as written", "notes")]
+        assert told == ["right", "follow from its outflows", "right", "right", f"12.5, not {total[3]}", total[0], "right", "everyone’s",
+                        "the page asks for whole thousandths of a vehicle; marked as typed: 12.5"], row
+
+
+def nobyaluk(*words):
+    """A command of ./nobyaluk, by this Python."""
+    path, library = str(ROOT / "bindings/python"), str(ROOT / "target/bindings/libnobyaluk.so")
+    subprocess.run([sys.executable, "-m", "nobyaluk", *(str(x) for x in words)], check=True, stdout=subprocess.DEVNULL,
+                   env={**os.environ, "PYTHONPATH": path, "NOBYALUK_LIBRARY": library, "PYTHONDONTWRITEBYTECODE": "1"})
 
 
 def widths(page):
@@ -509,6 +535,7 @@ def languages(page):
             page.open(lang=lang, mode=mode, study="rocade", law="alinea", works=1, cells=8)
             shown = page.driver.find_element(By.TAG_NAME, "body").text
             assert "{" not in shown and "undefined" not in shown and "NaN" not in shown, lang
+            assert mode == "graded" or f"Nobyaluk {VERSION}" in shown, f"{lang}, {mode}: the page does not say its version"
             unnamed = page.driver.execute_script(
                 "return [...document.querySelectorAll('input, select, button, canvas')].filter((x) => !(x.labels?.length && x.labels[0].textContent.trim())"
                 " && !x.getAttribute('aria-label') && !(x.tagName === 'BUTTON' && x.textContent.trim()) && !x.closest('[hidden]')).map((x) => x.id)")

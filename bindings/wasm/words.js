@@ -64,7 +64,7 @@ function speak() {
   for (const x of document.querySelectorAll("[data-label]")) x.setAttribute("aria-label", t(x.dataset.label));
   if (graded) return;
   for (const select of ["study", "law"]) for (const o of $(select).options) o.textContent = t(`${select}.${o.value}`);
-  $("module").textContent = t("believed.module", { bytes: say(DATA.bytes, 0), sum: DATA.sum });
+  $("module").textContent = t("believed.module", { version: DATA.version, bytes: say(DATA.bytes, 0), sum: DATA.sum });
 }
 
 // What was given in place of a record, and what to do: a key of the texts, and what it names.

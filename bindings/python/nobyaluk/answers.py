@@ -17,7 +17,8 @@ from .sheet_words import Words
 
 MOST_BYTES = 1 << 20  # of one answer
 MOST_WORDS = 2000  # letters of a student's text that are kept
-TIMES = ("gate", "road", "ramp", "total")
+TABLES, TIMES = ("outflows", "held", "queue"), ("gate", "road", "ramp", "total")
+Column = tuple[str, int]  # a table and a column of it, from 0; or a time and 0
 
 
 @dataclass(frozen=True)
@@ -37,8 +38,8 @@ class Number:
 
     @property
     def is_of_vehicles(self) -> bool:
-        """Whether it can only be a number of vehicles: it has a decimal mark that sets no thousands apart."""
-        return self.groups is None and self.decimals > 0
+        """Whether it can only be a number of vehicles: its decimals are not zeros, and their mark sets no thousands apart."""
+        return self.groups is None and self.value.denominator != 1
 
 
 def number_of(text: str) -> Number | None:
@@ -58,6 +59,10 @@ def number_of(text: str) -> Number | None:
     if found := re.fullmatch(r"([0-9]{0,15})[.,]([0-9]{1,12})", bare):
         groups = int(found[1] + found[2]) if re.fullmatch(r"[1-9][0-9]{0,2}", found[1]) and len(found[2]) == 3 else None
         return Number(text, Fraction(f"{found[1] or 0}.{found[2]}"), len(found[2]), groups)
+    if re.fullmatch(r"[-−–][.,]?[0-9][0-9.,]*", bare):
+        raise ValueError(f"{shown(text)} is below 0; every count and every time is 0 or more")
+    if re.fullmatch(r"[0-9]{16,}", bare):
+        raise ValueError(f"{shown(text)} has more than 15 digits")
     raise ValueError(f"{shown(text)} is no number")
 
 
@@ -74,11 +79,22 @@ class Answer:
     times: dict[str, Number | None] = field(default_factory=dict)  # of TIMES
     whose: str = ""
     vehicles: bool | None = None  # the unit that it states; None where it states none
+    by_page: bool = False  # whether the page saved it, which takes thousandths of a vehicle and nothing else
 
-    def numbers(self) -> list[Number]:
-        """Every number of it."""
-        rows = [x for table in (self.outflows, self.held, self.queue) for row in table for x in row]
-        return [x for x in (*rows, *self.times.values()) if x is not None]
+    def columns(self) -> dict[Column, list[Number]]:
+        """Its numbers by column: each outflow and state of the table, and each time."""
+        found: dict[Column, list[Number]] = {}
+        for key in TABLES:
+            for row in getattr(self, key):
+                for j, x in enumerate(row):
+                    found.setdefault((key, j), []).extend([x] if x is not None else [])
+        found |= {(key, 0): [x] for key, x in self.times.items() if x is not None}
+        return {column: numbers for column, numbers in found.items() if numbers}
+
+    @property
+    def is_empty(self) -> bool:
+        """Whether nothing is answered."""
+        return not self.columns() and not self.whose
 
 
 def _known() -> dict[str, str]:
@@ -236,6 +252,7 @@ def _of_json(text: str, name: str, n: int, ramps: int, steps: int) -> Answer:
     """The file that the page saves; its format is defined in bindings/wasm/exercise.js."""
     top = _json(text, name)
     answer = _head_of_json(top, name)
+    answer.vehicles, answer.by_page = False, True
     for key, width in (("outflows", n + 1), ("held", n + 1), ("queue", ramps)):
         rows = top.get(key)
         if not isinstance(rows, list) or len(rows) != steps or any(not isinstance(row, list) or len(row) != width for row in rows):

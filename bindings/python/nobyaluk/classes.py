@@ -6,7 +6,7 @@ from pathlib import Path
 from . import answers, marking, output
 from .engine import Refused
 from .exercise import MOST_STUDENTS, Seat, file_name, of_file, read_class
-from .faults import StudyError
+from .faults import RefusedStudy, StudyError
 from .inputs import same_file
 from .marking import Mark
 
@@ -79,8 +79,6 @@ def one(seats: list[Seat], path: Path) -> tuple[Mark, Seat | None]:
 
 def mark(args: argparse.Namespace) -> int:
     """Marks all answers and writes both tables; 2 where none could be read."""
-    from .cli import RefusedStudy
-
     stem = Path(args.output)
     stem = stem.with_suffix("") if stem.suffix in (".csv", ".html") else stem
     outputs = [stem.with_name(f"{stem.name}{x}") for x in (".csv", ".html")]
@@ -118,7 +116,7 @@ def class_files(name: str) -> list[Path]:
 def said(m: Mark) -> str:
     """One line of a student's mark."""
     if m.fault:
-        return "no answer" if not m.file else "can't be read"
+        return "nothing is answered" if m.empty else "no answer" if not m.file else "can't be read"
     total = "no total" if m.right is None else "total right" if m.right else f"total {m.total}, {m.best} is right ({m.diagnosis})"
     extra = f"; {m.diagnosis}" if m.right is not False and m.diagnosis else ""
     return f"outflows {m.outflows}{extra}; {total}"

@@ -16,13 +16,14 @@ from .faults import StudyError, shown, whole
 from .forms import plain
 from .inputs import read_record, read_text
 from .marking import mistakes
+from .progress import Progress
 from .sheet import Exercise
 from .sheet_words import LANGUAGES, Words
 from .study import Study
 
 MOST_STUDENTS, MOST_NAME = 2000, 100
 MOST_LIST = 1 << 20  # bytes of a list of students, or of class.csv
-CELLS, STEPS = 4, 6  # of a road that a seed draws, unless said
+CELLS, STEPS = 4, 6  # of a road that a seed draws
 
 
 @dataclass(frozen=True)
@@ -177,16 +178,15 @@ def files_of(seats: list[Seat], t: Words, title: str, folder: Path) -> dict[Path
 
 def write(seats: list[Seat], args: argparse.Namespace) -> None:
     """Writes a class's folder, and says what is in it."""
-    from .cli import progress
-
     t, folder = Words(args.lang), Path(args.output)
     files = files_of(seats, t, args.title or "", folder)
     pages = {path: data for path, data in files.items() if path.suffix == ".html"}
     make = None if args.no_pdf else sheet.pdf_maker()
-    say, pdfs = progress(len(pages), "PDFs"), {}
-    for path, data in pages.items() if make else ():
-        pdfs[path.with_suffix(".pdf")] = make(data)
-        say(len(pdfs))
+    pdfs: dict[Path, bytes] = {}
+    with Progress(len(pages), "PDFs") as say:
+        for path, data in pages.items() if make else ():
+            pdfs[path.with_suffix(".pdf")] = make(data)
+            say(len(pdfs))
     for name in ("", "sheets", "records"):
         output.make_folder(folder / name)
     convert.write_all({**files, **pdfs}, pdfs, getattr(args, "force", False))

@@ -10,6 +10,60 @@ class StudyError(ValueError):
     """A fault in a study's files, told with its file and place."""
 
 
+class RefusedStudy(Exception):
+    """A study that the engine refuses, in the study's own words; `refused` is the refusal."""
+
+    def __init__(self, said: str, refused: Any) -> None:
+        super().__init__(said)
+        self.refused = refused
+
+
+class Faults:
+    """The faults of one file, gathered so that all are told at once; those that say the same are told together, with their rows."""
+
+    LINES, SPANS = 20, 8  # that are told
+
+    def __init__(self, path: str) -> None:
+        self.path, self.hint = path, ""
+        self.found: dict[str, list[int]] = {}
+
+    def add(self, row: int | None, says: object) -> None:
+        """A fault of a row, or of the file; its words may begin with both."""
+        words = str(says).removeprefix(self.path)
+        if found := re.match(r", row ([0-9]{1,15})", words):
+            row, words = int(found[1]), words[found.end() :]
+        rows = self.found.setdefault(words, [])
+        if row is not None:
+            rows.append(row)
+
+    def check(self) -> None:
+        """Raises what was gathered, if anything was."""
+        if not self.found:
+            return
+        if len(self.found) == 1:
+            (says, rows), = self.found.items()
+            raise StudyError(f"{self.path}{', ' if rows else ''}{self.spans(rows)}{says}" + (f"; {self.hint}" if self.hint else ""))
+        kinds = sorted(self.found.items(), key=lambda x: x[1][:1])
+        count = sum(max(len(rows), 1) for rows in self.found.values())
+        lines = [f"{self.spans(rows)}{says}" if rows else says.removeprefix(": ") for says, rows in kinds[: self.LINES]]
+        if left := sum(max(len(rows), 1) for _, rows in kinds[self.LINES :]):
+            lines.append(f".. and {left} more")
+        raise StudyError("\n  ".join([f"{self.path}: {count} faults:", *lines, *([self.hint] if self.hint else [])]))
+
+    def spans(self, rows: list[int]) -> str:
+        """Rows in words: row 4; rows 4, 7 to 9."""
+        found: list[list[int]] = []
+        for row in sorted(set(rows)):
+            if found and row == found[-1][1] + 1:
+                found[-1][1] = row
+            else:
+                found.append([row, row])
+        words = [str(a) if a == b else f"{a} to {b}" for a, b in found[: self.SPANS]]
+        if left := sum(b - a + 1 for a, b in found[self.SPANS :]):
+            words.append(f"and {left} more")
+        return f"row{'s' if len(set(rows)) > 1 else ''} {', '.join(words)}" if rows else ""
+
+
 def shown(x: Any) -> str:
     """What is there, for a fault's words: cut where it is long, as a number of thousands of digits is."""
     if isinstance(x, int) and not isinstance(x, bool) and x.bit_length() > 200:

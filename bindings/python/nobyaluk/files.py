@@ -26,8 +26,8 @@ KEYS = {
     "gate.parts": {"capacity", "queue"},
     "cell": {"name", "length", "speed", "wave", "jam", "capacity", "split", "ramp", "held", "density", "queue", "lanes", "parts"},
     "cell.parts": {"v", "w", "b", "J", "C", "held", "queue"},
-    "arrivals": {"file", "unit", "columns", *tables.CLOCKS},
-    "releases": {"file", "unit", "columns", "cap", *tables.CLOCKS},
+    "arrivals": {*tables.KEYS, *tables.CLOCKS},
+    "releases": {*tables.KEYS, "cap", *tables.CLOCKS},
     "meter": {"law", "rate", "gain", "gain_kmh", "target", "capacity", "critical", "least", "parts"},
     "meter.parts": {"rate", "gain", "target", "capacity", "critical", "least"},
     "closure": {"cell", "lanes", "from", "to"},
@@ -126,6 +126,7 @@ class Reader:
         self.top = Table(self.source.values, str(path))
         self.rounding: list[Rounded] = []
         self.notes: list[str] = []
+        self.filled: list[tables.Filled] = []
         self.lengths: list[Fraction | None] = []
         self.names: list[str] = []
         self.built: list[int] = []
@@ -172,7 +173,7 @@ class Reader:
             raise StudyError(f"{self.path}: {e}{self.limits(e, road, start)}") from None
         laws = self.laws(road, tabled, plan is not None)
         return Study(self.path.stem, self.title(), record, self.seconds, self.start, self.all_lengths(), self.names,
-                     self.ramps, self.works(road), laws, plan, self.weights(road), self.rounding, self.notes, self.built)
+                     self.ramps, self.works(road), laws, plan, self.weights(road), self.rounding, self.notes, self.built, self.filled)
 
     def all_lengths(self) -> list[float] | None:
         """The cells' lengths; none where one is missing, which is noted."""
@@ -225,7 +226,7 @@ class Reader:
             if self.seconds not in (None, step):
                 raise self.of("step").fault("step", f"is {step}, and {path.name} has steps of {self.seconds} s")
             self.seconds = step
-        elif self.seconds is None and ("meter" in self.top or "releases" in self.top):
+        elif self.seconds is None and self.asks_seconds():
             raise self.of("record").fault("step", f"is missing: {path.name} doesn't say a step's seconds")
         self.tell_time()
         cells = self.several("cell") or [Table({}, "") for _ in range(road.n)]
@@ -240,6 +241,13 @@ class Reader:
             self.lengths.append(c.number("length", low=_LEAST) if "length" in c else None)
             self.called(c, i, c.values.get("ramp", str(i + 1)) if road.ramp[i] else None)
         return road, record.begin, record.rows.copy()
+
+    def asks_seconds(self) -> bool:
+        """Whether laws or releases are in units that a step's seconds turn into the engine's."""
+        laws, table = self.top.values.get("meter", {}), self.top.values.get("releases", {})
+        own = lambda x: isinstance(x, dict) and ("parts" in x or x.get("law") == "open")
+        steps = isinstance(table, dict) and (table.get("unit") in ("parts", "veh") and "step" in table or all(x == 0 for x in table.values()))
+        return not isinstance(laws, dict) or not all(own(x) for x in laws.values()) or not steps
 
     def road(self) -> tuple[engine.Road, engine.Start]:
         cells = self.several("cell")
@@ -352,12 +360,17 @@ class Reader:
             told = ", ".join(f"`{tables._key(x)} = 0`" for x in missing)
             fits = "".join(f"; {x!r} has no row{fitting(x, given.others)}" for x in missing[:3]) if given.others else ""
             raise StudyError(f"{given.where}: nothing says what arrives at {', '.join(missing)}{fits}; where nobody arrives, write {told} in [arrivals]")
-        self.notes += given.notes
+        self.take(given)
         rows = np.zeros((self.steps, 1 + 2 * road.n), np.uint32)
         rows[:, 0] = given.parts["gate"]
         for name, cell in self.ramps.items():
             rows[:, 2 * cell - 1] = given.parts[name]
         return rows
+
+    def take(self, given: tables.Given) -> None:
+        """Keeps what a table's file is noted for, and what was filled in it."""
+        self.notes += given.notes
+        self.filled += given.filled
 
     def releases(self, road: engine.Road, rows: np.ndarray) -> tuple[np.ndarray | None, list[str]]:
         """The plan of [releases], and the ramps that it names; exact releases are put into the rows."""
@@ -365,7 +378,7 @@ class Reader:
             return None, []
         table = Table(self.top.values["releases"], f"{self.file('releases')}: [releases]")
         given = tables.read(table, self.file("releases").parent, "releases.csv", list(self.ramps), self.clock)
-        self.notes += given.notes
+        self.take(given)
         plan = np.zeros((self.steps, road.n), np.uint32)
         exact = not table.flag("cap", True)
         for name, parts in given.parts.items():
@@ -427,12 +440,12 @@ class Reader:
         return laws
 
     def law(self, m: Table, law: str, road: engine.Road, cell: int) -> tuple:
-        rate, i = self.seconds / 3600 * 1000, cell - 1
-        critical = half_up(Fraction(1000 * road.capacity[i], road.speed[i])) if road.speed[i] else 0
         if "parts" in m:
             return _own_numbers(m, law)
         if law == "open":
             return "fixed", float(engine.RATE)
+        rate, i = self.seconds / 3600 * 1000, cell - 1
+        critical = half_up(Fraction(1000 * road.capacity[i], road.speed[i])) if road.speed[i] else 0
         if law == "fixed":
             return "fixed", float(m.number("rate") * rate)
         if law == "demand-capacity":
@@ -484,11 +497,10 @@ class Reader:
         else:
             places = [w.whole("road", 1, high=255)] * road.n
         named = w.values.get("ramps", 1)
-        ramps = [1 if isinstance(named, dict) else w.whole("ramps", 1, high=255)] * road.n
-        if isinstance(named, dict):
-            each = Table(named, f"{w.where}: ramps", self.ramps)
-            for name in named:
-                ramps[self.ramps[name] - 1] = each.whole(name, high=255)
+        each = Table(named if isinstance(named, dict) else dict.fromkeys(self.ramps, w.whole("ramps", 1, high=255)), f"{w.where}: ramps", self.ramps)
+        ramps = [1] * road.n  # also where there is no ramp
+        for name in each.values:
+            ramps[self.ramps[name] - 1] = each.whole(name, high=255)
         return [w.whole("gate", 1, high=255), *places], ramps
 
 
@@ -510,25 +522,3 @@ def _own_numbers(m: Table, law: str) -> tuple:
         raise m.fault("parts", "belongs to another law; open takes nothing else")
     raw = Table(m.values["parts"], f"{m.where} parts", engine.TAKES[law])
     return law, *(float(raw.number(key, low=-10**30)) for key in engine.TAKES[law])
-
-
-def varied(path: str | Path, key: str, value: Any) -> Study:
-    """The study of a file with one number changed: `meter.all.rate`, `defaults.capacity`, `cell.3.capacity` (cells and lists from 1)."""
-    source = parsed(Path(path))
-    *way, last = key.split(".")
-    at: Any = source.values
-    for word in way:
-        if (at := _at(at, word)) is None:
-            raise StudyError(f"{path}: there is no `{key}` to vary")
-    if isinstance(at, list) and _at(at, last) is None or not isinstance(at, (dict, list)) or isinstance(_at(at, last), (dict, list)):
-        raise StudyError(f"{path}: `{key}` is no number to vary")
-    at[int(last) - 1 if isinstance(at, list) else last] = value
-    return Reader(Path(path), source).study()
-
-
-def _at(table: Any, word: str) -> Any:
-    """What a table has at a key, or a list at a number from 1; None where it has nothing there."""
-    if isinstance(table, list):
-        k = int(word) if word.isdecimal() and len(word) < 9 else 0
-        return table[k - 1] if 1 <= k <= len(table) else None
-    return table.get(word) if isinstance(table, dict) else None

@@ -7,7 +7,7 @@ state, and what entered a cell is `entering` of the place above it. Python's own
 and the weighted total, as the sum of `weighted` after each step. Judging has no step of its own: it takes a record.
 """
 from collections.abc import Mapping
-from dataclasses import dataclass, field
+from dataclasses import dataclass
 from typing import Any
 
 import numpy as np
@@ -20,21 +20,32 @@ _STATE = np.dtype([("done", "<u8"), ("gate_time", "<u8"), ("road_time", "<u8"), 
 _BEGIN = [8, *range(10, 10 + 2 * engine.CELLS)]  # where a state's words have what a start has: the gate's queue, held counts and queues
 
 
-@dataclass(frozen=True)
+@dataclass(frozen=True, eq=False, repr=False)
 class LongRecord(Held):
-    """A road, a start and more rows than a record holds, each within the engine's limits."""
-    road: Road = field(repr=False)
-    start: State = field(repr=False)
-    rows: np.ndarray = field(repr=False)
+    """A road, a start and more rows than a record holds, each within the engine's limits; it keeps copies, which nothing can change."""
+    road: Road
+    start: State
+    rows: np.ndarray
 
     def __post_init__(self) -> None:
         if not isinstance(self.road, Road) or not isinstance(self.start, State):
             raise TypeError("a LongRecord has a Road and a State; `long.record` makes one of a Road and a Start")
-        rows = engine._numbers(self.rows).copy()
+        rows = engine._numbers(self.rows)
         if rows.ndim != 2 or rows.shape[1] != 1 + 2 * self.road.n:
             raise ValueError(f"rows of {self.road.n} cells have {1 + 2 * self.road.n} numbers each")
-        rows.flags.writeable = False
-        object.__setattr__(self, "rows", rows)
+        for name, kept in (("rows", engine._frozen(rows)), ("road", self.road), ("start", self.start)):  # copies
+            object.__setattr__(self, name, kept)
+
+    def __eq__(self, other: Any) -> bool:
+        if not isinstance(other, LongRecord):
+            return NotImplemented
+        return self.road == other.road and self.start == other.start and np.array_equal(self.rows, other.rows)
+
+    def __hash__(self) -> int:
+        return hash(self.rows.tobytes())
+
+    def __repr__(self) -> str:
+        return f"LongRecord({self.road.n} cells, {self.steps} steps)"
 
     def __reduce__(self) -> tuple:
         return LongRecord, (self.road, self.start, self.rows)
@@ -70,7 +81,7 @@ class Walk:
         n, lanes = record.road.n, engine._plain(lanes)
         if lanes and len(lanes) != n * (record.steps + 1):
             raise Refused(17, 0, 0)
-        self.record, self.lanes, self.state, self.rows = record, lanes, record.start, engine._numbers(record.rows).copy()
+        self.record, self.road, self.lanes, self.state, self.rows = record, record.road, lanes, record.start, engine._numbers(record.rows).copy()
         if self.rows.shape != (record.steps, 1 + 2 * n):
             raise ValueError(f"the rows are {self.rows.shape}; {record.steps} steps have {1 + 2 * n} numbers each")
         self.table = [lanes[at : at + n] for at in range(0, len(lanes), n)]
@@ -88,7 +99,7 @@ class Walk:
         """Goes on by the next row."""
         k = self.done
         lanes = engine.Lanes.from_buffer_copy(self.table[0].ljust(64, b"\0") + self.table[k + 1].ljust(64, b"\0")) if self.table else self.open
-        a = engine._step(self.record.road, self.state, *engine._lent(self.rows[k]), lanes)
+        a = engine._step(self.road, self.state, *engine._lent(self.rows[k]), lanes)
         if a.number:
             raise Refused(a.number, k, a.place)
         self.state = a.state
@@ -101,12 +112,12 @@ class Walk:
 
     def granted(self, kinds: bytes, numbers: np.ndarray) -> np.ndarray:
         """The same of laws as the boundary takes them."""
-        k, n = self.done, self.record.road.n
+        k, n = self.done, self.road.n
         start = Start.from_buffer_copy(np.minimum(np.frombuffer(self.state, np.uint32)[_BEGIN], engine.START).tobytes())
         self._row[:] = self.rows[k]
         self._row[2::2] = 0
         row, one, out = self._lent
-        written = engine._passed(engine._write(self.record.road, 1, start, *row, *one), step=k)
+        written = engine._passed(engine._write(self.road, 1, start, *row, *one), step=k)
         lanes = self.table[0] + self.table[k + 1] if self.table else b""
         e = engine._fill(one[0], written.count, kinds, engine.CELLS, *engine._lent(numbers), lanes, len(lanes), *out)
         engine._passed(e, step=k)
@@ -115,16 +126,16 @@ class Walk:
 
     def run(self, weights: tuple[Any, Any] | None = None) -> Run:
         """The run of the steps done, with the states' own numbers."""
-        record, n = self.record, self.record.road.n
+        record, road, n = self.record, self.road, self.road.n
         s = np.frombuffer(b"".join(self.states), _STATE)
         cumulative = np.column_stack([s["gate_cumulative"], s["cumulative"][:, :n]])
         outflow = np.diff(cumulative, axis=0, prepend=np.zeros((1, n + 1), np.uint32))
         held = np.column_stack([s["gate_queue"], s["held"][:, :n]])
         queue = np.column_stack([np.zeros(len(s), np.uint32), s["queue"][:, :n]])
         end = self.state
-        total, present, exits = engine.total(end), engine.present(record.road, end), engine.exits(record.road, end)
-        weighted = sum(engine.weighted(record.road, State.from_buffer_copy(x), *weights) for x in self.states) if weights else None
-        filled = LongRecord(record.road, record.start, self.rows)
+        total, present, exits = engine.total(end), engine.present(road, end), engine.exits(road, end)
+        weighted = sum(engine.weighted(road, State.from_buffer_copy(x), *weights) for x in self.states) if weights else None
+        filled = LongRecord(road, record.start, self.rows)
         return Run(filled, self.lanes, outflow, end, total, present, exits, weighted, (held, queue))
 
 
@@ -182,7 +193,7 @@ class Metered:
         """Of the place above the cell at i: its onward share, its cumulative outflow before the step, and its outflow in the step."""
         if i == 0:
             return engine.WHOLE, before.gate_cumulative, after.gate_cumulative - before.gate_cumulative
-        return self.walk.record.road.share[i - 1], before.cumulative[i - 1], after.cumulative[i - 1] - before.cumulative[i - 1]
+        return self.walk.road.share[i - 1], before.cumulative[i - 1], after.cumulative[i - 1] - before.cumulative[i - 1]
 
 
 def fill(record: Held, laws: Mapping[int, Law], lanes: bytes = b"", weights: tuple[Any, Any] | None = None) -> Run:

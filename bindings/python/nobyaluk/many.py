@@ -4,14 +4,16 @@ A call of the engine gives up Python's lock and the engine keeps no state, so th
 variants are made in Python on the way, processes do more. Studies travel to them as their records' bytes, variants as recipes.
 """
 import logging
-import os
+import pickle
 import sys
 import threading
 import time
 from collections import deque
 from collections.abc import Callable, Iterable, Iterator
-from concurrent.futures import CancelledError, Executor, Future, ProcessPoolExecutor, ThreadPoolExecutor
+from concurrent.futures import CancelledError, Executor, Future, ThreadPoolExecutor
+from contextlib import suppress
 from fractions import Fraction
+from functools import partial
 from itertools import islice
 from typing import Any, NamedTuple
 
@@ -21,11 +23,15 @@ from . import engine
 from .engine import Refused
 from .faults import StudyError, shown
 from .study import Study, load
-from .summary import waiting
+from .summary import longest_queues
+from .workers import Batches, Workers, processors
 
 TIMEOUT = 20  # seconds until a scheduler has answered
 PATIENCE = 60  # seconds that a cluster may be without workers
 PATROL = 5  # seconds between two looks at a cluster whose answer is waited for
+PAYS = 0.25  # seconds of work left for which processes are started
+LOGGERS = ("distributed", "concurrent.futures", "tornado", "asyncio")  # of Dask
+DASK_TASK = 0.05  # seconds that a task of a cluster should take
 
 
 class Totals(NamedTuple):
@@ -63,7 +69,7 @@ def totals(study: Study) -> Totals:
     record = study.record
     try:
         if study.laws or study.plan is not None or study.weights or not isinstance(record, engine.Record):
-            r = study.run()
+            r = study._run()
             return Totals(study.name, r.total, r.gate, r.road, r.ramp, r.exits, r.present, r.weighted, seconds=study.seconds)
         data, lanes = engine._data(record), engine._plain(study.lanes)
         at, size = _outflows()
@@ -79,11 +85,10 @@ def totals(study: Study) -> Totals:
 def totals_and_queues(study: Study) -> Totals:
     """The totals of a study with its longest queues."""
     try:
-        r = study.run()
+        r = study._run()
     except Refused as e:
         return Totals(study.name, refused=e)
-    queues = int(waiting(r).max()), int(r.queue.max())
-    return Totals(study.name, r.total, r.gate, r.road, r.ramp, r.exits, r.present, r.weighted, *queues, seconds=study.seconds)
+    return Totals(study.name, r.total, r.gate, r.road, r.ramp, r.exits, r.present, r.weighted, *longest_queues(r), seconds=study.seconds)
 
 
 Recipe = Callable[[], Study]  # as functools.partial(study.scaled, 1.05)
@@ -94,14 +99,29 @@ def _all(each: Callable[[Study], Any], group: list[Study | str | Recipe]) -> lis
 
 
 def _one(each: Callable[[Study], Any], x: Study | str | Recipe) -> Any:
-    """What `each` gives of a study; where totals are wanted, a study that can't be made has its fault in them."""
+    """What `each` gives of a study; where totals are wanted, a study that can't be made or run has its fault in them."""
     try:
-        study = x if isinstance(x, Study) else x() if callable(x) else load(x)
-    except (StudyError, Refused) as e:
+        return each(x if isinstance(x, Study) else x() if callable(x) else load(x))
+    except Exception as e:  # noqa: BLE001 whatever is wrong with one study, the others go on
         if each not in (totals, totals_and_queues):
             raise
-        return Totals(str(x), refused=e if isinstance(e, Refused) else None, fault=str(e))
-    return each(study)
+        known = isinstance(e, (StudyError, Refused))
+        return Totals(_name(x), refused=e if isinstance(e, Refused) else None, fault=str(e) if known else f"{type(e).__name__}: {e}"[:300])
+
+
+def _name(x: Study | str | Recipe) -> str:
+    """What a study is called before it is made."""
+    if isinstance(x, Study):
+        return x.name
+    if not isinstance(x, partial):
+        return str(x)
+    of = getattr(getattr(x.func, "__self__", None), "name", "")
+    return " ".join(filter(None, [of, getattr(x.func, "__name__", ""), *(f"{float(v):g}" if isinstance(v, Fraction) else str(v)[:60] for v in x.args)]))
+
+
+def lost(x: Study | str | Recipe, how: str) -> Totals:
+    """The totals of a study at which processes died."""
+    return Totals(_name(x), fault=f"two processes ended at it, the last {how}; it may need more memory than there is")
 
 
 def _result(future: Future, watch: Callable[[], None] | None) -> Any:
@@ -125,8 +145,9 @@ def map(studies: Iterable[Study | str | Recipe], executor: Executor | None = Non
     """
     if batch < 1:
         raise ValueError(f"a task has at least one study, not {batch}")
-    pool = executor or ThreadPoolExecutor(workers or os.cpu_count())
-    ahead, done = 4 * (workers or getattr(pool, "_max_workers", None) or os.cpu_count() or 1), 0
+    workers = min(workers or processors(), processors())
+    pool = executor or ThreadPoolExecutor(workers)
+    ahead, done = 4 * (workers if executor is None else getattr(executor, "_max_workers", None) or 16), 0
     pending: deque = deque()
 
     def finished() -> Iterator[Any]:
@@ -152,11 +173,22 @@ def map(studies: Iterable[Study | str | Recipe], executor: Executor | None = Non
             pool.shutdown(cancel_futures=True)
 
 
-def processes(workers: int | None, studies: int) -> Executor | None:
-    """An executor of at most this machine's processors, where there are several and enough studies to make up for starting it."""
-    processors = os.cpu_count() or 1
-    workers = min(workers or processors, processors, studies)
-    return ProcessPoolExecutor(workers) if workers > 1 and studies >= 200 else None
+def spread(studies: Iterable[Study | str | Recipe], count: int, each: Callable[[Study], Any] = totals, workers: int | None = None) -> Iterator[list[Any]]:
+    """What `each` gives of so many studies, in groups in their order: here, or by processes as soon as the time that is left pays for them.
+
+    There are at most as many processes as processors and studies.
+    """
+    most, batches, done = min(workers or processors(), processors(), count), Batches(studies), 0
+    while group := batches.next():
+        began = time.perf_counter()
+        out = _all(each, group)
+        batches.took(len(out), time.perf_counter() - began)
+        done += len(out)
+        yield out
+        if most > 1 and (count - done) * batches.each > PAYS:
+            with Workers(most, partial(_all, each), lost) as pool:
+                yield from pool.map(batches)
+            return
 
 
 class NoCluster(Exception):
@@ -173,7 +205,7 @@ class Cluster:
             from distributed.comm import resolve_address
         except ImportError:
             raise ImportError("a cluster needs Dask: apt-get install python3-distributed, or pip install distributed") from None
-        for name in ("distributed", "concurrent.futures"):  # their tracebacks; what is lost is reported here
+        for name in (*LOGGERS, *(x for x in logging.root.manager.loggerDict if x.startswith(LOGGERS))):  # their tracebacks; what is lost is reported here
             logging.getLogger(name).setLevel(logging.CRITICAL + 1)
         try:
             resolve_address(address)
@@ -192,7 +224,7 @@ class Cluster:
             self.client = Client(address, timeout=f"{TIMEOUT}s")
         except OSError:
             raise NoCluster(f"the scheduler at {address} does not answer within {TIMEOUT} s") from None
-        self.executor = self.client.get_executor()
+        self.executor = self.client.get_executor(pure=False)  # a task's key by chance, not by all bytes of its studies
 
     def watch(self) -> None:
         """NoCluster where the scheduler is gone, or workers have been missing for too long."""
@@ -211,23 +243,62 @@ class Cluster:
         elif now - self.without >= PATIENCE:
             raise NoCluster(f"the cluster at {self.address} has no workers, and none came within {PATIENCE} s")
 
-    def map(self, studies: Iterable[Study | str | Recipe], **how: Any) -> Iterator[Any]:
-        """`map` over its workers; NoCluster where they are lost on the way."""
+    def spread(self, studies: Iterable[Study | str | Recipe], each: Callable[[Study], Any] = totals) -> Iterator[list[Any]]:
+        """What `each` gives of every study, in groups in their order, by its workers; NoCluster where they are lost on the way.
+
+        A task takes some milliseconds. The studies of one at which workers die are run again one by one, and then named.
+        """
+        from distributed import KilledWorker
+        from distributed.protocol.pickle import dumps  # which takes functions of a notebook too
+
         self.watch()
         while self.without is not None:
             time.sleep(min(1, PATIENCE / 4))
             self.watch()
+        batches, pending = Batches(studies, DASK_TASK), deque()
+        ahead = max(8, 4 * sum(self.client.nthreads().values()))
+        submit = lambda group: self.client.submit(_packed, dumps((each, group)), pure=False)
         try:
-            yield from map(studies, self.executor, watch=self.watch, **how)
+            more = True
+            while True:
+                while more and len(pending) < ahead:
+                    if more := bool(group := batches.next()):
+                        pending.append((submit(group), group))
+                if not pending:
+                    return
+                future, group = pending.popleft()
+                try:
+                    seconds, out = _result(future, self.watch)
+                    batches.took(len(out), seconds)
+                except KilledWorker:
+                    out = [self._alone(each, x, submit([x]), KilledWorker) for x in group]
+                yield out
         except (CancelledError, OSError) as e:
-            raise NoCluster(f"the cluster at {self.address} was lost: {str(e) or 'its scheduler is gone'}") from None
+            raise NoCluster(f"the cluster at {self.address} was lost: {str(e) if isinstance(e, OSError) and str(e) else 'its scheduler is gone'}") from None
+        finally:
+            with suppress(Exception):  # whatever a lost connection raises
+                self.client.cancel([future for future, _ in pending])
+
+    def _alone(self, each: Callable[[Study], Any], x: Study | str | Recipe, future: Future, killed: type[Exception]) -> Any:
+        """A study of a task at which workers died, by itself."""
+        try:
+            return _result(future, self.watch)[1][0]
+        except killed:
+            if each not in (totals, totals_and_queues):
+                raise
+            return Totals(_name(x), fault="workers of the cluster ended at it, again and again; it may need more memory than they have")
 
     def close(self) -> None:
         """Closes the connection; one that is lost is left."""
-        try:
+        with suppress(Exception):  # whatever a lost connection raises
             self.client.close(timeout=2)
-        except Exception:  # noqa: BLE001 whatever a lost connection raises
-            pass
+
+
+def _packed(task: bytes) -> tuple[float, list[Any]]:
+    """A task's answers, with the seconds that they took; as bytes, so that Dask looks through none of its studies."""
+    wall, own = time.perf_counter(), time.thread_time()
+    out = _all(*pickle.loads(task))
+    return max(time.thread_time() - own, (time.perf_counter() - wall) / 4), out  # beside other work the time of the clock is longer
 
 
 def cluster(address: str) -> tuple[Executor, Any]:

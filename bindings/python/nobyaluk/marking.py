@@ -2,14 +2,14 @@
 import csv
 import html
 import io
-from collections.abc import Callable, Iterator, Sequence
+from collections.abc import Callable, Collection, Iterable, Iterator, Mapping, Sequence
 from dataclasses import dataclass, field
 from fractions import Fraction
 
 import numpy as np
 
 from . import __version__, engine, summary, wrong_rules
-from .answers import Answer, Number
+from .answers import TABLES, TIMES, Answer, Column, Number
 from .engine import Refused
 from .forms import plain
 from .sheet import Exercise
@@ -49,42 +49,122 @@ class Mark:
     diagnosis: str = ""
     whose: str = ""
     notes: list[str] = field(default_factory=list)
-    fault: str = ""
+    fault: str = ""  # why it is not marked
+    empty: bool = False  # whether that is because nothing is answered
 
 
 def mark(e: Exercise, answer: Answer, student: str) -> Mark:
     """An answer against its exercise."""
     m = Mark(student, answer.file, e.id, best=e.run.total, whose=answer.whose)
-    vehicles = _unit(e, answer, m)
-    schedule, done = _schedule(e, answer, vehicles, m)
+    if answer.is_empty:
+        m.fault, m.empty = f"{answer.file}: nothing is answered in it", True
+        return m
+    units = _units(e, answer, m)
+    schedule, done = _schedule(e, answer, units, m)
     own = _judge(e, schedule, done, m)
-    _states(e, answer, vehicles, schedule, done, m)
+    _states(e, answer, units, schedule, done, m)
     for key in ("gate", "road", "ramp"):
-        m.times[key] = _time(answer.times.get(key), getattr(e.run, key), vehicles)
-    _total(e, answer, vehicles, own, schedule if done == e.study.record.steps else None, m)
+        x, right = answer.times.get(key), getattr(e.run, key)
+        m.times[key] = "" if x is None else "right" if units.near(x, right, key) else f"{_shown(units.parts(x, key))}, not {right}"
+    _total(e, answer, units, own, schedule if done == e.study.record.steps else None, m)
     return m
 
 
-def _unit(e: Exercise, answer: Answer, m: Mark) -> bool:
-    """Whether the answer is in vehicles: as it says, or as its decimals show, or as more of its numbers are the engine's."""
-    decimals = any(x.is_of_vehicles for x in answer.numbers())
-    if answer.vehicles or answer.vehicles is False and not decimals:
-        return answer.vehicles
-    right = e.run.outflow.tolist()
-    pairs = [(x, right[k][p]) for k, row in enumerate(answer.outflows) for p, x in enumerate(row) if x is not None]
-    times = [(x, getattr(e.run, key)) for key, x in answer.times.items() if x is not None]
-    fits = [sum(x.parts(vehicles)[0] == y for x, y in (*pairs, *times)) for vehicles in (False, True)]
-    if decimals and fits[0] > fits[1]:  # one of a spreadsheet's, as 69874.0
-        m.notes.append("some numbers have decimals; read as thousandths, as the others are")
-        return False
-    if decimals and answer.vehicles is False:
-        m.notes.append("it says thousandths, but its decimals are of vehicles: read as vehicles")
-    elif not decimals and fits[1] > fits[0]:
-        m.notes.append("read as vehicles")
-    return decimals or fits[1] > fits[0]
+class Units:
+    """Which columns of an answer are in vehicles; the others are in thousandths of a vehicle."""
+
+    def __init__(self, vehicles: Collection[Column]) -> None:
+        self.vehicles = frozenset(vehicles)
+
+    def parts(self, x: Number, key: str, place: int = 0) -> Fraction:
+        """A number of a column, in parts."""
+        return x.parts((key, place) in self.vehicles)[0]
+
+    def near(self, x: Number, right: int, key: str, place: int = 0) -> bool:
+        """Whether it is the right number, or, in vehicles, that number rounded."""
+        value, slack = x.parts((key, place) in self.vehicles)
+        return abs(value - right) <= slack
 
 
-def _schedule(e: Exercise, answer: Answer, vehicles: bool, m: Mark) -> tuple[np.ndarray, int]:
+def _units(e: Exercise, answer: Answer, m: Mark) -> Units:
+    """The unit of each column; whatever the file itself does not settle is in the notes.
+
+    The page's file is in thousandths, and a file that says vehicles is in vehicles. Any other goes column by column: vehicles where a number
+    has decimals, thousandths where one is larger than all vehicles of the exercise. A column that shows neither is as the rest of the table.
+    """
+    columns = answer.columns()
+    if answer.vehicles:
+        return Units(columns)
+    odd = {column: [x for x in numbers if x.is_of_vehicles] for column, numbers in columns.items()}
+    if answer.by_page:
+        if any(odd.values()):
+            m.notes.append(f"the page asks for whole thousandths of a vehicle; marked as typed: {_some(odd.values())}")
+        return Units(())
+    large = {column for column, numbers in columns.items() if any(_too_many(e, x, column) for x in numbers)}
+    vehicles = _settled(set(columns), {column for column in columns if odd[column] and column not in large}, large)
+    if both := [odd[column] for column in columns if column in large and odd[column]]:
+        m.notes.append(f"decimals in a column of thousandths of a vehicle: {_some(both)}")
+    if vehicles and large:
+        m.notes.append(f"its units differ; read as vehicles: {_columns(e, columns, vehicles)}; all else as thousandths of a vehicle")
+    elif not vehicles and not large and answer.vehicles is None and _fits(e, columns, True) > _fits(e, columns, False):
+        vehicles = set(columns)
+        m.notes.append("it has no decimals and is read as vehicles, because more numbers are right so")
+    elif not vehicles and not large and answer.vehicles is None and any(x.value for numbers in columns.values() for x in numbers):
+        m.notes.append("nothing in it shows its unit: read as thousandths of a vehicle")
+    if vehicles and answer.vehicles is False:
+        m.notes.append("it says thousandths of a vehicle" + (", but its decimals are of vehicles: read as vehicles" if not large else ""))
+    return Units(vehicles)
+
+
+def _settled(columns: set[Column], vehicles: set[Column], large: set[Column]) -> set[Column]:
+    """The columns in vehicles: those that show it, and those that show nothing where the rest of the table, or of the times, is in vehicles."""
+    table = {column for column in columns if column[0] in TABLES}
+    out = set(vehicles)
+    for group in (table, columns - table):
+        seen = group & (vehicles | large) or vehicles | large  # where a group shows nothing, the other one
+        if seen and seen <= vehicles:
+            out |= group
+    return out
+
+
+def _too_many(e: Exercise, x: Number, column: Column) -> bool:
+    """Whether a number can't be of vehicles: the exercise has fewer, at the start and arriving; a time is at most these in every step."""
+    most = e.run.present + e.run.exits
+    return x.groups is None and x.value * 1000 > (most * e.study.record.steps if column[0] in TIMES else most)
+
+
+def _fits(e: Exercise, columns: Mapping[Column, Sequence[Number]], vehicles: bool) -> int:
+    """How many outflows and times are the engine's, read in this unit."""
+    outflows = {p: set(e.run.outflow[:, p].tolist()) for p in range(e.n + 1)}
+    right = lambda key, place: outflows[place] if key == "outflows" else {getattr(e.run, key)}
+    return sum(x.parts(vehicles)[0] in right(*column) for column, numbers in columns.items() if column[0] not in ("held", "queue") for x in numbers)
+
+
+def _columns(e: Exercise, columns: Iterable[Column], vehicles: set[Column]) -> str:
+    """The columns in vehicles, in words; the table where all of it is."""
+    table = [column for column in columns if column[0] in TABLES]
+    named = ["the table"] if table and vehicles.issuperset(table) else [_column(e, x) for x in table if x in vehicles]
+    return ", ".join(named + [_column(e, x) for x in columns if x in vehicles and x[0] in TIMES])
+
+
+def _column(e: Exercise, column: Column) -> str:
+    key, place = column
+    if key in TIMES:
+        return "the total" if key == "total" else f"the time {_SAY(f'time.{key}')}"
+    if key == "queue":
+        return f"the queue of the ramp at cell {e.ramps[place]}"
+    if place == 0:
+        return "the outflow of the gate" if key == "outflows" else "the queue of the gate"
+    return f"{'the outflow of' if key == 'outflows' else 'held in'} cell {place}"
+
+
+def _some(numbers: Iterable[Sequence[Number]]) -> str:
+    """The first of these numbers, and how many more there are."""
+    found = [x.text.strip() for group in numbers for x in group]
+    return f"{', '.join(found[:3])}{f' and {len(found) - 3} more' * (len(found) > 3)}"
+
+
+def _schedule(e: Exercise, answer: Answer, units: Units, m: Mark) -> tuple[np.ndarray, int]:
     """The outflows in parts, 0 from the first step on that is not filled in whole; and how many steps are."""
     steps, places = e.run.outflow.shape
     out, done = np.zeros((steps, places), np.uint32), 0
@@ -92,7 +172,7 @@ def _schedule(e: Exercise, answer: Answer, vehicles: bool, m: Mark) -> tuple[np.
         if any(x is None for x in row):
             break
         for p, x in enumerate(row):
-            parts = x.parts(vehicles)[0]
+            parts = units.parts(x, "outflows", p)
             if parts.denominator != 1 or parts >= 1 << 32:
                 m.rule = f"step {k}, {e.study.place(p)}: {x.text} is no outflow in whole thousandths of a vehicle"
                 return out, k
@@ -126,12 +206,7 @@ def _judge(e: Exercise, schedule: np.ndarray, done: int, m: Mark) -> engine.Run 
     return own
 
 
-def _near(x: Number, right: int, vehicles: bool) -> bool:
-    value, slack = x.parts(vehicles)
-    return abs(value - right) <= slack
-
-
-def _states(e: Exercise, answer: Answer, vehicles: bool, schedule: np.ndarray, done: int, m: Mark) -> None:
+def _states(e: Exercise, answer: Answer, units: Units, schedule: np.ndarray, done: int, m: Mark) -> None:
     """The first state that does not follow from the student's own outflows."""
     given = sum(x is not None for table in (answer.held, answer.queue) for row in table for x in row)
     if not given:
@@ -145,7 +220,8 @@ def _states(e: Exercise, answer: Answer, vehicles: bool, schedule: np.ndarray, d
     for k in range(min(done, len(held), len(answer.held))):
         for j, x in enumerate((*answer.held[k], *answer.queue[k])):
             right = int(held[k, j] if j < places else queue[k, ramps[j - places]])
-            if x is not None and not _near(x, right, vehicles):
+            column = ("held", j) if j < places else ("queue", j - places)
+            if x is not None and not units.near(x, right, *column):
                 what = "queue of the gate" if j == 0 else f"held in cell {j}" if j < places else f"queue of the ramp at cell {ramps[j - places]}"
                 m.states = f"after step {k}, {what}: {x.text}, where its own outflows leave {right}"
                 return
@@ -153,13 +229,8 @@ def _states(e: Exercise, answer: Answer, vehicles: bool, schedule: np.ndarray, d
     m.states = ("follow from its outflows" if done else "not looked at") + (f", {missing} missing" if missing else "")
 
 
-def _time(x: Number | None, right: int, vehicles: bool) -> str:
-    return "" if x is None else "right" if _near(x, right, vehicles) else f"{_shown(x, vehicles)}, not {right}"
-
-
-def _shown(x: Number, vehicles: bool) -> str:
+def _shown(parts: Fraction) -> str:
     """A time as the exercise has it, in part-steps."""
-    parts = x.parts(vehicles)[0]
     return str(int(parts)) if parts.denominator == 1 else f"{float(parts):g}"
 
 
@@ -173,7 +244,7 @@ def _bases(e: Exercise, own: engine.Run | None) -> Iterator[tuple[str, int, dict
         yield _SAY(f"wrong.{key}"), wrong.total, _variants(e, wrong)
 
 
-def _total(e: Exercise, answer: Answer, vehicles: bool, own: engine.Run | None, schedule: np.ndarray | None, m: Mark) -> None:
+def _total(e: Exercise, answer: Answer, units: Units, own: engine.Run | None, schedule: np.ndarray | None, m: Mark) -> None:
     """Whether the total is right; where not, what it comes from. Outflows of a wrong rule are recognised too, also with a right total."""
     by_rule = next((_SAY(f"wrong.{key}") for key, rule in WRONG.items() if schedule is not None and own is None
                     and (rule(e.study.record, e.study.lanes).outflow == schedule).all()), "")
@@ -181,10 +252,10 @@ def _total(e: Exercise, answer: Answer, vehicles: bool, own: engine.Run | None, 
     x = answer.times.get("total")
     if x is None:
         return
-    m.total, m.right = _shown(x, vehicles), _near(x, e.run.total, vehicles)
+    m.total, m.right = _shown(units.parts(x, "total")), units.near(x, e.run.total, "total")
     if m.right:
         return
-    found = diagnosis(e, lambda total: _near(x, total, vehicles), own) or _sums(e, answer, vehicles, x) or "not recognised"
+    found = diagnosis(e, lambda total: units.near(x, total, "total"), own) or _sums(e, answer, units, x) or "not recognised"
     m.diagnosis = "; ".join(filter(None, [found, m.diagnosis if by_rule and by_rule not in found else ""]))
 
 
@@ -198,13 +269,13 @@ def diagnosis(e: Exercise, same: Callable[[int], bool], own: engine.Run | None =
     return ""
 
 
-def _sums(e: Exercise, answer: Answer, vehicles: bool, x: Number) -> str:
+def _sums(e: Exercise, answer: Answer, units: Units, x: Number) -> str:
     """A total that is the sum of the times given, or a thousand times too large or too small."""
-    value = x.parts(vehicles)[0]
+    value = units.parts(x, "total")
     if value == 1000 * e.run.total or value * 1000 == e.run.total:
         return "right but for its unit: off by a factor of 1,000"
-    parts = [answer.times.get(key) for key in ("gate", "road", "ramp")]
-    if all(parts) and value == sum((y.parts(vehicles)[0] for y in parts), Fraction(0)):
+    times = [(key, answer.times.get(key)) for key in ("gate", "road", "ramp")]
+    if all(y is not None for _, y in times) and value == sum((units.parts(y, key) for key, y in times), Fraction(0)):
         return "the sum of its times at gate, cells and ramps, of which one is wrong"
     return ""
 

@@ -1,7 +1,7 @@
 """A sheet and its key: pages in HTML, which print as they are, and as PDF where weasyprint is installed."""
 import html
 import logging
-from collections.abc import Callable, Iterable, Sequence
+from collections.abc import Callable, Iterable, Iterator, Sequence
 from dataclasses import dataclass
 from typing import Any
 
@@ -13,7 +13,9 @@ from .faults import StudyError
 from .sheet_words import Words
 from .study import Study
 
-WIDE = 4  # more cells than these have a page of their own width, and outflows and states in two tables
+WIDE = 4  # a road of more cells has a page in landscape
+COLUMNS = 12  # more answers a step than these are in two tables, outflows and states
+MANY = 7  # more columns of arrivals and releases than these are set narrow
 
 CSS = """
 @page { size: A4 %s; margin: 14mm 14mm 15mm; @bottom-right { content: counter(page) " / " counter(pages); font: 8pt sans-serif; color: #555; } }
@@ -27,7 +29,7 @@ th, td { border: .2mm solid #888; padding: .6mm 1.6mm; text-align: right; }
 th { font-weight: bold; font-size: 8.5pt; text-align: center; vertical-align: bottom; background: #eee; }
 th.unit { font-weight: normal; font-size: 7.5pt; color: #333; } td.place, th.place { text-align: left; white-space: nowrap; } td.none { background: #f4f4f4; }
 table.answers { width: 100%%; table-layout: fixed; } table.answers td { height: 6mm; } table.answers th { padding: .6mm .5mm; overflow-wrap: anywhere; } th.step { width: 13mm; }
-.answers td.edge, .answers th.edge { border-left: .6mm solid #444; }
+.answers td.edge, .answers th.edge { border-left: .6mm solid #444; } .many td { padding: .6mm .8mm; } .many th { padding: .6mm .5mm; font-size: 7pt; }
 table.times { width: 100%%; } table.times td { height: 7mm; } table.times td.place { width: 45%%; } table.times tr.total td { font-weight: bold; border-top: .5mm solid #111; }
 .rule { border-bottom: .2mm solid #888; height: 8mm; } svg { width: 100%%; height: auto; display: block; } .together { break-inside: avoid; } .page + .page { break-before: page; }
 """
@@ -95,11 +97,11 @@ def _cell_name(e: Exercise, i: int) -> str:
 def _inflow(e: Exercise, t: Words) -> str:
     """Arrivals and releases of each step."""
     rows = e.study.record.rows.tolist()
-    heading = f"<tr><th rowspan=2>{t('step')}</th><th>{t('arrivals')}<br>{t('gate')}</th>"
+    heading, many = f"<tr><th rowspan=2>{t('step')}</th><th>{t('arrivals')}<br>{t('gate')}</th>", " class=many" if 1 + 2 * len(e.ramps) > MANY else ""
     heading += "".join(f"<th>{t(kind)}<br>{_ramp(e, cell, t)}</th>" for cell in e.ramps for kind in ("arrivals", "release")) + "</tr>"
     heading += _row([t("unit.count")] * (1 + 2 * len(e.ramps)), "th", lambda j: "unit")
     body = (_row([k, *(t.number(row[j]) for j in (0, *(at for cell in e.ramps for at in (2 * cell - 1, 2 * cell))))]) for k, row in enumerate(rows))
-    return f"<table><thead>{heading}</thead><tbody>{''.join(body)}</tbody></table>"
+    return f"<table{many}><thead>{heading}</thead><tbody>{''.join(body)}</tbody></table>"
 
 
 def _works(e: Exercise, t: Words) -> str:
@@ -121,22 +123,23 @@ def _works(e: Exercise, t: Words) -> str:
 
 
 def _answers(e: Exercise, t: Words, filled: bool) -> str:
-    """Outflows and states of each step, empty or filled: one table for a short road, two for a long one."""
+    """Outflows and states of each step, empty or filled: in one table where they fit, otherwise in two."""
     n, run = e.n, e.run
     places = [t("gate"), *(t("cell", x=i + 1) for i in range(n))]
     out = [(t("outflow"), places, run.outflow)]
     after = [(t("after.queue"), places[:1], run.held[:, :1]), (t("after.held"), places[1:], run.held[:, 1:])]
     if e.ramps:
         after.append((t("after.queue"), [_ramp(e, cell, t) for cell in e.ramps], run.queue[:, e.ramps]))
-    tables = [[*out, *after]] if n <= WIDE else [out, after]
+    tables = [[*out, *after]] if 2 * (n + 1) + len(e.ramps) <= COLUMNS else [out, after]
     return "".join(_groups(group, t, run.record.steps, filled) for group in tables)
 
 
 def _groups(groups: Sequence[tuple[str, Sequence[str], np.ndarray]], t: Words, steps: int, filled: bool) -> str:
     edges = set(np.cumsum([1, *(len(names) for _, names, _ in groups[:-1])]).tolist())
     edge = lambda j: "edge" if j in edges else ""
-    top = f"<tr><th class=step rowspan=3>{t('step')}</th>" + "".join(f"<th class=edge colspan={len(names)}>{html.escape(title)}</th>" for title, names, _ in groups) + "</tr>"
-    head = _row([x for _, names, _ in groups for x in names], "th", lambda j: edge(j + 1))
+    titles = "".join(f"<th class=edge colspan={len(names)}>{html.escape(t.narrow(title))}</th>" for title, names, _ in groups)
+    top = f"<tr><th class=step rowspan=3>{t('step')}</th>{titles}</tr>"
+    head = _row([t.narrow(x) for _, names, _ in groups for x in names], "th", lambda j: edge(j + 1))
     units = "".join(f"<th class='unit edge' colspan={len(names)}>{t('unit.count')}</th>" for _, names, _ in groups)
     rows = []
     for k in range(steps):
@@ -159,14 +162,23 @@ def _times(e: Exercise, t: Words, filled: bool) -> str:
     return f"<table class=times><tbody>{body}</tbody></table>"
 
 
+def _states(e: Exercise) -> Iterator[engine.State]:
+    """The state after each step, by the engine's own step."""
+    record, n = e.study.record, e.n
+    state, lanes = record.start, np.frombuffer(e.study.lanes, np.uint8).reshape(-1, n).tolist()
+    for k, row in enumerate(record.rows):
+        state = engine.step(record.road, state, row, engine.lanes_of_step(lanes[0], lanes[k + 1]) if lanes else None)
+        yield state
+
+
 def _present(e: Exercise, t: Words) -> str:
-    """Who is present after each step, added up, as docs/BY-HAND.md does."""
-    held, queue = e.run.held.astype(np.int64), e.run.queue.astype(np.int64)
-    gate, cells, ramps = held[:, 0], held[:, 1:].sum(1), queue.sum(1)
-    running = np.cumsum(gate + cells + ramps)
+    """Who is present after each step, and the total so far, as docs/BY-HAND.md has them; every number is the engine's."""
+    road, rows, last = e.study.record.road, [], None
     heading = _row([t("step"), t("gate"), t("time.road"), t("time.ramp"), t("all"), t("running")], "th")
-    rows = [[k, *map(t.number, (gate[k], cells[k], ramps[k], gate[k] + cells[k] + ramps[k], running[k]))] for k in range(len(gate))]
-    rows.append([t("sum"), *map(t.number, (gate.sum(), cells.sum(), ramps.sum(), running[-1])), None])
+    for k, last in enumerate(_states(e)):
+        counts = (last.gate_queue, engine.on_road(road, last), engine.at_ramps(road, last), engine.present(road, last), engine.total(last))
+        rows.append([k, *map(t.number, counts)])
+    rows.append([t("sum"), *map(t.number, (last.gate_time, last.road_time, last.ramp_time, engine.total(last))), None])
     return f"<h2>{t('present')}</h2><table><thead>{heading}</thead><tbody>{''.join(map(_row, rows))}</tbody></table>"
 
 

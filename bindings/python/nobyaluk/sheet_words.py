@@ -4,6 +4,7 @@ import re
 LANGUAGES = ("en", "de", "fr")
 _THOUSANDS = {"en": ",", "de": ".", "fr": "\u202f"}
 _COLON = {"en": ":", "de": ":", "fr": "\u00a0:"}
+_SOFT = {"Eingang": "Ein\u00adgang", "Auffahrt": "Auf\u00adfahrt", "Schlange": "Schlan\u00adge", "Bestand": "Be\u00adstand"}  # where a narrow column breaks a word
 
 _WORDS = {
     "exercise": ("Exercise", "Übung", "Exercice"),
@@ -158,6 +159,10 @@ class Words:
     @property
     def colon(self) -> str:
         return _COLON[self.language]
+
+    def narrow(self, words: str) -> str:
+        """Words for a narrow column, which shows a hyphen where it breaks one."""
+        return re.sub("|".join(_SOFT), lambda x: _SOFT[x[0]], words) if self.language == "de" else words
 
     def all_of(self, key: str) -> tuple[str, ...]:
         """A word in every language."""

@@ -3,13 +3,12 @@
 A row holds from its time until the next one. What comes in a step is the growth of the exact running sum, rounded down to whole
 parts, so that sums are right to a part however rows and steps lie. A name that is not known is a fault that shows names like it.
 """
-import bisect
 import csv
 import difflib
 import io
 import itertools
 import re
-from collections.abc import Collection, Iterator
+from collections.abc import Callable, Collection, Iterator
 from dataclasses import dataclass, field
 from datetime import date
 from decimal import Decimal
@@ -19,36 +18,30 @@ from typing import Any
 
 import numpy as np
 
-from . import engine, inputs
-from .faults import StudyError, Table, clock, exact, shown
+from . import engine, inputs, readings
+from .faults import Faults, StudyError, Table, clock, exact, shown
+from .readings import Filled, Grid, Rows, number
+from .study import clock_time
 
 UNITS = ("veh/h", "veh", "count", "parts")  # a rate; vehicles a step; vehicles in the row's own time; parts a step
-KEYS = {"file", "unit", "columns"}
+KEYS = {"file", "unit", "columns", "gaps"}
 PLACES = ("place", "detector", "station")  # the heading that makes a file a detector's
 VALUES = {"veh/h": "veh/h", "flow": "veh/h", "veh": "count", "count": "count", "vehicles": "count", "parts": "parts"}
 CLOCKS = ("time", "step", "seconds", "minutes")
-TAKEN = ("gate", "all", *CLOCKS, "file", "unit", "columns", "cap", "-")  # names that no ramp may have
+DATE = "date"  # the heading of a column with the day of each time
+TAKEN = ("gate", "all", *CLOCKS, "file", "unit", "columns", "gaps", "cap", "-")  # names that no ramp may have
 LEFT_OUT = "-"  # in `columns`: a column that is not looked at
 MOST = 16 << 20  # bytes of a CSV file
 
 
 @dataclass
-class Rows:
-    """Rows of numbers under names, each with where it stands and the second at which it begins."""
-    names: list[str]
-    begins: list[Fraction]
-    values: list[list[Fraction]]
-    places: list[str]
-    unit: str
-
-
-@dataclass
 class Given:
-    """What a table gives: parts a step of each name, the names in its file that stand for none, and notes."""
+    """What a table gives: parts a step of each name, the names in its file that stand for none, notes, and the gaps that were filled."""
     where: str
     parts: dict[str, np.ndarray]
     others: list[str] = field(default_factory=list)
     notes: list[str] = field(default_factory=list)
+    filled: list[Filled] = field(default_factory=list)
 
 
 def like(word: str, names: Collection[str]) -> str:
@@ -135,6 +128,14 @@ class Clock:
         self.latest = max(self.latest, second)
         return second
 
+    def told(self, second: Fraction) -> str:
+        """A time of the study in words: of the clock where the study has it, with the day where that is another."""
+        if self.start is None:
+            return f"{float(second):g} s"
+        days, at = divmod(second + self.start, 86400)
+        day = f"{date.fromordinal(self.day + int(days))} " if self.day is not None and days else ""
+        return day + clock_time(at)
+
     def step(self, text: object, where: str) -> int:
         """The step that begins then; a whole number is a step."""
         if isinstance(text, int) and not isinstance(text, bool) or re.fullmatch(r"[0-9]{1,9}", str(text).strip()):
@@ -165,8 +166,8 @@ def read(table: Table, folder: Path, default: str, entries: list[str], clock: Cl
             if key not in (*KEYS, *more, *entries):
                 raise table.fault(key, f"is not known beside a file; known are {', '.join(sorted(KEYS))}, and names with 0{like(key, entries)}")
         clock.latest = Fraction(0)
-        rows, others = _file(table, path, entries, clock)
-        given = Given(str(path), shut, others)
+        rows, others, filled = _file(table, path, entries, clock)
+        given = Given(str(path), shut, others, readings.notes(str(path), filled, sum(x < clock.steps * clock.seconds for x in rows.begins)), filled)
         if clock.taken and clock.latest >= max(86400, clock.steps * clock.seconds):
             given.notes.append(f"{path}: it has rows of several days, and the study is of the first; `start` with a date picks another")
     for name in rows.names:
@@ -189,18 +190,6 @@ def _is_zero(x: Any) -> bool:
     return isinstance(x, (int, Decimal, Fraction)) and not isinstance(x, bool) and x == 0
 
 
-def _number(text: str, where: str) -> Fraction:
-    if not text:
-        raise StudyError(f"{where} is empty; write 0 where nothing came, and fill in what a detector missed")
-    try:
-        x = exact(text)
-    except ValueError:
-        raise StudyError(f"{where} is {shown(text)}, where a number is needed") from None
-    if x < 0:
-        raise StudyError(f"{where} is {text}; it is at least 0")
-    return x
-
-
 def _inline(table: Table, kind: str, more: set[str], entries: list[str], clock: Clock) -> Rows:
     """Columns that stand in the TOML file itself, as lists."""
     unit = table.choice("unit", UNITS, "veh/h")
@@ -212,7 +201,7 @@ def _inline(table: Table, kind: str, more: set[str], entries: list[str], clock: 
             raise table.fault(key, f"is {shown(x)}; it is a list as long as `{kind}`" + (", or 0" if key != kind and not isinstance(x, list) else ""))
     named = {key: x for key, x in named.items() if isinstance(x, list)}
     begins = [clock.second(kind, str(x), f"{table.where}: `{kind}`") for x in table.values[kind]]
-    values = [[_number(str(x[i]), f"{table.where}: number {i + 1} of `{key}`") for key, x in named.items()] for i in range(len(begins))]
+    values = [[number(str(x[i]), f"{table.where}: number {i + 1} of `{key}`") for key, x in named.items()] for i in range(len(begins))]
     return Rows(list(named), begins, values, [f"{table.where}: number {i + 1} of `{kind}`" for i in range(len(begins))], unit)
 
 
@@ -252,31 +241,49 @@ def _rows(path: Path, text: str, separator: str) -> Iterator[tuple[int, list[str
 
 @dataclass
 class _Sheet:
-    """A CSV file: its headings as they are written and as what they stand for, its rows with their numbers, and which column has the times."""
+    """A CSV file: its headings as they are written and as what they stand for, its rows with their numbers, and where the times are."""
     path: Path
     separator: str
     written: list[str]
     heading: list[str]
     rows: list[tuple[int, list[str]]]
-    times: int
+    faults: Faults
+    times: int = 0
+    day: int | None = None  # the column of the days, where they have one of their own
+
+    def second(self, row: list[str], number: int, clock: Clock) -> Fraction | None:
+        """When a row begins; None after a fault."""
+        text = row[self.times] if self.day is None else f"{row[self.day]} {row[self.times]}"
+        try:
+            return clock.second(self.heading[self.times], text, f"{self.path}, row {number}")
+        except StudyError as e:
+            self.faults.add(number, e)
+            return None
 
 
-def _file(table: Table, path: Path, entries: list[str], clock: Clock) -> tuple[Rows, list[str]]:
-    """The rows of a CSV file, and the names in it that stand for nothing."""
+def _file(table: Table, path: Path, entries: list[str], clock: Clock) -> tuple[Rows, list[str], list[Filled]]:
+    """The rows of a CSV file, the names in it that stand for nothing, and what was filled; all faults of the file are told at once."""
     separator, found = _separated(path)
     if len(found) < 2:
         raise StudyError(f"{path}: a heading and at least one row are needed; the first column is {', '.join(CLOCKS)}")
-    (_, written), rows = found[0], found[1:]
+    (_, written), rows, faults = found[0], found[1:], Faults(str(path))
     for number, row in rows:
         if len(row) != len(written):
-            raise StudyError(f"{path}, row {number}: {len(row)} fields under {len(written)} headings")
+            faults.add(number, f": {len(row)} fields under {len(written)} headings")
+    rows = [(number, row) for number, row in rows if len(row) == len(written)]
     called = _called(table, entries)
-    heading = [_heading(x, i, called, entries) for i, x in enumerate(written)]
-    sheet = _Sheet(path, separator, written, heading, rows, _times(path, heading, written, called))
-    places = _named(heading, written, called, [x for x in PLACES if x not in entries])
+    sheet = _Sheet(path, separator, written, [_heading(x, i, called, entries) for i, x in enumerate(written)], rows, faults)
+    _find_times(sheet, called)
+    places = _named(sheet.heading, written, called, [x for x in PLACES if x not in entries])
     if len(places) > 1:
         raise StudyError(f"{path}: columns {', '.join(repr(written[i]) for i in places)} may all be places; `columns` says which one is, or leaves the others out")
-    return _detectors(sheet, places[0], table, called, entries, clock) if places else (_columns(sheet, table, called, entries, clock), [])
+    grid, others = _detectors(sheet, places[0], table, called, entries, clock) if places else (_columns(sheet, table, called, entries, clock), [])
+    whole = not faults.found  # else a row that was left out may be what is lacking
+    out, filled = readings.read(grid, table.choice("gaps", readings.RULES) if "gaps" in table else None, clock, faults)
+    for says in _lacking(out, clock) if whole and out.begins else ():
+        faults.add(None, says)
+    faults.check()
+    return out, others, filled
 
 
 def _named(heading: list[str], written: list[str], called: Table, words: Collection[str]) -> list[int]:
@@ -285,44 +292,44 @@ def _named(heading: list[str], written: list[str], called: Table, words: Collect
     return [i for i in found if written[i] in called] or found
 
 
-def _columns(sheet: _Sheet, table: Table, called: Table, entries: list[str], clock: Clock) -> Rows:
+def _columns(sheet: _Sheet, table: Table, called: Table, entries: list[str], clock: Clock) -> Grid:
     """A spreadsheet's form: a column for each place."""
-    path, heading, written = sheet.path, sheet.heading, sheet.written
+    path, heading, written, faults = sheet.path, sheet.heading, sheet.written, sheet.faults
     for name in called.values:
         if name not in written:
             raise called.fault(name, f"is no column of {path}{fitting(name, written)}")
     unit = table.choice("unit", UNITS, "veh/h")
-    taken = [i for i, x in enumerate(heading) if i != sheet.times and x != LEFT_OUT]
-    names = [heading[i] for i in taken]
-    for name in names:
+    taken = {}
+    for i, name in enumerate(heading):
+        if i in (sheet.times, sheet.day) or name == LEFT_OUT:
+            continue
         if name not in entries:
             more = f"`columns` may say what it is, or columns = {{ {_key(name)} = \"{LEFT_OUT}\" }} that it is not looked at"
-            raise StudyError(f"{path}: column {shown(name)} is not one of {', '.join(entries)}{like(name, entries)}; {more}")
-        if names.count(name) > 1:
-            raise StudyError(f"{path}: column {name!r} stands there twice")
-    _marks(sheet, sheet.rows, taken)
-    begins = [clock.second(heading[sheet.times], row[sheet.times], f"{path}, row {number}") for number, row in sheet.rows]
-    for k in range(1, len(begins)):
-        if begins[k] <= begins[k - 1]:
-            raise StudyError(f"{path}, row {sheet.rows[k][0]}: its time does not come after the row before it")
-    part = _reaching(begins, clock)
-    kept = sheet.rows[part]
-    values = [[_number(row[i], f"{path}, row {number}, column {heading[i]!r}") for i in taken] for number, row in kept]
-    return Rows(names, begins[part], values, [f"{path}, row {number}" for number, _ in kept], unit)
-
-
-def _reaching(begins: list[Fraction], clock: Clock) -> slice:
-    """Of rows in their order, those that reach into the study, and what says how long the last of them is."""
-    first, after = bisect.bisect_right(begins, 0) - 1, bisect.bisect_left(begins, clock.steps * clock.seconds)
-    return slice(max(min(first, len(begins) - 2), 0), after + 1)
+            faults.add(None, f": column {shown(name)} is not one of {', '.join(entries)}{like(name, entries)}; {more}")
+        elif name in taken:
+            faults.add(None, f": column {name!r} stands there twice")
+        else:
+            taken[name] = i
+    _marks(sheet, sheet.rows, list(taken.values()))
+    begins: list[Fraction] = []
+    kept = []
+    for number, row in sheet.rows:
+        begin = sheet.second(row, number, clock)
+        if begin is not None and begins and begin <= begins[-1]:
+            faults.add(number, ": its time does not come after the row before it")
+        elif begin is not None:
+            begins.append(begin)
+            kept.append((number, row))
+    cells: dict[str, list] = {name: [(number, row[i]) for number, row in kept] for name, i in taken.items()}
+    return Grid(str(path), list(taken), {name: written[i] for name, i in taken.items()}, begins, [number for number, _ in kept], cells, unit)
 
 
 def _called(table: Table, entries: list[str]) -> Table:
     """The table `columns`: what names of the file stand for."""
     called = Table(table.values.get("columns", {}), f"{table.where}: columns")
     for name in called.values:
-        if called.text(name) not in (*entries, *CLOCKS, *PLACES, *VALUES, LEFT_OUT):
-            words = f"it is one of {', '.join(entries)}, a heading ({', '.join((*CLOCKS, *PLACES, *VALUES))}), or {LEFT_OUT!r}"
+        if called.text(name) not in (*entries, *CLOCKS, DATE, *PLACES, *VALUES, LEFT_OUT):
+            words = f"it is one of {', '.join(entries)}, a heading ({', '.join((*CLOCKS, DATE, *PLACES, *VALUES))}), or {LEFT_OUT!r}"
             raise called.fault(name, f"is {shown(called.values[name])}; {words}{like(called.text(name), entries)}")
     return called
 
@@ -334,18 +341,34 @@ def _heading(word: str, i: int, called: Table, entries: list[str]) -> str:
     lower = word.lower()
     if word in entries and not (i == 0 and lower in CLOCKS):
         return word
-    return lower if lower in (*CLOCKS, *PLACES, *VALUES) else word
+    return lower if lower in (*CLOCKS, DATE, *PLACES, *VALUES) else word
 
 
-def _times(path: Path, heading: list[str], written: list[str], called: Table) -> int:
-    """Where the times are: where `columns` says so, in the first column, or in the only one that is named so."""
+def _find_times(sheet: _Sheet, called: Table) -> None:
+    """Where the times are: where `columns` or a heading says so, or in the only column of clock times; and where their days are."""
+    path, heading, written = sheet.path, sheet.heading, sheet.written
     found = _named(heading, written, called, CLOCKS)
-    if found and (found[0] == 0 or len(found) == 1):
-        return found[0]
-    if found:
-        raise StudyError(f"{path}: columns {', '.join(repr(written[i]) for i in found)} are all times; put one first, or leave the others out by `columns`")
-    more = f"`columns` may say which one is, as columns = {{ {_key(written[0])} = \"time\" }}"
-    raise StudyError(f"{path}: the first column is {shown(written[0])}; it is {', '.join(CLOCKS)}; {more}")
+    if not found:
+        found = _looking(sheet, lambda x: _MOMENT.fullmatch(x) is not None)
+        for i in found if len(found) == 1 else ():
+            heading[i] = "time"
+    if found and (found[0] == 0 and heading[0] in CLOCKS or len(found) == 1):
+        sheet.times = found[0]
+    elif found:
+        more = f"put one first, or leave the others out by `columns`, as columns = {{ {_key(written[found[0]])} = \"time\" }}"
+        raise StudyError(f"{path}: columns {', '.join(repr(written[i]) for i in found)} are all times; {more}")
+    else:
+        more = f"`columns` may say which one is, as columns = {{ {_key(written[0])} = \"time\" }}"
+        raise StudyError(f"{path}: the first column is {shown(written[0])}; it is {', '.join(CLOCKS)}; {more}")
+    days = _named(heading, written, called, [DATE]) or _looking(sheet, lambda x: re.fullmatch(_DAY, x) is not None)
+    if days and heading[sheet.times] == "time" and sheet.rows and re.match(rf"(?:{_DAY})(?:T| )", sheet.rows[0][1][sheet.times]) is None:
+        sheet.day = days[0]
+
+
+def _looking(sheet: _Sheet, fits: Callable[[str], bool]) -> list[int]:
+    """The columns without a name of the study in which most of the first rows look so."""
+    first = [row for _, row in sheet.rows[:100]]
+    return [i for i, x in enumerate(sheet.heading) if x != LEFT_OUT and first and 2 * sum(fits(row[i]) for row in first) > len(first)]
 
 
 def _key(name: str) -> str:
@@ -355,65 +378,50 @@ def _key(name: str) -> str:
 
 def _marks(sheet: _Sheet, rows: list[tuple[int, list[str]]], columns: list[int]) -> None:
     """A fault where a point or a comma may set thousands apart, and no number of the file shows that it does not."""
-    marked: dict[str, list[tuple[str, str]]] = {",": [], ".": []}
+    marked: dict[str, list[tuple[str, int, str]]] = {",": [], ".": []}
     for number, row in rows:
         for i in columns:
             text = row[i]
             if "," in text or "." in text:
-                marked["," if "," in text else "."].append((text, f"{sheet.path}, row {number}, column {sheet.heading[i]!r}"))
+                marked["," if "," in text else "."].append((text, number, f", column {sheet.written[i]!r}"))
     if marked[","] and marked["."]:
-        text, where = marked["."][0]
-        raise StudyError(f"{where} is {shown(text)}, with a point, and other numbers have a comma, as {shown(marked[','][0][0])}: keep one of the two, as decimal mark")
+        text, number, where = marked["."][0]
+        sheet.faults.add(number, f"{where} is {shown(text)}, with a point, and other numbers have a comma, as {shown(marked[','][0][0])}: keep one of the two, as decimal mark")
+        return
     for mark, found in marked.items():
-        if found and (mark == "," or sheet.separator != ",") and all(re.fullmatch(r"[1-9][0-9]{0,2}([.,][0-9]{3})+", text) for text, _ in found):
-            text, where = found[0]
+        if found and (mark == "," or sheet.separator != ",") and all(re.fullmatch(r"[1-9][0-9]{0,2}([.,][0-9]{3})+", text) for text, _, _ in found):
+            text, number, where = found[0]
             word = "comma" if mark == "," else "point"
-            raise StudyError(f"{where} is {text}: the {word} may set thousands apart or be the decimal mark; write {text.replace(mark, '')} or {text}0")
+            sheet.faults.add(number, f"{where} is {text}: the {word} may set thousands apart or be the decimal mark; write {text.replace(mark, '')} or {text}0")
 
 
-def _detectors(sheet: _Sheet, at: int, table: Table, called: Table, entries: list[str], clock: Clock) -> tuple[Rows, list[str]]:
+def _detectors(sheet: _Sheet, at: int, table: Table, called: Table, entries: list[str], clock: Clock) -> tuple[Grid, list[str]]:
     """A detector's form: a row for each time and place, with a count or a flow; other columns are not looked at."""
     path, (what, unit) = sheet.path, _value(sheet, at, table, called)
     stands = _stands(sheet, at, called, entries)
     named = any(x in stands and name in (*entries, LEFT_OUT) for x, name in called.values.items())  # then detectors without a name are not looked at
-    kept = [(number, row) for number, row in sheet.rows if stands[row[at]] in entries or not named]
-    _marks(sheet, kept, [what])
-    times: dict[str, Fraction] = {}
-    for number, row in kept:
-        here, time = f"{path}, row {number}", row[sheet.times]
-        if stands[row[at]] not in entries:
+    kept = []
+    for number, row in sheet.rows:
+        if stands[row[at]] in entries:
+            kept.append((number, row))
+        elif not named:
             more = f"`columns` may say which detector stands for which{like(row[at], entries)}"
-            raise StudyError(f"{here}: {shown(row[at])} is not one of {', '.join(entries)}; {more}")
-        if time not in times:
-            times[time] = clock.second(sheet.heading[sheet.times], time, here)
-    begins = sorted(set(times.values()))
-    begins = begins[_reaching(begins, clock)]
-    found, where = _found(sheet, kept, (at, what), stands, times, set(begins))
-    names = [x for x in entries if x in found]
-    for begin in begins:
-        for name in names:
-            if begin not in found[name]:
-                raise StudyError(f"{where[begin]}: {name!r} has no row for this time; each place needs one for every time")
-    others = [x for x, name in stands.items() if name not in entries]
-    return Rows(names, begins, [[found[x][b] for x in names] for b in begins], [where[b] for b in begins], unit), others
-
-
-def _found(sheet: _Sheet, rows: list[tuple[int, list[str]]], columns: tuple[int, int], stands: dict[str, str], times: dict[str, Fraction],
-           wanted: set[Fraction]) -> tuple[dict[str, dict[Fraction, Fraction]], dict[Fraction, str]]:
-    """The numbers of each place at these times, and of each time its first row."""
-    found: dict[str, dict[Fraction, Fraction]] = {}
-    where: dict[Fraction, str] = {}
-    at, what = columns
-    for number, row in rows:
-        begin, name, here = times[row[sheet.times]], stands[row[at]], f"{sheet.path}, row {number}"
+            sheet.faults.add(number, f": {shown(row[at])} is not one of {', '.join(entries)}; {more}")
+    _marks(sheet, kept, [what])
+    found: dict[str, dict[Fraction, tuple[int, str]]] = {}
+    where: dict[Fraction, int] = {}
+    for number, row in kept:
+        begin, name = sheet.second(row, number, clock), stands[row[at]]
         there = found.setdefault(name, {})
-        if begin not in wanted:
-            continue
-        if begin in there:
-            raise StudyError(f"{here}: {name!r} has a row for {row[sheet.times]} already")
-        there[begin] = _number(row[what], f"{here}, column {sheet.heading[what]!r}")
-        where.setdefault(begin, here)
-    return found, where
+        if begin is not None and begin in there:
+            sheet.faults.add(number, f": {name!r} has a row for {row[sheet.times]} already")
+        elif begin is not None:
+            there[begin] = number, row[what]
+            where.setdefault(begin, number)
+    begins, names = sorted(where), [x for x in entries if x in found]
+    cells = {name: [found[name].get(begin) for begin in begins] for name in names}
+    others = [x for x, name in stands.items() if name not in entries]
+    return Grid(str(path), names, dict.fromkeys(names, sheet.written[what]), begins, [where[x] for x in begins], cells, unit), others
 
 
 def _stands(sheet: _Sheet, at: int, called: Table, entries: list[str]) -> dict[str, str]:
@@ -434,7 +442,10 @@ def _value(sheet: _Sheet, place: int, table: Table, called: Table) -> tuple[int,
     if len(found) > 1:
         raise StudyError(f"{sheet.path}: columns {', '.join(heading[i] for i in found)} may all be the numbers; `unit` (\"veh/h\" or \"count\") or `columns` says which are")
     if not found:
-        raise StudyError(f"{sheet.path}: beside `{heading[place]}` there is no column {', '.join(VALUES)}" + (f" of unit {table.values['unit']!r}" if "unit" in table else ""))
+        others = [x for i, x in enumerate(sheet.written) if i not in (place, sheet.times, sheet.day) and heading[i] != LEFT_OUT]
+        more = f"; `columns` may say which one has the numbers, as columns = {{ {_key(others[0])} = \"count\" }}" if others else ""
+        unit = f" of unit {table.values['unit']!r}" if "unit" in table else ""
+        raise StudyError(f"{sheet.path}: beside `{heading[place]}` there is no column {', '.join(VALUES)}{unit}{more}")
     return found[0], table.choice("unit", UNITS, VALUES[heading[found[0]]])
 
 
@@ -445,13 +456,9 @@ def _steps(rows: Rows, clock: Clock) -> dict[str, np.ndarray]:
     for k in range(1, len(rows.begins)):
         if rows.begins[k] <= rows.begins[k - 1]:
             raise StudyError(f"{rows.places[k]}: its time does not come after the row before it")
-    if rows.begins[0] > 0:
-        raise StudyError(f"{rows.places[0]}: the first row begins {float(rows.begins[0]):g} s after step 0; step 0 needs a row")
-    if rows.unit == "count" and len(rows.begins) == 1:
-        raise StudyError(f"{rows.places[0]}: nothing says how long the only row of counts is; add a row where it ends")
+    for says in _lacking(rows, clock):
+        raise StudyError(says)
     ends = rows.begins[1:] + [_end(rows, clock)]
-    if rows.unit == "count" and ends[-1] < clock.steps * clock.seconds:
-        raise StudyError(f"{rows.places[-1]}: counts end {float(ends[-1]):g} s after the beginning of step 0; {clock.steps} steps last {float(clock.steps * clock.seconds):g} s")
     a_second = {"veh/h": Fraction(1000, 3600), "veh": 1000 / clock.seconds, "parts": 1 / clock.seconds}
     edges = [k * clock.seconds for k in range(clock.steps + 1)]
     out = {}
@@ -460,9 +467,22 @@ def _steps(rows: Rows, clock: Clock) -> dict[str, np.ndarray]:
         sums = _running(rates, rows.begins, edges)
         parts = [int(b) - int(a) for a, b in zip(sums, sums[1:])]
         if max(parts) > engine.RATE:
-            k, file = parts.index(max(parts)), rows.places[0].split(", row")[0]
+            k, file = parts.index(max(parts)), re.split(", row [0-9]|: number [0-9]", rows.places[0])[0]
             raise StudyError(f"{file}: {name!r} has {float(Fraction(max(parts), 1000)):,.1f} vehicles in step {k}; a step takes at most {engine.RATE // 1000:,}")
         out[name] = np.array(parts, np.uint32)
+    return out
+
+
+def _lacking(rows: Rows, clock: Clock) -> list[str]:
+    """What rows lack to say what comes in every step."""
+    out = []
+    if rows.begins[0] > 0:
+        out.append(f"{rows.places[0]}: the first row begins {float(rows.begins[0]):g} s after step 0; step 0 needs a row")
+    if rows.unit == "count" and len(rows.begins) == 1:
+        return [*out, f"{rows.places[0]}: nothing says how long the only row of counts is; add a row where it ends"]
+    if rows.unit == "count" and (end := _end(rows, clock)) < clock.steps * clock.seconds:
+        whole = f"{clock.steps} steps last {float(clock.steps * clock.seconds):g} s"
+        out.append(f"{rows.places[-1]}: counts end {float(end):g} s after the beginning of step 0; {whole}")
     return out
 
 

@@ -5,12 +5,11 @@ import re
 import shutil
 import subprocess
 import sys
-import time
+from fractions import Fraction
 
 import numpy as np
 import pytest
-from nobyaluk import __version__, cli, engine, load
-from nobyaluk.cli import main
+from nobyaluk import Gate, Study, __version__, cells, cli, engine, load, summary
 
 
 def test_run_says_who_waits_where(examples, told):
@@ -18,7 +17,8 @@ def test_run_says_who_waits_where(examples, told):
     assert (status, err) == (0, "")
     for line in ("total time spent        167.25 vehicle-hours", "at the gate            21.67   13.0 %   nobody waits longer than the step of arrival",
                  "on the road           103.16", "at the ramps           42.42", "ramp Mill Street     42.42            longest queue 142.3 vehicles after step 119, 07:40:00",
-                 "9,082 vehicle-km, at 88.3 km/h on the road; delay 44.34", "rounding: 11 numbers, the worst wave of cell 5, 203.21 -> 203 (-0.10 %)"):
+                 "9,082 vehicle-km, at 88.3 km/h on the road; delay 44.34", "rounding: 11 numbers, the worst wave of cell 5, 203.21 -> 203 (-0.10 %)",
+                 "whole parts: counted in finer parts, no cumulative outflow would differ by more than 0.56 vehicles"):
         assert line in out, line
 
 
@@ -42,7 +42,8 @@ def test_csv(examples, told, tmp_path):
     held = sum(float(r["held_veh"]) + float(r["ramp_queue_veh"]) for r in rows)
     assert abs(held * 20 / 3600 - 170.3150) < 0.001
     assert rows[5] == {"step": "0", "time": "07:00:20", "seconds": "20.0", "place": "5", "cell": "5", "km": "2", "ramp": "", "outflow_veh": "0.0", "held_veh": "0.0",
-                       "ramp_queue_veh": "0.0", "ramp_release_veh": "0.0"} and rows[4]["ramp"] == "Mill Street"
+                       "ramp_queue_veh": "0.0", "ramp_release_veh": "0.0", "density_veh_per_km": "0", "speed_km_per_h": "90", "inflow_veh_per_h": "0",
+                       "outflow_veh_per_h": "0"} and rows[0]["density_veh_per_km"] == "" and rows[0]["inflow_veh_per_h"] == "2999.88" and rows[4]["ramp"] == "Mill Street"
     status, out, _ = told("run", examples / "studies/five-cells.toml", "--csv", "-")
     assert out == (tmp_path / "t.csv").read_text()
 
@@ -137,8 +138,12 @@ def test_join(examples, told, tmp_path):
     assert "(21 and 12 cells, 378 steps)" in told("join", whole, down, "--share", 0, "-o", both)[2]
     refused = examples / "refused-05-held-above-jam.rec"
     assert told("join", up, refused, "--share", 0, "-o", both)[::2] == (1, f"nobyaluk: {refused}: refused 5: place 2: {engine.MEANING[5]}\n")
-    for share in ("0.89", "1001", "-1", "x"):
+    for share in ("0.8905", "1001", "-1", "x"):
         assert told("join", up, down, f"--share={share}", "-o", both)[0] == 2
+    assert told("join", up, down, "--share", "0.89", "-o", both)[0] == 0 and both.read_bytes() == whole.read_bytes()
+    assert told("join", up, down, "--share", 890, "-o", tmp_path / "j.toml")[0] == 2
+    assert told("join", up, down, "--share", 890, "--seconds", 20, "-o", tmp_path / "j.toml")[0] == 0 and load(tmp_path / "j.toml").record.data == whole.read_bytes()
+    assert "--seconds is for records of version 1" in told("join", tmp_path / "j.toml", tmp_path / "j.toml", "--share", 0, "--seconds", 20, "-o", both)[2]
     assert told("join", both, down, "--share", 0, "-o", both)[::2] == (2, f"nobyaluk: {both}: the output is not written over the input\n")
     metered = examples / "studies/five-cells-alinea.toml"
     assert told("join", metered, metered, "--share", 800, "-o", both)[0] == 1
@@ -171,7 +176,7 @@ def test_exercise(examples, told):
 def test_fill_and_convert(examples, told, tmp_path):
     laws = examples / "rocade-sud-alinea.laws.txt"
     assert told("fill", examples / "rocade-sud.rec", laws, "-o", tmp_path / "f.rec", "--seconds", 20)[0] == 0
-    assert (tmp_path / "f.rec").read_bytes() == (examples / "rocade-sud-alinea.rec").read_bytes()
+    assert (tmp_path / "f.rec").read_bytes() == (examples / "rocade-sud-alinea.rec").read_bytes() and load(tmp_path / "f.toml").laws
     assert told("fill", examples / "studies/rocade-sud-alinea.toml", "-o", tmp_path / "g.rec")[0] == 0
     assert told("convert", examples / "studies/rocade-sud-alinea.toml", tmp_path / "h.rec")[0] == 0
     assert (tmp_path / "g.rec").read_bytes() == (tmp_path / "h.rec").read_bytes()
@@ -223,6 +228,13 @@ def test_statuses(examples, told, tmp_path):
     assert (piped.stdout, piped.stderr) == (b"step place outflow held queue\n", b"")
 
 
+def test_what_whole_parts_cost(examples):
+    """2 parts a step, divided by the part of the outflow that reaches the end: docs/MODEL.md has 1.84 vehicles for Rocade Sud."""
+    assert round(float(summary.rounding_bound(load(examples / "rocade-sud.rec"))), 2) == 1.84
+    whole = Study.of(cells(length=[0.5] * 3, speed=90, jam=250, capacity=4400), gate=Gate(4400), step=20, steps=50, arrivals={"gate": 100})
+    assert summary.rounding_bound(whole) == Fraction(1, 10)
+
+
 def test_help_has_examples(told):
     status, out, _ = told("--help")
     for name in cli.EXAMPLES:
@@ -232,21 +244,12 @@ def test_help_has_examples(told):
     assert told("--version")[1] == f"nobyaluk {__version__}\n"
 
 
-def test_progress(capsys, monkeypatch):
-    now = iter([0.0, 1.0, 2.5, 3.0, 5.0])
-    monkeypatch.setattr(cli.time, "monotonic", lambda: next(now))
-    say = cli.progress(1000, "studies")
-    for done in (100, 250, 300, 500):
-        say(done)
-    assert capsys.readouterr().err == "nobyaluk: 250 of 1,000 studies, 2 s\nnobyaluk: 500 of 1,000 studies, 5 s\n"
-
-
 @pytest.fixture
 def checkout(root, tmp_path):
     """A small checkout in a folder with a space, whose rt is a stand-in that builds the archive that is here already."""
     there = tmp_path / "a checkout"
     (there / "bindings").mkdir(parents=True)
-    for name in ("nobyaluk", "bindings/build", "bindings/sources", "bindings/python/nobyaluk", "docs/refusals.tsv", "examples/studies"):
+    for name in ("nobyaluk", "bindings/build", "bindings/sources", "bindings/c/nobyaluk.h", "tools/proving.sh", "bindings/python/nobyaluk", "docs/refusals.tsv", "examples/studies"):
         (there / name).parent.mkdir(parents=True, exist_ok=True)
         (shutil.copytree if (root / name).is_dir() else shutil.copy)(root / name, there / name)
     (there / "crates.txt").write_text("rows:\nexports: rows\nedges: rows\n")
@@ -276,6 +279,7 @@ def test_front_door(checkout, tmp_path):
     assert [p.returncode for p in both] == [0, 0] and all("170.32 vehicle-hours" in out for out, _ in told)
     assert calls.read_text() == "check exports\nstaticlib exports\n"
     said = "".join(err for _, err in told)
+    assert re.search("nobyaluk: the engine is proved and built first: 2 crates, (about|two to) [a-z]+ minutes\n", said)
     assert "nobyaluk: crate 1 of 2: rows proved (1 s)" in said and "another proves and builds here; this one waits for it" in said
     again = subprocess.run(command, cwd=tmp_path, env=env, capture_output=True, text=True)
     assert again.returncode == 0 and again.stderr == "" and calls.read_text().count("\n") == 2

@@ -6,7 +6,7 @@ import tomllib
 
 import numpy as np
 import pytest
-from nobyaluk import Study, StudyError, convert, engine, load
+from nobyaluk import Refused, Study, StudyError, convert, engine, load, text
 from nobyaluk.cli import main
 
 
@@ -130,7 +130,7 @@ def test_nothing_is_lost(told, tmp_path, meters):
 
 
 def test_every_example_is_kept(examples, told, tmp_path):
-    for path in [*(examples / "studies").glob("*.toml"), *(examples / "exercise").glob("*.toml"), examples / "street/south.toml"]:
+    for path in [*(examples / "studies").glob("*.toml"), *(examples / "exercise").glob("*.toml"), examples / "street/south.toml", examples / "detectors/counts.toml"]:
         assert told("convert", path, tmp_path / f"{path.stem}.rec")[0] == told("convert", path, tmp_path / f"{path.stem}-own.toml")[0] == 0
         for name in (f"{path.stem}.toml", f"{path.stem}-own.toml"):
             same_study(load(path), load(tmp_path / name))
@@ -187,6 +187,13 @@ def test_seconds_are_not_made_up(examples, told, tmp_path):
     same_runs(load(examples / "printed-run.rec"), load(tmp_path / "a.toml"))
 
 
+def test_seconds_that_a_record_does_not_hold_are_beside_it(examples, told, tmp_path):
+    assert told("convert", examples / "printed-run.rec", tmp_path / "a.rec") == (0, "", "") and [x.name for x in tmp_path.iterdir()] == ["a.rec"]
+    status, out, _ = told("convert", examples / "printed-run.rec", tmp_path / "b.rec", "--seconds", 20)
+    assert status == 0 and out == f"{tmp_path}/b.toml: a step's seconds, which a record does not hold\n" and load(tmp_path / "b.toml").seconds == 20
+    assert (tmp_path / "b.rec").read_bytes() == (examples / "printed-run.rec").read_bytes()
+
+
 @pytest.mark.parametrize("name", ['a"b', "a\nversion = 1\nb", "a\\b", "=a", "ä ☃", "a'b", "[x]", "#"])
 def test_names_of_files_are_escaped(examples, told, tmp_path, name):
     shutil.copy(examples / "printed-run.rec", tmp_path / f"{name}.rec")
@@ -211,19 +218,72 @@ def test_names_in_tables_are_quoted(told, tmp_path):
 # Filling.
 
 
-def test_fill_keeps_the_works_of_a_record(examples, told, tmp_path):
-    """A table of lanes is not in the record that is filled under it."""
+def test_fill_keeps_laws_and_works_beside_a_record(examples, told, tmp_path):
+    """The laws by which a record is filled, and the table of lanes, are not in it: a study beside it keeps both, and fills it anew."""
     lanes, laws = examples / "rocade-sud-works.lanes.txt", examples / "rocade-sud-alinea.laws.txt"
-    words = ("fill", examples / "rocade-sud.rec", laws, "--seconds", 20, "-o", tmp_path / "f.rec")
-    assert told(*words)[0] == 0 and not (tmp_path / "f.toml").exists()  # nothing is lost
-    status, out, _ = told(*words, "--lanes", lanes)
-    assert status == 0 and "works" in out
-    s = load(tmp_path / "f.toml")
-    assert s.seconds == 20 and not s.laws
-    whole = load(examples / "rocade-sud.rec", 20)
-    from nobyaluk import text
-    filled = engine.fill(whole.record, text.laws_of(laws.read_text()), text.lanes_of(lanes.read_text()))
-    assert s.run().total == filled.total and bits(s) == [x.bit_count() for x in text.lanes_of(lanes.read_text())]
+    words = ("fill", examples / "rocade-sud.rec", laws, "-o", tmp_path / "f.rec")
+    for more in ((), ("--seconds", 20), ("--seconds", 20, "--lanes", lanes)):
+        status, out, _ = told(*words, *more, "--force")
+        assert status == 0 and f"{tmp_path}/f.toml" in out and "meter laws" in out and ("works and" in out) is ("--lanes" in more)
+        s = load(tmp_path / "f.toml")
+        assert s.laws == text.laws_of(laws.read_text()) and s.seconds == (20 if more else None)
+        table = text.lanes_of(lanes.read_text()) if "--lanes" in more else b""
+        filled = engine.fill(load(examples / "rocade-sud.rec").record, s.laws, table)
+        assert s.run().record.data == filled.record.data == (tmp_path / "f.rec").read_bytes() and s.run().total == filled.total
+        assert bits(s) == [x.bit_count() for x in table]
+
+
+def test_a_law_in_veh_h_needs_a_steps_seconds(examples, tmp_path):
+    """A record of version 1 has none; laws and tables in the engine's own numbers need none."""
+    (tmp_path / "r.rec").write_bytes((examples / "printed-run.rec").read_bytes())
+    for more, works in (('[meter.2]\nlaw = "fixed"\nparts = { rate = 300 }\n', True), ('[meter.2]\nlaw = "open"\n', True), ('[meter.2]\nlaw = "fixed"\nrate = 300\n', False),
+                        ('[releases]\nstep = [0]\nunit = "parts"\n2 = [300]\n', True), ('[releases]\nstep = [0]\n2 = [300]\n', False), ('meter = 3\n', False)):
+        (tmp_path / "a.toml").write_text('record = "r.rec"\n' + more)
+        if works:
+            assert load(tmp_path / "a.toml").run().total > 0
+        else:
+            with pytest.raises(StudyError, match="`step` is missing"):
+                load(tmp_path / "a.toml")
+
+
+# Saving.
+
+
+@pytest.mark.parametrize("meters", METERS)
+def test_a_saved_study_is_the_same(tmp_path, meters):
+    (tmp_path / "a.toml").write_text(FULL + METERS[meters])
+    a = load(tmp_path / "a.toml")
+    assert a.save(tmp_path / "b.toml") == tmp_path / "b.toml" and sorted(x.name for x in tmp_path.iterdir()) == ["a.toml", "b.toml"]
+    b = load(tmp_path / "b.toml")
+    same_study(a, b)
+    assert a == b and a.record.data == b.record.data and a.lanes == b.lanes
+    b.save(str(tmp_path / "c.toml"))
+    assert (tmp_path / "c.toml").read_text() == (tmp_path / "b.toml").read_text()
+
+
+def test_every_example_is_saved(examples, tmp_path):
+    """Also of records, and of those that no record holds; notes are kept as comments."""
+    for path in [*(examples / "studies").glob("*.toml"), *(examples / "detectors").glob("*.toml"), examples / "rocade-sud-seconds.rec", examples / "street/south.toml"]:
+        a = load(path)
+        b = load(a.save(tmp_path / "b.toml"))
+        same_study(a, b)
+        assert all(f"# {x}" in (tmp_path / "b.toml").read_text() for x in a.notes)
+    (tmp_path / "long.toml").write_text(f'base = "{examples}/studies/rocade-sud-works.toml"\nsteps = 1440\n')
+    long = load(tmp_path / "long.toml")
+    same_study(long, load(long.save(tmp_path / "b.toml")))
+    same_study(long.scaled(0.5), load(long.scaled(0.5).save(tmp_path / "b.toml")))
+    empty = load(examples / "studies/five-cells.toml").scaled(0)
+    same_study(empty, load(empty.save(tmp_path / "b.toml")))
+
+
+def test_what_is_not_saved(examples, tmp_path):
+    s = load(examples / "printed-run.rec")
+    with pytest.raises(StudyError, match=r"doesn't say a step's seconds, which a study needs: say --seconds N, or load\(path, seconds=N\)"):
+        s.save(tmp_path / "a.toml")
+    with pytest.raises(StudyError, match=r"a.rec: a study is saved as .toml"):
+        s.save(tmp_path / "a.rec")
+    assert not list(tmp_path.iterdir())
+    same_runs(s, load(load(examples / "printed-run.rec", 20).save(tmp_path / "a.toml")))
 
 
 def test_fill_needs_a_law_for_each_ramp(examples, told, tmp_path):
@@ -285,6 +345,51 @@ def test_a_joined_road_keeps_names_and_laws(told, tmp_path):
     assert s.run().total > 0 and s.run().record.road.share[2] == 900
 
 
+def test_two_studies_joined_in_python(told, tmp_path):
+    """The study of `join -o FILE.toml`, of `join -o FILE.rec` and of Study.join is one: names, km, clock, works, laws and weights."""
+    works = "[[closure]]\ncell = 3\nlanes = 1\nfrom = 20\nto = 30\n[weights]\ngate = 3\nroad = 2\n"
+    up, down = halves(tmp_path, ALINEA, '[meter.all]\nlaw = "open"\n' + works)
+    whole = load(up).join(load(down), 900)
+    status, out, err = told("join", up, down, "--share", "0.9", "-o", tmp_path / "t.toml")
+    assert (status, out, err) == (0, f"{tmp_path}/t.toml: 6 cells, 3 and 3; 60 steps\n", "") and not (tmp_path / "t.rec").exists()
+    assert told("join", up, down, "--share", 900, "-o", tmp_path / "w.rec")[0] == 0
+    for name in ("t.toml", "w.toml"):
+        same_study(whole, load(tmp_path / name))
+    same_study(whole, load(whole.save(tmp_path / "s.toml")))
+    assert whole == load(tmp_path / "s.toml") == load(tmp_path / "t.toml") == load(tmp_path / "w.toml") != load(up).join(load(down), 800)
+    assert whole.title == "up and down" and whole.lengths == [0.5] * 3 + [0.6] * 3 and whole.when(0) == "step 0, 07:00:00" and whole.run().weighted > whole.run().total
+    assert [x.cell for x in whole.rounding if x.cell > 3] and len(whole.rounding) == len(load(up).rounding) + len([x for x in load(down).rounding if x.cell])
+    assert (whole.run().outflow[:, :4].sum() > 0) and whole.place(5) == "cell 5" and whole.place(4) == "cell 4 (hill)"
+    with pytest.raises(Refused) as caught:
+        load(up).join(load(up), 900)
+    assert caught.value.number == 21
+    status, _, err = told("join", up, up, "--share", 900, "-o", tmp_path / "x.toml")
+    assert status == 1 and "refused 21" in err and "`gate = 0` in its [arrivals]" in err and not (tmp_path / "x.toml").exists()
+
+
+def test_a_share_as_people_write_it(told, tmp_path):
+    up, down = halves(tmp_path, ALINEA, ALINEA)
+    for share, want in (("0.9", 900), ("0,9", 900), ("900", 900), ("1.0", 1000), ("0.001", 1), ("0", 0), ("1000", 1000), ("0.0", 0)):
+        assert told("join", up, down, "--share", share, "-o", tmp_path / "t.toml", "--force")[0] == 0
+        assert load(tmp_path / "t.toml").record.road.share[2] == want
+    for share, says in (("1", "write 1000 or 1.0"), ("1.5", "0 to 1,000"), ("0.9005", "0 to 1,000"), ("1001", "0 to 1,000"), ("x", "0 to 1,000"), ("-1", "0 to 1,000"), ("90%", "0 to 1,000")):
+        status, _, err = told("join", up, down, f"--share={share}", "-o", tmp_path / "u.toml")
+        assert status == 2 and says in err and not (tmp_path / "u.toml").exists(), share
+
+
+def test_lengths_of_one_road_alone(examples, told, tmp_path):
+    """They are in the file, and nothing is shown in km until the other road has some too."""
+    up, down = halves(tmp_path, ALINEA, '[meter.all]\nlaw = "open"\n')
+    parts = "parts = { v = 700, w = 250, b = 1000, J = 150000, C = 24444 }"
+    bare = (down.read_text().partition("[defaults]")[0] + f'[[cell]]\n{parts}\n[[cell]]\nramp = "South"\n{parts}\n[[cell]]\n{parts.replace("b = 1000", "b = 0")}\n'
+            + down.read_text()[down.read_text().index("[arrivals]") :])
+    down.write_text(bare)
+    whole = load(up).join(load(down), 900)
+    assert whole.lengths is None and "down has no lengths, so nothing is shown in km" in whole.notes
+    assert told("join", up, down, "--share", 900, "-o", tmp_path / "t.toml")[0] == 0 and (tmp_path / "t.toml").read_text().count("length = 0.5") == 3
+    assert load(tmp_path / "t.toml").run().total == whole.run().total
+
+
 def test_joined_ramps_of_one_name(told, tmp_path):
     up, down = halves(tmp_path, ALINEA, ALINEA, ramps=("Mill Street", "Mill Street"))
     assert told("join", up, down, "--share", 900, "-o", tmp_path / "w.rec")[0] == 0
@@ -294,7 +399,7 @@ def test_joined_ramps_of_one_name(told, tmp_path):
 def test_a_plan_that_a_joined_road_loses_is_named(told, tmp_path):
     up, down = halves(tmp_path, "[releases]\nstep = [0]\nNorth = [200]\n", "[releases]\nstep = [0]\nSouth = [100]\ncap = false\n")
     status, out, err = told("join", up, down, "--share", 900, "-o", tmp_path / "w.rec")
-    assert status == 0 and f"the plan of up is not kept; {tmp_path}/w.rec has the releases of its own run" in out
+    assert status == 0 and "the plan of up is not kept, since another ramp has exact releases; this one has the releases of its own run" in out
     up, down = halves(tmp_path, "[releases]\nstep = [0]\nNorth = [200]\n", "[releases]\nstep = [0]\nSouth = [100]\n")
     status, out, err = told("join", up, down, "--share", 900, "-o", tmp_path / "v.rec")
     assert status == 0 and "not kept" not in out and load(tmp_path / "v.toml").plan is not None

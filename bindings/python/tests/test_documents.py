@@ -9,7 +9,7 @@ from nobyaluk import load, sheet
 from nobyaluk.cli import main
 from nobyaluk.report import sum_of
 
-PAGES = ["README.md", "docs/BESIDE-SUMO.md", "docs/TEACHING.md", "docs/ENGINEER.md", "docs/STUDIES.md"]
+PAGES = ["README.md", "docs/BESIDE-SUMO.md", "docs/TEACHING.md", "docs/ENGINEER.md", "docs/PLANNING.md", "docs/STUDIES.md"]
 
 
 def blocks(text, kind=""):
@@ -37,6 +37,19 @@ def test_commands_print_what_is_shown(root, page, capsys, monkeypatch, tmp_path)
             assert same(shown, (out.out + out.err).replace(f"nobyaluk: {sheet.MISSING}\n", "")), command
 
 
+def test_commands_within_sentences(root, told, monkeypatch, tmp_path):
+    """The commands of docs/TEACHING.md and docs/STUDIES.md that are named in a sentence work too; a name in capitals is a study of the reader's."""
+    (tmp_path / "examples").symlink_to(root / "examples")
+    (tmp_path / "my-exercise.txt").write_text((root / "examples/exercise-8-cells.txt").read_text())
+    monkeypatch.chdir(tmp_path)
+    found = [x for page in ("TEACHING", "STUDIES") for x in re.findall(r"`\./nobyaluk ([^`\s]+ [^`]+)`", (root / f"docs/{page}.md").read_text())]
+    for command in found:
+        if not re.search(r"[A-Z]{3,}\.|FOLDER|FILE|HOST|\.\.", command):
+            status, _, err = told(*shlex.split(command.replace("STUDY", "examples/printed-run.rec")))
+            assert status == 0, f"{command}: {err}"
+    assert len(found) >= 5
+
+
 def test_studies_shown_are_the_files(root):
     shown = blocks((root / "README.md").read_text(), "toml")[0]
     assert shown == (root / "examples/studies/five-cells.toml").read_text()
@@ -45,6 +58,24 @@ def test_studies_shown_are_the_files(root):
     assert (root / "examples/street/street.toml").read_text() in blocks((root / "docs/STUDIES.md").read_text(), "toml")
     for study in [*(root / "examples/studies").glob("*.toml"), *(root / "examples/teaching").glob("*.toml"), *(root / "examples/exercise").glob("*.toml")]:
         assert load(study).run().total > 0
+
+
+def test_the_planners_page(root):
+    """One page: each rule of its table has a section with an example that is run, and no number of its prose is from elsewhere."""
+    page = (root / "docs/PLANNING.md").read_text()
+    rules = re.findall(r"^\| \[([^]]+)\]\(#([^)]+)\)", page, re.M)
+    assert len(rules) == 5 and len(page.split()) < 2000
+    for title, anchor in rules:
+        section = page.partition(f"\n## {title}\n")[2].partition("\n## ")[0]
+        assert anchor == title.lower().replace(" ", "-") and "\n$ ./nobyaluk " in section, title
+    named = set(re.findall(r"examples/planning/([a-z0-9-]+\.toml)", page))
+    assert named == {x.name for x in (root / "examples/planning").glob("*.toml")}
+    shown = " ".join(blocks(page))
+    from nobyaluk import summary
+    metered, full = (load(root / f"examples/planning/{x}.toml") for x in ("merge-metered", "merge"))
+    assert f"{metered.run().queue.max() / 1000:,.1f}" in shown and full.record.road.capacity[2] == 22_222  # 600 vehicles; 4,000 veh/h in 20 s
+    dropped = load(root / "examples/planning/merge-dropped.toml")
+    assert 0.3 < 1 - summary.hours(metered.run(), 20).total / summary.hours(dropped.run(), 20).total < 0.36  # "a third"
 
 
 def test_readme_in_python(root, monkeypatch):

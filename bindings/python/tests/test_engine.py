@@ -26,6 +26,22 @@ def printed(examples):
     return engine.read((examples / "printed-run.rec").read_bytes())
 
 
+def test_the_longest_queues(printed, examples):
+    """The gate's queue after the steps is 2500, 2142 and 1890, with 1000 arrivals in each; ramp 2's is 1700, 1900 and 2100."""
+    assert nobyaluk.run(printed).longest == (2500, 1500, (0, 2100))
+    shut = engine.fill(printed, {2: ("fixed", 0)})
+    assert shut.longest.ramps == (0, int(shut.queue[:, 2].max()))
+    assert engine.run_weighted(printed, [1, 1, 1], [1, 1]).longest is None
+    for path in sorted(examples.glob("*.rec")):
+        try:
+            run = engine.run(path.read_bytes())
+        except engine.Refused:
+            continue
+        arrived = run.record.rows[:, 0].astype(np.int64)
+        gate, stay = run.held[:, 0].astype(np.int64), run.held[:, 0] - arrived
+        assert run.longest == (gate.max(), stay.max(), tuple(run.queue[:, 1:].max(0)))
+
+
 def test_the_printed_run(printed):
     run = nobyaluk.run(printed)
     assert run.outflow.tolist() == [[1500, 934, 1000], [1358, 933, 1000], [1252, 934, 1000]]

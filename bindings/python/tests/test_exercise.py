@@ -6,7 +6,7 @@ import shutil
 import subprocess
 
 import pytest
-from nobyaluk import exercise, load, sheet
+from nobyaluk import engine, exercise, load, sheet
 from nobyaluk.sheet_words import LANGUAGES, Words
 
 QUESTION = """\
@@ -162,6 +162,59 @@ def test_wrong_calls(question, told, tmp_path, monkeypatch, words, say):
 def test_too_long_for_an_exercise(told):
     status, _, err = told("exercise", "--seed", 1, "--cells", 8, "--steps", 58)
     assert status == 1 and "refused 26" in err
+
+
+def test_sheets_and_marks_have_the_same_limits(told, tmp_path, examples):
+    """What `exercise -o` writes, `mark` takes: at most 8 cells and 4,096 bytes, whatever the options say."""
+    for words, say in ((["--bytes", 60000], "--bytes is 60000; a sheet is of at most 4,096, as `mark` takes it"), (["--cells", 64], "--cells is 64; a sheet is of at most 8,")):
+        status, out, err = told("exercise", examples / "rocade-sud.rec", *words, "-o", tmp_path / "c", "--no-pdf")
+        assert (status, out) == (2, "") and say in err and not (tmp_path / "c").exists()
+    assert told("exercise", examples / "rocade-sud.rec", "--bytes", 65536, "--cells", 64)[0] == 0  # the listing takes other limits
+    assert told("exercise", examples / "printed-run.rec", "--bytes", 123, "-o", tmp_path / "c")[:2] == (1, "refused 26 0 0\n")
+    assert told("exercise", examples / "printed-run.rec", "--bytes", 4096, "--cells", 8, "-o", tmp_path / "c", "--no-pdf")[0] == 0
+    (tmp_path / "a.csv").write_text("total,33098\n")
+    assert told("mark", tmp_path / "c", tmp_path / "a.csv", "-o", tmp_path / "m")[0] == 0
+
+
+def test_weights_are_not_on_a_sheet(told, tmp_path, examples):
+    path = examples / "exercise/weights.toml"
+    status, _, err = told("exercise", path, "-o", tmp_path / "c", "--no-pdf")
+    assert status == 0 and err == f"nobyaluk: note: {path} has [weights]; sheet and key ask for the plain total, in which all waiting counts alike\n"
+    assert told("exercise", examples / "exercise/road.toml", "-o", tmp_path / "d", "--no-pdf")[2] == ""
+
+
+@pytest.mark.parametrize("name", ["road", "works"])
+def test_present_is_the_engines(examples, monkeypatch, name):
+    """The key's table of those present is the engine's count of each state and its running total, which ends with the run's."""
+    e, seen = exercise.of_file(examples / f"exercise/{name}.toml"), []
+    count = engine.present
+    monkeypatch.setattr(engine, "present", lambda road, state: seen.append(engine.total(state)) or count(road, state))
+    page = words_of(sheet._present(e, Words("en")))
+    run = e.run
+    assert len(seen) == run.record.steps and seen[-1] == run.total
+    assert f"sum {run.gate:,} {run.road:,} {run.ramp:,} {run.total:,}" in " ".join(page.split())
+
+
+def test_many_ramps_fit_the_page(question, told, tmp_path):
+    """Answers of more than twelve columns are in two tables, and a German heading breaks a word only by a hyphen."""
+    ramps = "".join(f"[[cell]]\nramp = \"R{i}\"\n" for i in range(4))
+    given = QUESTION.partition("[[cell]]")[0] + ramps + "[arrivals]\nminutes = [0]\ngate = [2400]\n" + "".join(f"R{i} = [300]\n" for i in range(4)) + '[meter.all]\nlaw = "open"\n'
+    question.write_text(given)
+    for path, tables in ((question, 2), (None, 1)):
+        of = [path] if path else ["--seed", 1]
+        assert told("exercise", *of, "-o", tmp_path / f"c{tables}", "--no-pdf", "--lang", "de")[0] == 0
+        page = next((tmp_path / f"c{tables}/sheets").glob("*.html")).read_text()
+        assert page.count("<table class=answers") == tables and page.count("<table class=many") == tables - 1
+        heads = re.findall(r"<th[^>]*>([^<]*)</th>", "".join(re.findall(r"<table class=answers.*?</thead>", page, re.S)))
+        assert "Ein\u00adgang" in heads and not [x for x in heads if re.search("Eingang|Auffahrt|Schlange", x)], heads
+    form = (tmp_path / "c2/sheets/exercise.csv").read_text("utf-8-sig")
+    assert "Abfluss Eingang" in form and "\u00ad" not in form
+
+
+def test_help_says_defaults(told):
+    for name in ("exercise", "mark", "sweep"):
+        page = told(name, "--help")[1]
+        assert "default: " in page and "unless you say" not in page
 
 
 def test_pdf(question, told, tmp_path, monkeypatch):

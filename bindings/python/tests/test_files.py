@@ -77,6 +77,7 @@ def test_works(examples):
 def test_weights(road):
     s = load(road("[meter.all]", "[weights]\ngate = 2\nramps = { \"Mill Street\" = 3 }\n[meter.all]"))
     assert s.weights == ([2, 1, 1, 1, 1, 1], [1, 1, 1, 3, 1])
+    assert load(road("[meter.all]", "[weights]\ngate = 2\nramps = 3\n[meter.all]")) == s  # where there is no ramp, nobody waits
     run = s.run()
     assert run.weighted == run.total + run.gate + 2 * run.ramp
     assert "no schedule has a smaller one" in summary.lines(s, run)[-1]
@@ -216,7 +217,7 @@ CSV_FAULTS = {
     "a field": ("time,gate\n07:00,3000\n\n07:10,3OO0\n", "a.csv, row 4, column 'gate' is '3OO0', where a number is needed"),
     "an empty field": ("time,gate,Mill Street\n07:00,3000,\n", "a.csv, row 2, column 'Mill Street' is empty; write 0 where nothing came"),
     "too few fields": ("time,gate,Mill Street\n07:00,3000\n", "a.csv, row 2: 2 fields under 3 headings"),
-    "the heading": ("when,gate\n07:00,3000\n", "the first column is 'when'; it is time, step, seconds, minutes"),
+    "the heading": ("when,gate\n7 am,3000\n", "the first column is 'when'; it is time, step, seconds, minutes"),
     "a column": ("time,gate,Mil Street\n07:00,1,1\n", "column 'Mil Street' is not one of gate, Mill Street"),
     "no rows": ("time,gate\n", "a heading and at least one row are needed"),
     "backwards": ("time,gate\n07:00,1\n07:10,1\n07:05,1\n", "a.csv, row 4: its time does not come after the row before it"),

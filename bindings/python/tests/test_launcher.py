@@ -1,7 +1,6 @@
 """./nobyaluk itself: it installs nothing unasked, imports nothing of the current folder, and builds again only after a change."""
 import os
 import pty
-import shutil
 import signal
 import subprocess
 import sys
@@ -195,7 +194,8 @@ def test_a_build_ends_with_what_was_called(checkout, tmp_path, number, status): 
     """A signal to ./nobyaluk alone ends rt and what rt has started."""
     there, env, calls = checkout
     (tmp_path / "bin/rt").write_text(f'#!/bin/sh\nsleep 300 &\necho $! >"{tmp_path}/started"\nwait\n')
-    running = subprocess.Popen([there / "nobyaluk", "--version"], env=env, stdout=subprocess.PIPE, stderr=subprocess.PIPE, start_new_session=True)
+    taken = lambda: signal.signal(number, signal.SIG_DFL)  # a job in the background starts with Ctrl-C ignored
+    running = subprocess.Popen([there / "nobyaluk", "--version"], env=env, stdout=subprocess.PIPE, stderr=subprocess.PIPE, start_new_session=True, preexec_fn=taken)
     until = time.time() + 20
     while not (tmp_path / "started").exists() or not (tmp_path / "started").read_text().strip():
         assert time.time() < until

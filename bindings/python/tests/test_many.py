@@ -8,8 +8,9 @@ from functools import partial
 import nobyaluk
 import numpy as np
 import pytest
-from nobyaluk import StudyError, files, load, many
+from nobyaluk import StudyError, load, many, workers
 from nobyaluk.cli import main
+from nobyaluk.vary import Variants
 
 
 @pytest.fixture(scope="module")
@@ -137,7 +138,7 @@ def test_a_sweep_of_weights(examples, capsys):
     assert main(["sweep", path, "--vary", "weights.gate=3:5:2"]) == 0
     rows = rows_of(capsys.readouterr().out)
     for row, gate in zip(rows, (3, 5)):
-        r = files.varied(path, "weights.gate", Fraction(gate)).run()
+        r = Variants(path, ["weights.gate"]).study(Fraction(gate)).run()
         assert row["weighted_vehicle_hours"] == f"{r.weighted * 36 / 3_600_000:.4f}"
     assert rows[0]["weighted_vehicle_hours"] != rows[1]["weighted_vehicle_hours"] and rows[0]["total_vehicle_hours"] == rows[1]["total_vehicle_hours"]
     assert main(["sweep", path, "--vary", "weights.gate=1:999:998"]) == 0
@@ -198,11 +199,19 @@ def test_the_last_seeds(examples, capsys):
 def test_workers_are_bounded(examples, capsys, monkeypatch):
     """By the processors and by the studies; a number below 1 is a wrong call."""
     asked = []
-    monkeypatch.setattr(many, "ProcessPoolExecutor", asked.append)
-    monkeypatch.setattr(many.os, "cpu_count", lambda: 8)
-    for workers, studies in ((100_000, 401), (None, 401), (3, 401), (8, 200), (1, 1000), (9, 199)):
-        many.processes(workers, studies)
-    assert asked == [8, 8, 3, 8]
+
+    class Counted(workers.Workers):
+        def __init__(self, count, *how):
+            asked.append(count)
+            super().__init__(min(count, 2), *how)
+
+    monkeypatch.setattr(many, "Workers", Counted)
+    monkeypatch.setattr(many, "PAYS", 0)
+    monkeypatch.setattr(many, "processors", lambda: 8)
+    study = load(examples / "studies/five-cells.toml")
+    for given, studies in ((100_000, 40), (None, 40), (3, 40), (100_000, 3), (1, 40)):
+        assert [x.total for group in many.spread([study] * studies, studies, workers=given) for x in group] == [study.run().total] * studies
+    assert asked == [8, 8, 3, 3]
     for words in ("-1", "0", "x", "1.5", "9" * 5000):
         assert main(["sweep", str(examples / "studies/five-cells.toml"), "--load", "1:2:1", f"--workers={words}"]) == 2
         assert "whole number from 1" in capsys.readouterr().err

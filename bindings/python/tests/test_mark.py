@@ -58,7 +58,44 @@ def test_forms_of_the_same_answer(marked, text):
 @pytest.mark.parametrize("unit", ["", "unit,thousandths of a vehicle\n"])
 def test_a_spreadsheets_decimals_make_no_vehicles(marked, unit):
     row = marked(anna_csv=unit + rows_of(RUN) + "total,33098.0\n")["anna"]
-    assert (row["outflows"], row["total"], row["notes"]) == ("right", "right", "some numbers have decimals; read as thousandths, as the others are"), row
+    assert (row["outflows"], row["total"], row["notes"]) == ("right", "right", ""), row
+
+
+def test_one_slip_makes_no_vehicles(marked):
+    """A decimal in a file of thousandths is that number's fault alone, and is reported."""
+    wrong = [[1500.5, 900, 1000], [1358, 900, 1000], [1252, 900, 1000]]
+    row = marked(anna_csv=rows_of(wrong) + "total,27398\n")["anna"]
+    assert row["first broken rule"] == "step 0, the gate: 1500.5 is no outflow in whole thousandths of a vehicle", row
+    assert row["notes"] == "decimals in a column of thousandths of a vehicle: 1500.5" and row["what a wrong total comes from"] == "ramp queues left out"
+
+
+@pytest.mark.parametrize("text, outflows, total, notes", [
+    (rows_of(RUN) + "total,33.1\n", "right", "33100", "its units differ; read as vehicles: the total; all else as thousandths of a vehicle"),
+    ("unit,thousandths of a vehicle\n" + rows_of(RUN) + "total,33.1\n", "right", "33100",
+     "its units differ; read as vehicles: the total; all else as thousandths of a vehicle; it says thousandths of a vehicle"),
+    (rows_of(RUN, scale=1000) + "total,33098\n", "right", "33098", "its units differ; read as vehicles: the table; all else as thousandths of a vehicle"),
+    ("unit,thousandths of a vehicle\n" + rows_of(RUN, scale=1000) + "total,33.098\n", "right", "33098",
+     "it says thousandths of a vehicle, but its decimals are of vehicles: read as vehicles"),
+    ("1500,0.934,1000\n1358,0.933,1000\n1252,0.934,1000\n", "right", "", "its units differ; read as vehicles: the outflow of cell 1; all else as thousandths of a vehicle"),
+    ("unit,vehicles\n1500,0.934,1\n1.358,0.933,1\n1.252,0.934,1\n", "wrong from step 0", "", ""),
+    ("0,0,1\n0,0,1\n0,0,1\n", "allowed", "", "it has no decimals and is read as vehicles, because more numbers are right so"),
+    (rows_of(RUN) + "total,33.098\n", "right", "33098", ""),
+    ("0,2,2\n2,0,3\n0,0,0\n", "allowed", "", "nothing in it shows its unit: read as thousandths of a vehicle"),
+    ("unit,thousandths of a vehicle\n0,0,1\n0,0,1\n0,0,1\n", "allowed", "", ""), ("0,0,0\n0,0,0\n0,0,0\n", "allowed", "", ""),
+])
+def test_units_by_columns(marked, text, outflows, total, notes):
+    """Where a file does not settle its unit, its columns do, and the lecturer reads how it was read."""
+    row = marked(anna_csv=text)["anna"]
+    assert (row["outflows"], row["total given"], row["notes"]) == (outflows, total, notes), row
+
+
+@pytest.mark.parametrize("text", ["", "\n\n", "name,Anna\nunit,thousandths of a vehicle\nstep,gate,1,2\n0,,,\n1,,,\n2,,,\ntotal,\nwhose waiting,\n"])
+def test_an_empty_file_is_not_marked(tmp_path, told, examples, text):
+    (tmp_path / "anna.csv").write_text(text)
+    (tmp_path / "ben.csv").write_text(rows_of(RUN))
+    status, out, err = told("mark", examples / "printed-run.rec", tmp_path / "anna.csv", tmp_path / "ben.csv", "-o", tmp_path / "m")
+    assert status == 0 and "nna: nothing is answered\n" in out and "1 marked of 2" in out and "anna.csv: nothing is answered in it" in err
+    assert told("mark", examples / "printed-run.rec", tmp_path / "anna.csv", "-o", tmp_path / "m")[0] == 2
 
 
 def test_first_broken_rules(marked):
@@ -179,9 +216,11 @@ def test_the_pages_file(marked, printed):
     assert (row["outflows"], row["states"], row["total"], row["whose waiting, as written"]) == ("right", "follow from its outflows", "right", "everyone")
     row = marked(x_json=of_page(printed, total="27398", outflows=[[1500, None, 1000], [None] * 3, [None] * 3], name=""), answers_b_json=of_page(printed, name=""))
     assert row["x"]["outflows"] == "none" and row["x"]["what a wrong total comes from"] == "ramp queues left out" and row["answers_b"]["outflows"] == "right"
-    row = marked(x_json=of_page(printed, outflows=[["1.5", "0.934", "1"], ["1.358", "0.933", 1], ["1.252", "0.934", 1]], held=[[None] * 3] * 3, queue=[[None]] * 3, gate=None, road=None,
-                                ramp=None, total="33.1"))["Ada Lovelace"]
-    assert row["outflows"] == "right" and row["total"] == "right" and row["total given"] == "33100"  # rounded to one decimal
+    row = marked(x_json=of_page(printed, outflows=[["1.5", 934, 1], [1358, 933, 1], [1252, 934, 1]], total="33.1", ramp="12.5"))["Ada Lovelace"]  # the page takes thousandths alone
+    assert row["first broken rule"] == "step 0, the gate: 1.5 is no outflow in whole thousandths of a vehicle" and (row["total"], row["total given"]) == ("wrong", "33.1"), row
+    assert row["notes"] == "the page asks for whole thousandths of a vehicle; marked as typed: 1.5, 12.5, 33.1" and row["ramp time"] == "12.5, not 5700"
+    row = marked(x_json=of_page(printed, outflows=[[1, 1, 1], [1, 0, 1], [1, 1, 1]], held=[[None] * 3] * 3, queue=[[None]] * 3, gate=None, road=None, ramp=None, total=None))["Ada Lovelace"]
+    assert (row["outflows"], row["notes"]) == ("allowed", ""), row  # one thousandth, not one vehicle
 
 
 @pytest.mark.parametrize("name, text, say", [
@@ -189,7 +228,7 @@ def test_the_pages_file(marked, printed):
     ("a_csv", "step,gate,1,2\n0,1,2,3\n5,1,2,3\n", "the step is '5', where step 1 comes next"), ("a_csv", "unit,furlongs\n", "the unit is 'furlongs'"), ("a_csv", "total,abc\n", "'abc' is no number"),
     ("a_csv", "1,5,0,934,1,0\n1,3,0,9,1,0\n", "put semicolons between fields"), ("a_json", "{", "it is no JSON"), ("a_json", "[" * 100000, "it is no JSON"), ("a_json", "{}", "not the page's file"),
     ("a_json", '{"format": "nobyaluk-answers", "version": 2}', "not the page's file"), ("a_json", '{"format": "nobyaluk-answers", "version": 1, "exercise": {"record": "%"}}', "a record in base64"),
-    ("a_csv", "exercise,seed=8&cells=4&steps=6\n" + rows_of(RUN), "it answers seed=8&cells=4&steps=6"), ("a_csv", "total,-5\n", "is no number"), ("a_csv", "total," + "9" * 5000 + "\n", "is no number"),
+    ("a_csv", "exercise,seed=8&cells=4&steps=6\n" + rows_of(RUN), "it answers seed=8&cells=4&steps=6"), ("a_csv", "total,-5\n", "row 1, total: '-5' is below 0; every count and every time is 0 or more"), ("a_csv", "total," + "9" * 5000 + "\n", "has more than 15 digits"),
     ("a_csv", "x" * 200_000 + "\n", "field larger"), ("a_csv", '"' + "1,2,3\n" * 5, "row"), ("a_csv", "total,1e999999999\n", "is no number"), ("a_csv", "1,2,3,4,5\n", "5 numbers; a row has 3"),
 ])
 def test_a_bad_file_is_named_and_the_others_are_marked(marked, capsys, name, text, say):

@@ -5,6 +5,7 @@ import numpy as np
 import pytest
 from nobyaluk import Refused, StudyError, engine, files, load, street, tables
 from nobyaluk.cli import main
+from nobyaluk.vary import Variants
 
 TWO = """
 step = 20
@@ -289,7 +290,8 @@ def test_headings_of_any_name(write):
     assert (load(write(FILE, columns, OPEN, a=text)).record.rows == want).all()
     moved = "\n".join(",".join(line.split(",")[1:] + line.split(",")[:1]) for line in WIDE.splitlines()) + "\n"
     assert (load(write(FILE, OPEN, a=moved)).record.rows == want).all()
-    fault(write(FILE, OPEN, a=WIDE.replace("time", "Zeit")), 'columns = { Zeit = "time" }')
+    assert (load(write(FILE, OPEN, a=WIDE.replace("time", "Zeit"))).record.rows == want).all()
+    fault(write(FILE, OPEN, a=WIDE.replace("time", "Zeit").replace(":", " Uhr ")), 'columns = { Zeit = "time" }')
     both = text.replace("Fluss", "flow").replace("\n", ";9\n").replace("flow;9", "flow;count")
     fault(write(FILE, columns.replace('Fluss = "flow", ', ""), OPEN, a=both), "flow, count", "unit")
     assert (load(write(FILE, columns.replace('Fluss = "flow", ', ""), 'unit = "veh/h"\n', OPEN, a=both)).record.rows == want).all()
@@ -381,7 +383,7 @@ def test_small_tables_are_merged_with_the_bases(write, tmp_path):
     (tmp_path / "v.toml").write_text('base = "road.toml"\n[gate]\ncapacity = 3600\n[defaults]\nspeed = 72\n[weights]\nramps = 2\n')
     s = load(tmp_path / "v.toml")
     assert (s.record.start.gate_queue, s.record.road.gate_capacity, s.record.road.speed[0], s.record.road.jam[0]) == (7000, 20000, 800, 125000)
-    assert s.weights == ([3, 1, 1, 1, 1, 1], [2] * 5)
+    assert s.weights == ([3, 1, 1, 1, 1, 1], [1, 2, 1, 2, 1])
 
 
 # Names and numbers that are passed over.
@@ -408,13 +410,13 @@ def test_nothing_is_passed_over(write):
 def test_a_sweep_of_a_list_changes_the_list(write):
     """`weights.road.2` was changed in a copy: each variant was the study itself."""
     path = write(LISTS, OPEN, "[weights]\nroad = [1, 1, 1, 1, 1]\n")
-    assert files.varied(path, "weights.road.2", 7).weights[0] == [1, 1, 7, 1, 1, 1]
-    assert files.varied(path, "arrivals.gate.1", 0).record.rows[0, 0] == 0
+    assert Variants(path, ["weights.road.2"]).study(7).weights[0] == [1, 1, 7, 1, 1, 1]
+    assert Variants(path, ["arrivals.gate.1"]).study(0).record.rows[0, 0] == 0
     for key in ("weights.road.6", "weights.road.0", "weights.road.²", "cell.9.capacity", "nothing.at.all", "cell", "weights.road", "weights.road.2.x"):
         with pytest.raises(StudyError, match="to vary"):
-            files.varied(path, key, 1)
+            Variants(path, [key]).study(1)
     with pytest.raises(StudyError, match="`road`, cell 2` is 300|`2` is 300"):
-        files.varied(path, "weights.road.2", 300)
+        Variants(path, ["weights.road.2"]).study(300)
 
 
 def test_a_gap_before_a_study_that_goes_on_is_noted(write):

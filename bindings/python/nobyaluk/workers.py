@@ -1,0 +1,237 @@
+"""Processes of this machine that run studies, each by a pipe of its own, so that one that dies takes nobody with it.
+
+The studies of a process that dies (killed, or out of memory) are run again, one by one; a study at which two have died is given as
+lost, and the others go on. When the parent ends, however it does, its processes end too.
+"""
+import multiprocessing
+import os
+import pickle
+import signal
+import threading
+import time
+from collections import deque
+from collections.abc import Callable, Iterable, Iterator
+from contextlib import suppress
+from itertools import islice
+from multiprocessing.connection import Connection, wait
+from typing import Any, NamedTuple
+
+TASK = 0.02  # seconds that a task should take
+MOST = 1024  # studies of a task
+AHEAD = 64  # tasks whose answers may wait for one before them
+DEATHS = 2  # of processes at one study, until it is given as lost
+SIGNALS = {signal.SIGINT, signal.SIGTERM}
+PATROL = 0.5  # seconds between two looks at the parent
+
+Run = Callable[[list[Any]], list[Any]]
+
+
+def processors() -> int:
+    """How many processors this process may use."""
+    return len(os.sched_getaffinity(0)) if hasattr(os, "sched_getaffinity") else os.cpu_count() or 1
+
+
+class Batches:
+    """Studies in tasks of some milliseconds, by what the ones before took."""
+
+    def __init__(self, studies: Iterable[Any], seconds: float = TASK) -> None:
+        self.studies, self.seconds, self.size, self.each = iter(studies), seconds, 1, 0.0
+
+    def next(self) -> list[Any]:
+        """The next task's studies; none at the end."""
+        return list(islice(self.studies, self.size))
+
+    def took(self, count: int, seconds: float) -> None:
+        """So many studies took so long; each later task has at most four times as many as this one."""
+        self.each = seconds / count
+        wanted = int(self.seconds / self.each) if self.each > 0 else MOST
+        self.size = max(1, min(wanted, 4 * max(count, self.size), MOST))
+
+
+class Piece(NamedTuple):
+    """A task, or a part of one that is run again: the task's number, where the part begins, its studies, and who died at it."""
+    number: int
+    at: int
+    studies: list[Any]
+    deaths: int = 0
+
+
+class _Worker:
+    """One process, its pipe, and what it is working at."""
+
+    def __init__(self, run: Run, others: list[Connection]) -> None:
+        context = multiprocessing.get_context("fork")
+        self.pipe, theirs = context.Pipe()
+        self.piece: Piece | None = None
+        was = signal.pthread_sigmask(signal.SIG_BLOCK, SIGNALS)  # until the process has handlers of its own
+        try:
+            self.process = context.Process(target=_serve, args=(theirs, [self.pipe, *others], run, os.getpid()), daemon=True)
+            self.process.start()
+        except BaseException:
+            self.pipe.close()
+            raise
+        finally:
+            theirs.close()
+            signal.pthread_sigmask(signal.SIG_SETMASK, was)
+
+    def end(self) -> None:
+        self.pipe.close()
+        self.process.kill()
+        self.process.join()
+
+
+def _serve(pipe: Connection, others: list[Connection], run: Run, parent: int) -> None:
+    """A process's work: a task by the pipe, its answer with the seconds it took, until the pipe is closed or the parent is gone."""
+    signal.signal(signal.SIGINT, signal.SIG_IGN)  # Ctrl-C is for the parent, which ends its processes
+    signal.signal(signal.SIGTERM, signal.SIG_DFL)
+    signal.pthread_sigmask(signal.SIG_UNBLOCK, SIGNALS)
+    for other in others:
+        other.close()  # so that only the parent holds its ends
+    threading.Thread(target=_watch, args=(parent,), daemon=True).start()
+    with suppress(EOFError, OSError):
+        while True:
+            studies = pipe.recv()
+            began = time.perf_counter()
+            try:
+                answer: Any = pickle.dumps(run(studies))
+            except Exception as e:  # noqa: BLE001 raised again by the parent
+                answer = RuntimeError(f"{type(e).__name__}: {e}")
+            pipe.send((time.perf_counter() - began, answer))
+
+
+def _watch(parent: int) -> None:
+    """Ends this process when its parent is gone, also in the midst of a long study."""
+    while os.getppid() == parent:
+        time.sleep(PATROL)
+    os._exit(1)
+
+
+class Workers:
+    """So many processes that run tasks; `lost` gives the answer of a study at which processes die."""
+
+    def __init__(self, count: int, run: Run, lost: Callable[[Any, str], Any]) -> None:
+        self.run, self.lost, self.workers = run, lost, []
+        try:
+            for _ in range(count):
+                self._start()
+        except BaseException:
+            self.close()
+            raise
+
+    def __enter__(self) -> "Workers":
+        return self
+
+    def __exit__(self, *_: Any) -> None:
+        self.close()
+
+    def close(self) -> None:
+        """Ends all processes."""
+        while self.workers:
+            self.workers.pop().end()
+
+    def _start(self) -> None:
+        """One more process; where the system has no room for it, there are fewer."""
+        with suppress(OSError):
+            self.workers.append(_Worker(self.run, [w.pipe for w in self.workers]))
+
+    def map(self, batches: Batches) -> Iterator[list[Any]]:
+        """The answers of all studies, task by task in their order."""
+        tasks = _Tasks(batches)
+        while not tasks.over:
+            self._give(tasks)
+            if not self.workers and (p := tasks.next()):  # no process can be had
+                tasks.answered(p, self.run(p.studies))
+            busy = {w.pipe: w for w in self.workers if w.piece is not None}
+            for pipe in wait(list(busy)) if busy else ():
+                self._take(busy[pipe], tasks)
+            yield from tasks.told()
+
+    def _give(self, tasks: "_Tasks") -> None:
+        """A task for each process that has none."""
+        for w in [w for w in self.workers if w.piece is None]:
+            w.piece = tasks.next()
+            if w.piece is None:
+                return
+            try:
+                w.pipe.send(w.piece.studies)
+            except OSError:
+                self._died(w, tasks)
+
+    def _take(self, w: _Worker, tasks: "_Tasks") -> None:
+        """The answer of a process, or what becomes of its studies where it has died."""
+        try:
+            seconds, found = w.pipe.recv()
+        except (EOFError, OSError):
+            return self._died(w, tasks)
+        if isinstance(found, Exception):
+            raise found
+        answers = pickle.loads(found)
+        tasks.batches.took(len(answers), seconds)
+        tasks.answered(w.piece, answers)
+        w.piece = None
+
+    def _died(self, w: _Worker, tasks: "_Tasks") -> None:
+        """Another process in its place, and its studies again, each by itself; one at which others died before is lost."""
+        w.process.join(1)
+        self.workers.remove(w)
+        w.end()
+        self._start()
+        for one in tasks.alone(w.piece) if w.piece else ():
+            if one.deaths < DEATHS:
+                tasks.again.append(one)
+            else:
+                tasks.answered(one, [self.lost(one.studies[0], _why(w.process.exitcode))])
+
+
+class _Tasks:
+    """Tasks that are given out, those to be run again, and the answers, which are told in the tasks' order."""
+
+    def __init__(self, batches: Batches) -> None:
+        self.batches, self.again = batches, deque[Piece]()
+        self.answers: dict[int, list[Any]] = {}
+        self.missing: dict[int, int] = {}  # how many answers of a task are not there yet
+        self.given = self.done = 0
+        self.more = True
+
+    @property
+    def over(self) -> bool:
+        """Whether all answers are told."""
+        return not self.more and self.done == self.given
+
+    def next(self) -> Piece | None:
+        """What is to be run next, if anything is."""
+        if self.again:
+            return self.again.popleft()
+        studies = self.batches.next() if self.more and self.given - self.done < AHEAD else None
+        if not studies:
+            self.more = self.more and studies is None
+            return None
+        number, self.given = self.given, self.given + 1
+        self.answers[number], self.missing[number] = [None] * len(studies), len(studies)
+        return Piece(number, 0, studies)
+
+    def alone(self, p: Piece) -> list[Piece]:
+        """A piece's studies one by one; a death counts for a study that was alone."""
+        return [Piece(p.number, p.at + k, [x], p.deaths + (len(p.studies) == 1)) for k, x in enumerate(p.studies)]
+
+    def answered(self, p: Piece, found: list[Any]) -> None:
+        """Keeps the answers of a piece."""
+        self.answers[p.number][p.at : p.at + len(found)] = found
+        self.missing[p.number] -= len(found)
+
+    def told(self) -> Iterator[list[Any]]:
+        """The answers of the next tasks that are whole."""
+        while self.done < self.given and not self.missing[self.done]:
+            del self.missing[self.done]
+            self.done += 1
+            yield self.answers.pop(self.done - 1)
+
+
+def _why(code: int | None) -> str:
+    """How a process ended, in words."""
+    if code is not None and code < 0:
+        try:
+            return f"by {signal.Signals(-code).name}"
+        except ValueError:
+            return f"by signal {-code}"
+    return f"with status {code}"
