@@ -9,7 +9,7 @@ use Rattle.model.specs.Longest.{Queues, stayedOf, longestOf}
 use Rattle.counts.specs.Longest.{noQueues}
 use Rattle.counts.specs.LongestLaws.{raisedBy, longest-none, longest-more}
 
--- when k steps are made, where the longest queues are asked for; `after` gives the states
+-- when k steps are made, where the longest queues are wanted; `after` gives the states
 pub record Raised (longs : Bool) (n : ℕ) (after : ℕ → State) (q : Queues) (k : ℕ) : Type 0 where
   pub queues : longs ≡ true → q ≡ longestOf n after k
 

@@ -7,7 +7,7 @@ use native.Mathlib.Omega.{arith}
 use Rattle.model.specs.Road.{mostLong}
 use Rattle.model.specs.Words.{vehicleSeconds}
 
--- 33,098 part-steps of 20 seconds are 661.96 vehicle-seconds, and 661 are told; of 900 seconds 29,788.2; 999 of a second are none
+-- 33,098 part-steps of 20 seconds are 661.96 vehicle-seconds, rounded down to 661; of 900 seconds 29,788.2; 999 of a second are none
 pub on-paper : vehicleSeconds 33098 20 ∷ vehicleSeconds 33098 900 ∷ vehicleSeconds 999 1 ∷ [] ≡ 661 ∷ 29788 ∷ 0 ∷ []
 unfolding vehicleSeconds
 on-paper = refl

@@ -11,7 +11,7 @@ use Rattle.model.specs.Numbers.{at, sumOf, listOf}
 use Rattle.numbers.specs.RowsLaws.{sum-list-none, sum-list-more, sum-list-same, sum-list-min}
 use Rattle.model.specs.declared.State.{State}
 use Rattle.model.specs.Road.{mostCells}
-use Rattle.model.specs.Weights.{weighedSum, weightedOf}
+use Rattle.model.specs.Weights.{weightedSum, weightedPresent}
 use Rattle.counts.specs.WeightBounds.{mostWeighed}
 
 -- a byte times a number of 32 bits
@@ -50,8 +50,8 @@ zero-past weight counts h i l = let e : at counts i ≡ 0 = List·getD-eq-defaul
 
 -- as many cells as the arrays have are all that a state has
 pub weighted-min : (w u : ℕ → ℕ) (n : ℕ) (s : State) → length (s .held) ≡ mostCells → length (s .queue) ≡ mostCells
-    → weightedOf w u (min n mostCells) s ≡ weightedOf w u n s
-unfolding weightedOf
+    → weightedPresent w u (min n mostCells) s ≡ weightedPresent w u n s
+unfolding weightedPresent
 weighted-min w u n s held queue =
     omega (
       arith,
@@ -67,13 +67,13 @@ pub record Waiting (gate : ℕ) (counts queues : List ℕ) (s : State) : Type 0 
 
 -- what the code adds is the weighted present
 pub weighted-is : (places ramps : List ℕ) (n : ℕ) {q : ℕ} {counts queues : List ℕ} {gate road ramp : ℕ} → gate ≡ at places 0 * q
-    → road ≡ weighedSum (λ i. at places (1 + i)) (at counts) n → ramp ≡ weighedSum (λ i. at ramps (0 + i)) (at queues) n
-    → (s : State) → Waiting q counts queues s → gate + road + ramp ≡ weightedOf (at places) (at ramps) n s
-unfolding weightedOf
+    → road ≡ weightedSum (λ i. at places (1 + i)) (at counts) n → ramp ≡ weightedSum (λ i. at ramps (0 + i)) (at queues) n
+    → (s : State) → Waiting q counts queues s → gate + road + ramp ≡ weightedPresent (at places) (at ramps) n s
+unfolding weightedPresent
 weighted-is places ramps n {counts = counts} {queues = queues} eg er ep s h =
-    let road-is : weighedSum (λ i. at places (1 + i)) (at counts) n ≡ weighedSum (λ i. at places (suc i)) (at counts) n =
+    let road-is : weightedSum (λ i. at places (1 + i)) (at counts) n ≡ weightedSum (λ i. at places (suc i)) (at counts) n =
     sum-list-same _ _ n (λ i l. let e : 1 + i ≡ suc i = omega arith in rw e refl) in
-    let ramp-is : weighedSum (λ i. at ramps (0 + i)) (at queues) n ≡ weighedSum (at ramps) (at queues) n =
+    let ramp-is : weightedSum (λ i. at ramps (0 + i)) (at queues) n ≡ weightedSum (at ramps) (at queues) n =
     sum-list-same _ _ n (λ i l. let e : 0 + i ≡ i = omega arith in rw e refl) in
     rw (h .atGate, h .onRoad, h .atRamps) (omega (arith, eg, er, ep, road-is, ramp-is))
 

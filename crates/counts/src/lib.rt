@@ -17,7 +17,7 @@ ghost use Rattle.model.specs.Flow.{onwardOf};
 ghost use Rattle.model.specs.Move.{heldSum, queueSum, presentOf, exitsOf};
 ghost use mathlib.Core.Bool.{cond};
 ghost use Rattle.model.specs.declared.State.{State};
-ghost use Rattle.model.specs.Weights.{weighedSum, weightedOf};
+ghost use Rattle.model.specs.Weights.{weightedSum, weightedPresent};
 ghost use Rattle.counts.specs.WeightBounds.{mostWeighed, mostWeighted, mostWeightedTotal};
 ghost use Rattle.counts.specs.WeightSums.{Waiting};
 ghost use Rattle.model.specs.Longest.{queuesOf, longestQueues};
@@ -123,7 +123,7 @@ fn weighed(weight: u8, count: u32) -> u64
 // The counts of the first n cells, each times its weight; the first cell's weight is at `from`.
 fn weighed_cells(weights: &[u8], from: usize, counts: &[u32], n: usize) -> u64
     requires { ⌜ (n ≤ mostCells) × ((n ≤ length (now counts)) × (from + n ≤ length (now weights))) ⌝ }
-    ensures { λ r. ⌜ (r ≡ weighedSum (λ i. at (now (weights .entry)) (from + i)) (at (now (counts .entry))) n) × (r ≤ mostCells * mostWeighed) ⌝ }
+    ensures { λ r. ⌜ (r ≡ weightedSum (λ i. at (now (weights .entry)) (from + i)) (at (now (counts .entry))) n) × (r ≤ mostCells * mostWeighed) ⌝ }
 {
     let mut sum: u64 = 0;
     let mut i = 0;
@@ -145,7 +145,7 @@ fn weighed_places<'a, 'b>(
 ) -> u64
     requires { ⌜ n ≤ mostCells ⌝ }
     ensures present { λ r. ⌜ ((s : State) → Waiting «gate_queue» (now (held .entry)) (now (queue .entry)) s
-        → r ≡ weightedOf (at (now (places .entry))) (at (now (ramps .entry))) n s) ⌝ }
+        → r ≡ weightedPresent (at (now (places .entry))) (at (now (ramps .entry))) n s) ⌝ }
     ensures bound { λ r. ⌜ r ≤ mostWeighted ⌝ }
 {
     let gate = weighed(places[0], gate_queue);
@@ -156,7 +156,7 @@ fn weighed_places<'a, 'b>(
 
 // The gate queue, all held counts and all ramp queues, each times its weight; n above 64 counts as 64.
 pub fn weighted(r: Road, s: State, weights: Weights) -> u64
-    ensures { λ p. ⌜ p ≡ weightedOf (at (weights .places)) (at (weights .ramps)) (r .n) s ⌝ }
+    ensures { λ p. ⌜ p ≡ weightedPresent (at (weights .places)) (at (weights .ramps)) (r .n) s ⌝ }
 {
     let n = cells(r.n);
     weighed_places(
@@ -169,7 +169,7 @@ pub fn weighted(r: Road, s: State, weights: Weights) -> u64
     )
 }
 
-// A weighted total with the present of one more step, on lent columns, where weights are asked for.
+// A weighted total with the present of one more step, on lent columns, where weights are wanted.
 pub fn added<'a, 'b>(
     total: u64,
     weighs: bool,
@@ -182,7 +182,7 @@ pub fn added<'a, 'b>(
 ) -> u64
     requires { ⌜ (total ≤ mostWeightedTotal) × (n ≤ mostCells) ⌝ }
     ensures sum { λ r. ⌜ ((s : State) → Waiting «gate_queue» (now (held .entry)) (now (queue .entry)) s
-        → r ≡ total + cond weighs (weightedOf (at (now (places .entry))) (at (now (ramps .entry))) n s) 0) ⌝ }
+        → r ≡ total + cond weighs (weightedPresent (at (now (places .entry))) (at (now (ramps .entry))) n s) 0) ⌝ }
     ensures bound { λ r. ⌜ r ≤ total + mostWeighted ⌝ }
 {
     if weighs {
@@ -239,6 +239,18 @@ pub fn raised(
     AtGate {
         gate: larger(known.gate, after.gate_queue),
         waiting: larger(known.waiting, less(before.gate_queue, sent)),
+    }
+}
+
+// An end with its longest queues.
+pub fn longest(ended: Ended, gate: AtGate, ramps: [u32; 64]) -> Longest
+    ensures { λ e. ⌜ (e .ended ≡ ended) × (longestQueues e ≡ queuesOf (gate .gate) (gate .waiting) ramps) ⌝ }
+{
+    Longest {
+        ended: ended,
+        gate: gate.gate,
+        waiting: gate.waiting,
+        ramps: ramps,
     }
 }
 

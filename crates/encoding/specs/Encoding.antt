@@ -141,7 +141,7 @@ module _ (before : List ℕ) (start : ℕ) (f : ℕ → List ℕ) (w : ℕ) wher
       → end + w ≤ length after
   putting-fits i n h l m = omega (arith, h .next, h .same, row-ends i n w l)
 
--- a record put at the start of a target: its bytes, and what stood beyond them
+-- a record put at the start of a target: its bytes, and what was beyond them
 pub record-stands : (a : Study) (target after : List ℕ) (end : ℕ) → length (recordOf a) ≡ recordSize a
     → recordSize a ≤ length target → Puts target 0 (recordOf a) after end
     → (end ≡ recordSize a) × (after ≡ recordOf a ++ drop (recordSize a) target)
@@ -170,7 +170,7 @@ pub record Rows (rows : List ℕ) (n T : ℕ) : Type 0 where
   pub cells : n ≤ mostCells
   pub all : length rows ≡ T * rowNumbers n
 
--- what putting a record asks: n and T within their limits, all rows, and room
+-- what putting a record requires: n and T within their limits, all rows, and room
 pub record Fits (a : Study) (rows target : List ℕ) : Type 0 where
   pub counts : Counts (a .road .n) (a .steps)
   pub all : length rows ≡ a .steps * rowNumbers (a .road .n)

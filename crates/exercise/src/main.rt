@@ -5,7 +5,7 @@ const CELLS: usize = 8;
 
 const BYTES: usize = 4096;
 
-// One byte more than any record may have is read, so that refusal 1 is told as `ctm` tells it.
+// One byte more than any record may have is read, so that refusal 1 is printed as `ctm` prints it.
 fn main() {
     let mut bytes = [0u8; Road::BYTES + 1];
     let size = io::read_full(0, &mut bytes);

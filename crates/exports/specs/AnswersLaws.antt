@@ -10,7 +10,7 @@ use Rattle.model.specs.declared.Written.{Written}
 use Rattle.model.specs.declared.Loaded.{Loaded}
 use Rattle.model.specs.Refusals.{refusalNumber, FaultAnswer, faultAnswer}
 use Rattle.model.specs.Load.{LoadAnswer, loadAnswer}
-use Rattle.model.specs.Wanted.{WantedAnswer, Ends}
+use Rattle.model.specs.Wanted.{WantedAnswer, WantedEnds}
 use Rattle.model.specs.Stepping.{Answer, stepAnswer}
 use Rattle.model.specs.Writing.{WriteAnswer, writeAnswer}
 use Rattle.model.specs.Running.{EndAnswer}
@@ -21,11 +21,22 @@ use Rattle.exports.specs.declared.NobyalukWritten.{NobyalukWritten}
 use Rattle.exports.specs.declared.NobyalukLoaded.{NobyalukLoaded}
 use Rattle.exports.specs.declared.NobyalukWanted.{NobyalukWanted}
 use Rattle.exports.specs.declared.NobyalukReleased.{NobyalukReleased}
-use Rattle.exports.specs.Answers.{longestFor, steppedFor, writtenFor, loadedFor, wantedFor, releasedFor}
+use Rattle.exports.specs.declared.NobyalukMany.{NobyalukMany}
+use Rattle.model.specs.declared.State.{State}
+use Rattle.model.specs.Ramps.{Metered, metered}
+use Rattle.exports.specs.declared.NobyalukFilled.{NobyalukFilled}
+use Rattle.exports.specs.Answers.{filledFor, longestFor, steppedFor, writtenFor, loadedFor, wantedFor, releasedFor, manyFor}
 
 -- of running and filling with their longest queues
 pub longest-is : {r : NobyalukLongest} (e f : EndAnswer) (q p : Queues) → r ≡ longestFor e q → e ≡ f → q ≡ p → r ≡ longestFor f p
 longest-is e f q p h x y = h ∙ ap (λ (a : EndAnswer). longestFor a q) x ∙ ap (longestFor f) y
+
+-- of filling that goes on: s is the state of the answer
+pub filled-is : {r : NobyalukLongest} {f : EndAnswer} {q : Queues} {s : State} {releases entries : List ℕ} {p : Metered} → r ≡ longestFor f q
+    → metered s releases entries ≡ p
+    → _≡_ {A = NobyalukFilled} (record { longest = r; releases = releases; entries = entries }) (filledFor f q p)
+filled-is {f = f} {q} {releases = releases} {entries} h e =
+    ap (λ (x : NobyalukLongest). record { longest = x; releases = releases; entries = entries }) h ∙ ap (filledFor f q) e
 
 -- of writing and joining
 pub written-is : (w : Written) {number : ℕ} {a : WriteAnswer} → number ≡ refusalNumber (w .refusal) → writeAnswer w ≡ a
@@ -36,6 +47,10 @@ pub released-is : (q : Fault) {number : ℕ} {a : FaultAnswer} → number ≡ re
     → _≡_ {A = NobyalukReleased} (record { number = number; place = q .place }) (releasedFor a)
 released-is q n e = ap (λ (k : ℕ). record { number = k; place = q .place }) n ∙ ap releasedFor e
 
+pub many-is : (q : Fault) {number : ℕ} → number ≡ refusalNumber (q .refusal)
+    → _≡_ {A = NobyalukMany} (record { number = number; place = q .place }) (manyFor (faultAnswer q))
+many-is q n = ap (λ (k : ℕ). record { number = k; place = q .place }) n
+
 pub loaded-is : (x : Loaded) {number : ℕ} {a : LoadAnswer} → number ≡ refusalNumber (x .refusal) → loadAnswer x ≡ a
     → _≡_ {A = NobyalukLoaded} (record { number = number; last = x .last }) (loadedFor a)
 loaded-is x n e = ap (λ (k : ℕ). record { number = k; last = x .last }) n ∙ ap loadedFor e
@@ -44,17 +59,17 @@ pub stepped-is : (x : Stepped) {number : ℕ} {a : Answer} → number ≡ refusa
     → _≡_ {A = NobyalukStepped} (record { number = number; place = x .place; state = x .state }) (steppedFor a)
 stepped-is x n e = ap (λ (k : ℕ). record { number = k; place = x .place; state = x .state }) n ∙ ap steppedFor e
 
--- What C is answered settles the operation's answer: `readingFor`, `endedFor`, `writtenFor`, `loadedFor` and `releasedFor` keep every part of it, and
+-- What C is answered settles the operation's answer: `readingFor`, `endedFor`, `writtenFor`, `loadedFor`, `releasedFor` and `manyFor` keep every part of it, and
 -- `steppedFor` leaves out the step, which is always 0. `wantedFor` leaves out whether there was a search, which the other parts settle:
--- of two searches, whatever was asked of each, none, a table found and 23 differ
-pub wanted-apart : {s c r z d q : ℕ} {arrivals table comes lent : List ℕ} {a b : WantedAnswer} {left kept : List ℕ} → Ends s c r arrivals table a left
-    → Ends z d q comes lent b kept → wantedFor a ≡ wantedFor b → a ≡ b
-wanted-apart (Ends.refused h) (Ends.refused k) e = refl
-wanted-apart (Ends.refused h) (Ends.none q k) e = absurd (let n = ap (λ (x : NobyalukWanted). x .number) e in omega arith)
-wanted-apart (Ends.refused h) (Ends.found q k) e = absurd (let n = ap (λ (x : NobyalukWanted). x .number) e in omega arith)
-wanted-apart (Ends.none p h) (Ends.refused k) e = absurd (let n = ap (λ (x : NobyalukWanted). x .number) e in omega arith)
-wanted-apart (Ends.none p h) (Ends.none q k) e = refl
-wanted-apart (Ends.none p h) (Ends.found q k) e = absurd (let n = ap (λ (x : NobyalukWanted). x .found) e in omega arith)
-wanted-apart (Ends.found p h) (Ends.refused k) e = absurd (let n = ap (λ (x : NobyalukWanted). x .number) e in omega arith)
-wanted-apart (Ends.found p h) (Ends.none q k) e = absurd (let n = ap (λ (x : NobyalukWanted). x .found) e in omega arith)
-wanted-apart (Ends.found p h) (Ends.found q k) e = refl
+-- of two searches, whatever their arguments, none, a table found and 23 differ
+pub wanted-apart : {s c r z d q : ℕ} {arrivals table comes lent : List ℕ} {a b : WantedAnswer} {left kept : List ℕ} → WantedEnds s c r arrivals table a left
+    → WantedEnds z d q comes lent b kept → wantedFor a ≡ wantedFor b → a ≡ b
+wanted-apart (WantedEnds.refused h) (WantedEnds.refused k) e = refl
+wanted-apart (WantedEnds.refused h) (WantedEnds.none q k) e = absurd (let n = ap (λ (x : NobyalukWanted). x .number) e in omega arith)
+wanted-apart (WantedEnds.refused h) (WantedEnds.found q k) e = absurd (let n = ap (λ (x : NobyalukWanted). x .number) e in omega arith)
+wanted-apart (WantedEnds.none p h) (WantedEnds.refused k) e = absurd (let n = ap (λ (x : NobyalukWanted). x .number) e in omega arith)
+wanted-apart (WantedEnds.none p h) (WantedEnds.none q k) e = refl
+wanted-apart (WantedEnds.none p h) (WantedEnds.found q k) e = absurd (let n = ap (λ (x : NobyalukWanted). x .found) e in omega arith)
+wanted-apart (WantedEnds.found p h) (WantedEnds.refused k) e = absurd (let n = ap (λ (x : NobyalukWanted). x .number) e in omega arith)
+wanted-apart (WantedEnds.found p h) (WantedEnds.none q k) e = absurd (let n = ap (λ (x : NobyalukWanted). x .found) e in omega arith)
+wanted-apart (WantedEnds.found p h) (WantedEnds.found q k) e = refl

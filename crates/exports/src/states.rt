@@ -8,7 +8,7 @@ ghost use Rattle.model.specs.Numbers.{at};
 ghost use Rattle.model.specs.Road.{mostLong, totalOf};
 ghost use Rattle.model.specs.Words.{vehicleSecondsOf};
 ghost use Rattle.model.specs.Move.{heldSum, queueSum, presentOf, exitsOf};
-ghost use Rattle.model.specs.Weights.{weightedOf};
+ghost use Rattle.model.specs.Weights.{weightedPresent};
 
 // The gate's queue, all held counts and all ramp queues together.
 #[no_mangle]
@@ -37,7 +37,7 @@ pub extern "C" fn nobyaluk_at_ramps(road: Road, state: State) -> u64
 // What is present, each place and ramp queue times its weight.
 #[no_mangle]
 pub extern "C" fn nobyaluk_weighted(road: Road, state: State, weights: Weights) -> u64
-    ensures { λ r. ⌜ r ≡ weightedOf (at (weights .places)) (at (weights .ramps)) (road .n) state ⌝ }
+    ensures { λ r. ⌜ r ≡ weightedPresent (at (weights .places)) (at (weights .ramps)) (road .n) state ⌝ }
 {
     freeway::weighted(road, state, weights)
 }

@@ -72,7 +72,7 @@ bytes-number s i (suc w) h k l =
     (λ (j : k < w). bytes-first w x k j ∙ rw d (bytes-number s i w (λ k l. h k (omega arith)) k j))
     (eq-or-lt-of-le (le-of-suc-le-suc l))
 
--- the w bytes of x stand in s from an offset on
+-- the w bytes of x are in s from an offset on
 pub record Field (s : List ℕ) (offset w x : ℕ) : Type 0 where
   pub byte : (k : ℕ) → k < w → at s (offset + k) ≡ at (bytesOf w x) k
 

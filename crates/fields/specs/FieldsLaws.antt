@@ -16,7 +16,7 @@ use Rattle.model.specs.Numbers.{at, fillOf}
 use Rattle.numbers.specs.Zeros.{length-zeros, zeros-at}
 use Rattle.numbers.specs.RowsLaws.{fill-at, fill-more, fill-past, fill-list, length-fill, length-list, list-at}
 
--- what taking the row of step t of n cells asks: the bytes hold it
+-- what taking the row of step t of n cells requires: the bytes hold it
 pub record HoldsRow (s : List ℕ) (n t : ℕ) : Type 0 where
   pub cells : n ≤ mostCells
   pub row : rowStart (versionOf s) n t + rowSize n ≤ length s
@@ -65,7 +65,7 @@ column s offset w n h = record {
   past = λ i l. fill-past (fieldOf s offset w) n zeros i l ∙ zeros-at i;
 }
 
--- the loop over a column's cells: the fields of the first i stand in l
+-- the loop over a column's cells: l holds the fields of the first i
 pub record Collected (s : List ℕ) (offset w n : ℕ) (l : List ℕ) (i : ℕ) : Type 0 where
   pub within : i ≤ n
   pub fields : l ≡ fillOf (fieldOf s offset w) i zeros

@@ -10,7 +10,7 @@ ghost use Rattle.fields.specs.BytesStored.{Stored};
 ghost use Rattle.model.specs.Numbers.{oneOf};
 ghost use Rattle.model.specs.Reading.{bothVersions, lengthOk, cellsAndStepsOk, secondsOk, callerOk};
 
-// The versions of the layout: version 2 has two more bytes after byte 7, and all that follows stands two bytes later.
+// The versions of the layout: version 2 has two more bytes after byte 7, and all that follows is two bytes later.
 pub const FIRST_VERSION: u8 = 1;
 
 pub const SECOND_VERSION: u8 = 2;
@@ -96,7 +96,7 @@ pub fn version(bytes: &[u8]) -> u8
     number(bytes, VERSION_OFFSET, 1) as u8
 }
 
-// How many bytes a version has for the step's seconds, and how much later what follows them stands.
+// How many bytes a version has for the step's seconds, and by how many bytes they move what follows.
 pub fn seconds_size(version: u8) -> usize
     ensures { λ r. ⌜ r ≡ secondsSize version ⌝ }
 {

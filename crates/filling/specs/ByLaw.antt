@@ -1,4 +1,4 @@
--- Each filled release is the law's, in the run's own states, said place by place. Assumes nothing.
+-- Each filled release is the law's, in the run's own states, place by place. Assumes nothing.
 use mathlib.Core.Path.{_≡_, refl, sym, ap, _∙_}
 use mathlib.Core.List.{List}
 use Prim.Native.Nat.{ℕ, zero, suc, _+_, _*_, _≤_, _<_}
@@ -17,8 +17,8 @@ use Rattle.theory.specs.Roads.{step-row}
 use Rattle.theory.specs.RunsLaws.{StudyOk, Shared, shared-less, engine-shared, outflows-shared}
 use Rattle.model.specs.Ramps.{Metered, capAt, meteredOf}
 use Rattle.ramps.specs.RampsLaws.{granted, filled-release, filled-most, last-release, last-entry}
-use Rattle.model.specs.Filling.{meteredAfter, grantedIn, filledRows, filledStudy}
-use Rattle.filling.specs.FillingLaws.{filled-road, filled-run}
+use Rattle.model.specs.Filling.{meteredAfter, meteredFrom, grantedIn, filledStudy}
+use Rattle.filling.specs.FillingLaws.{filledRows, filled-road, filled-run}
 
 -- the last release at the cell at i before step t, and what entered it from upstream in the last step; before the first step both are 0
 unfoldable pub lastRelease : Study → ℕ → ℕ → ℕ
@@ -45,12 +45,12 @@ module _ (laws : List Law) (a : Study) (ok : StudyOk a) where
 
   -- the arrays carried have an entry for each cell
   releases-sized : (t : ℕ) → length (m t .releases) ≡ mostCells
-  unfolding meteredAfter meteredOf
+  unfolding meteredFrom meteredOf
   releases-sized zero = length-zeros
   releases-sized (suc t) = length-fill _ _ _ ∙ releases-sized t
 
   entries-sized : (t : ℕ) → length (m t .entries) ≡ mostCells
-  unfolding meteredAfter meteredOf
+  unfolding meteredFrom meteredOf
   entries-sized zero = length-zeros
   entries-sized (suc t) = length-fill _ _ _ ∙ entries-sized t
 
@@ -66,14 +66,14 @@ module _ (laws : List Law) (a : Study) (ok : StudyOk a) where
 
     -- they hold the last releases and entries of the filled run
     last-is : (t : ℕ) → t ≤ a .steps → at (m t .releases) i ≡ lastRelease b t i
-    unfolding meteredAfter lastRelease
+    unfolding meteredFrom lastRelease
     last-is zero h = zeros-at i
     last-is (suc t) h =
         last-release laws (roadAt a t) (m t) (a .rows t) (omega (arith, in-array t, releases-sized t)) i (in-step t)
         ∙ sym (filled-release laws (roadAt a t) (m t) (a .rows t) (numbers t h) i (in-step t))
 
     entry-is : (t : ℕ) → at (m t .entries) i ≡ lastEntry b t i
-    unfolding meteredAfter lastEntry
+    unfolding meteredFrom lastEntry
     entry-is zero = zeros-at i
     entry-is (suc t) =
         last-entry laws (roadAt a t) (m t) (a .rows t) (omega (arith, in-array t, entries-sized t)) i (in-step t)

@@ -26,7 +26,7 @@ Promise laws bytes lanes list e after out =
     (e ≡ fillingOf laws bytes lanes list) × ((after ≡ recordAfter laws bytes lanes list) × ((out ≡ filledList laws bytes lanes list)
     × ((Taken bytes lanes → Promised after lanes out e) × OnlyReleases bytes after)))
 
--- with what is said of the longest queues
+-- with the promise of the longest queues
 abbrev pub LongestPromise : List Law → List ℕ → List ℕ → List ℕ → EndAnswer → List ℕ → List ℕ → Type 0 → Type 0
 LongestPromise laws bytes lanes list e after out longest =
     (e ≡ fillingOf laws bytes lanes list) × ((after ≡ recordAfter laws bytes lanes list) × ((out ≡ filledList laws bytes lanes list)

@@ -19,7 +19,7 @@ use Rattle.put.specs.ReleasesLaws.{put-same}
 use Rattle.model.specs.Running.{EndAnswer, ended, noState}
 use Rattle.theory.specs.TableLaws.{table-shared}
 use Rattle.theory.specs.NoClosures.{AllOpen, empty-one, open-passes, open-one}
-use Rattle.model.specs.Filling.{meteredAfter, grantedIn, filledStudy, lawPlace, filledBytes, fillingOf, recordAfter, filledList}
+use Rattle.model.specs.Filling.{meteredAfter, meteredFrom, grantedIn, filledStudy, lawPlace, filledBytes, fillingOf, recordAfter, filledList}
 use Rattle.filling.specs.FillingLaws.{filled-road}
 
 -- what the wishes of step k go by, and the release of the cell at i in it, on one road
@@ -41,7 +41,7 @@ plainFilling laws bytes list =
 -- a study whose road is the same in each of its steps, as it is with the empty table and with all built lanes open
 module _ (laws : List Law) (a : Study) (one : (k : ℕ) → k < a .steps → roadAt a k ≡ a .road) where
   pub metered-plain : (k : ℕ) → k ≤ a .steps → meteredAfter laws a k ≡ plainMetered laws a k
-  unfolding meteredAfter plainMetered
+  unfolding meteredFrom plainMetered
   metered-plain zero l = refl
   metered-plain (suc k) l = rw (metered-plain k (omega arith), one k l) refl
 
@@ -81,7 +81,7 @@ module _ (laws : List Law) (bytes table : List ℕ) (reads : readingOf bytes .nu
 
   -- and so is what the wishes go by
   same-metered : (k : ℕ) → k ≤ readingOf bytes .steps → meteredAfter laws (studyOf bytes table) k ≡ meteredAfter laws (studyOf bytes []) k
-  unfolding meteredAfter
+  unfolding meteredFrom
   same-metered zero l = refl
   same-metered (suc k) l = rw (same-metered k (omega arith), same-road k l) refl
 

@@ -1,4 +1,4 @@
--- Filling goes by road, start, arrivals and lanes alone: a record filled in either version gets the same releases, whatever releases stood in it before,
+-- Filling goes by road, start, arrivals and lanes alone: a record filled in either version gets the same releases, whatever releases it held before,
 -- and filling twice gives what filling once does. Assumes nothing.
 use mathlib.Core.Path.{_≡_, refl, sym, ap, _∙_}
 use mathlib.Core.Logic.{⊎-elim}
@@ -31,7 +31,8 @@ use Rattle.model.specs.Running.{EndAnswer, lanesFault, tableOf}
 use Rattle.model.specs.Demand.{Taken}
 use Rattle.theory.specs.Readable.{readable}
 use Rattle.theory.specs.VersionsAlike.{EndsAlike, same-places, same-table}
-use Rattle.model.specs.Filling.{meteredAfter, filledRows, filledStudy, lawPlace, fillingOf, recordAfter, filledList, OnlyReleases}
+use Rattle.filling.specs.FillingLaws.{filledRows}
+use Rattle.model.specs.Filling.{meteredAfter, meteredFrom, filledStudy, lawPlace, fillingOf, recordAfter, filledList, OnlyReleases}
 use Rattle.filling.specs.Rerun.{filled-rows}
 use Rattle.filling.specs.Cases.{Leaves, fills-refused, fills-law, fills-closed, fills-short, fills-all, Case, case-of}
 use Rattle.filling.specs.Theorems.{only-releases}
@@ -127,7 +128,7 @@ module _ (laws : List Law) {a b : Study} (ok : StudyOk a) (h : SameArrivals a b)
 
   -- in every step the same state, last releases and entries
   pub metered-same : (k : ℕ) → k ≤ a .steps → meteredAfter laws b k ≡ meteredAfter laws a k
-  unfolding meteredAfter
+  unfolding meteredFrom
   metered-same zero l = ap unmetered (h .start)
   metered-same (suc k) l =
       ap (λ (m : Metered). meteredOf laws (roadAt b k) m (b .rows k)) (metered-same k (omega arith))
@@ -216,7 +217,7 @@ only-taken {t = t} {lanes = lanes} first h = record {
   opens = ap (λ (x : ReadAnswer). lanesFault (studyBy t lanes (x .road) (x .state) (x .steps)) .number) (h .reads) ∙ first .opens;
 }
 
--- filling doesn't depend on the releases that stood in the record before
+-- filling doesn't depend on the releases that the record held before
 pub releases-alike : (laws : List Law) (s t lanes list : List ℕ) → Taken s lanes → OnlyReleases s t → FilledAlike laws s t lanes list
 releases-alike laws s t lanes list first h =
     let n = readingOf s .road .n in

@@ -1,3 +1,4 @@
+pub mod FillingFrom
 pub mod FillingLaws
 pub mod Turn
 pub mod FillingLoop
@@ -9,3 +10,6 @@ pub mod Theorems
 pub mod FilledPromise
 pub mod FilledUnclosed
 pub mod FillingAgain
+pub mod Long
+pub mod LastStep
+pub mod PromiseOn

@@ -20,8 +20,8 @@ use Rattle.theory.specs.TableLaws.{table-shared}
 use Rattle.theory.specs.RunEnds.{runs-long, writes-long}
 use Rattle.model.specs.Demand.{Taken}
 use Rattle.theory.specs.Readable.{readable}
-use Rattle.model.specs.Filling.{meteredAfter, grantedIn, filledRows, filledStudy, filledBytes}
-use Rattle.filling.specs.FillingLaws.{filled-run, releases-small, filled-ok, filled-passes}
+use Rattle.model.specs.Filling.{meteredAfter, grantedIn, filledStudy, filledBytes}
+use Rattle.filling.specs.FillingLaws.{filledRows, filled-run, releases-small, filled-ok, filled-passes}
 
 module _ (laws : List Law) (bytes lanes : List ℕ) (taken : Taken bytes lanes) where
   abbrev a : Study

@@ -1,4 +1,4 @@
--- One step of filling: what it asks, what it gives, and what is kept from step to step. Assumes nothing.
+-- One step of filling: what it requires, what it gives, and what is kept from step to step. Assumes nothing.
 use mathlib.Core.Path.{_≡_, sym, ap, _∙_}
 use mathlib.Core.List.{List}
 use Prim.Native.Nat.{ℕ, suc, _+_, _*_, _≤_, _<_}
@@ -53,7 +53,7 @@ arrays cell rest room release waits came demand = record {
 }
 
 -- what is kept of them: the cells with a ramp are listed, with what the last step left there; the rests are those of b × F; all have an entry for each cell
-pub record Kept (n : ℕ) (share ramp : List ℕ) (m : Metered) (ramps : ℕ) (w : Arrays) : Type 0 where
+pub record ArraysOk (n : ℕ) (share ramp : List ℕ) (m : Metered) (ramps : ℕ) (w : Arrays) : Type 0 where
   pub listed : Listed (NoRamp ramp) n ramps (w .cell)
   pub ramped : AtRamps ramp ramps (w .cell)
   pub lasts : Lasts m ramps (w .cell) (w .release) (w .came)
@@ -68,10 +68,10 @@ pub record Kept (n : ℕ) (share ramp : List ℕ) (m : Metered) (ramps : ℕ) (w
   pub longDemand : n ≤ length (w .demand)
 
 pub kept-on : {n n′ : ℕ} {share share′ ramp ramp′ : List ℕ} {m m′ : Metered} {ramps : ℕ} {w : Arrays}
-    → n′ ≡ n → share′ ≡ share → ramp′ ≡ ramp → m′ ≡ m → Kept n share ramp m ramps w → Kept n′ share′ ramp′ m′ ramps w
+    → n′ ≡ n → share′ ≡ share → ramp′ ≡ ramp → m′ ≡ m → ArraysOk n share ramp m ramps w → ArraysOk n′ share′ ramp′ m′ ramps w
 kept-on en es er em h = rw (en, es, er, em) h
 
--- what filling a step asks: the bytes hold its row, which is within its limits, a step by the filled row may be made, the laws are in columns, and y
+-- what filling a step requires: the bytes hold its row, which is within its limits, a step by the filled row may be made, the laws are in columns, and y
 -- has room for its outflows
 pub record FillAsks (laws : List Law) (bytes : List ℕ) (q : Road) (m : Metered) (k : ℕ) (kinds : List ℕ) (numbers : List Float) (ramps : ℕ) (w : Arrays)
     (y : List ℕ) : Type 0 where
@@ -79,7 +79,7 @@ pub record FillAsks (laws : List Law) (bytes : List ℕ) (q : Road) (m : Metered
   pub row : RowOk q (recordRow bytes (q .n) k)
   pub step : Steppable q (m .state) (filledRow laws q m (recordRow bytes (q .n) k))
   pub columns : InColumns laws kinds numbers
-  pub kept : Kept (q .n) (q .share) (q .ramp) m ramps w
+  pub kept : ArraysOk (q .n) (q .share) (q .ramp) m ramps w
   pub places : length y ≡ q .n + 1
 
 -- that, by some laws and on some road with these columns
@@ -97,7 +97,7 @@ pub record FilledRow (laws : List Law) (bytes : List ℕ) (q : Road) (m : Metere
   pub releases : put ≡ putReleases bytes (q .n) k (grantedAt laws q m (recordRow bytes (q .n) k)) (q .n)
   pub state : t ≡ meteredOf laws q m (recordRow bytes (q .n) k) .state
   pub row : y ≡ outflowsOf q (m .state) (filledRow laws q m (recordRow bytes (q .n) k))
-  pub kept : Kept (q .n) (q .share) (q .ramp) (meteredOf laws q m (recordRow bytes (q .n) k)) ramps w
+  pub kept : ArraysOk (q .n) (q .share) (q .ramp) (meteredOf laws q m (recordRow bytes (q .n) k)) ramps w
 
 module _ {laws : List Law} {bytes : List ℕ} {q : Road} {m : Metered} {k : ℕ} {kinds : List ℕ} {numbers : List Float} {ramps : ℕ} {w : Arrays} {y₀ : List ℕ}
     (f : FillAsks laws bytes q m k kinds numbers ramps w y₀) where
@@ -110,7 +110,7 @@ module _ {laws : List Law} {bytes : List ℕ} {q : Road} {m : Metered} {k : ℕ}
   abbrev y : List ℕ
   y = outflowsOf q (m .state) filled
 
-  -- the supplies, and then granting, ask nothing more
+  -- the supplies, and then granting, need nothing more
   pub supplies-ask : Supplies (q .n) (q .wave) (q .jam) (m .state .held)
   supplies-ask = record {
     cells = f .step .input .road .cells;

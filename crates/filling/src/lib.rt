@@ -1,11 +1,14 @@
 // Filling: a record's releases, granted to its ramps by their meter laws, step by step.
+mod last_step;
+
 use counts::AtGate;
 use model::Ended;
+use model::FilledOn;
 use model::Law;
 use model::Longest;
+use model::Progress;
 use model::Refusal;
 use model::Road;
-use model::State;
 use outflows::Ledger;
 ghost use mathlib.Core.Path.{_≡_};
 ghost use mathlib.Core.Bool.{true};
@@ -19,10 +22,19 @@ ghost use Rattle.model.specs.Ramps.{putTable, metered};
 ghost use Rattle.model.specs.Running.{ended, endAnswer, tableOf};
 ghost use Rattle.model.specs.Demand.{Taken, Promised};
 ghost use Rattle.model.specs.Longest.{longestQueues, longestFill};
-ghost use Rattle.model.specs.Filling.{meteredAfter, grantedIn, filledStudy, fillingOf, recordAfter, filledList, OnlyReleases};
+ghost use Rattle.model.specs.Filling.{meteredFrom, grantedFrom, filledFrom, fillingOf, recordAfter, filledList, OnlyReleases};
+ghost use Rattle.model.specs.GoingOn.{progressed, fillingOn, recordOn, filledListOn, longestFillOn, progressOn};
+ghost use Prim.Native.Nat.{_+_, _-_, _≤_};
+ghost use lib.Dec.{leb};
+ghost use Rattle.model.specs.Numbers.{at, allOf, fillOf, rowAt};
+ghost use Rattle.model.specs.Road.{mostCells, zeros, withoutState};
+ghost use Rattle.model.specs.Places.{releaseAt};
+ghost use Rattle.model.specs.Record.{recordRow};
+ghost use Rattle.counts.specs.Longest.{noQueues};
+ghost use Rattle.filling.specs.LastStep.{enteredIn, LastAsks};
 ghost use Rattle.filling.specs.Turn.{arrays, FillAsks, FillLent, FilledRow};
-ghost use Rattle.filling.specs.FillingLoop.{Fillable};
-ghost use Rattle.filling.specs.LongestFill.{longestFilled};
+ghost use Rattle.filling.specs.FillingLoop.{FillableFrom};
+ghost use Rattle.filling.specs.LongestFill.{longestFrom};
 
 // One step on lent columns: its releases are granted and put into the bytes, then the step is made with them.
 fn fill_row<'a, 'b>(
@@ -105,24 +117,26 @@ fn fill_row<'a, 'b>(
 }
 
 // Fills the releases of every step under a table of lanes and writes its outflows; gives the final state, and the longest queues where they are
-// asked for.
+// wanted.
 fn fill_rows(
     bytes: &mut [u8],
     laws: [Law; 64],
     table: &[u8],
     r: Road,
-    s: State,
+    from: Progress,
     steps: usize,
     longs: bool,
     out: &mut [u32],
 ) -> Longest
-    requires { ⌜ Fillable (now bytes) (studyBy (now bytes) (now table) r s steps) (now out) ⌝ }
+    requires { ⌜ FillableFrom (now bytes) (studyBy (now bytes) (now table) r (from .state) steps) (progressed from) (now out) ⌝ }
     ensures releases { λ e. ⌜ now (bytes .exit)
-        ≡ putTable (now (bytes .entry)) (r .n) (grantedIn laws (studyBy (now (bytes .entry)) (now (table .entry)) r s steps)) steps ⌝ }
-    ensures list { λ e. ⌜ now (out .exit) ≡ tableOf (filledStudy laws (studyBy (now (bytes .entry)) (now (table .entry)) r s steps)) (now (out .entry)) steps ⌝ }
+        ≡ putTable (now (bytes .entry)) (r .n) (grantedFrom laws (studyBy (now (bytes .entry)) (now (table .entry)) r (from .state) steps) (progressed from)) steps ⌝ }
+    ensures list { λ e. ⌜ now (out .exit)
+        ≡ tableOf (filledFrom laws (studyBy (now (bytes .entry)) (now (table .entry)) r (from .state) steps) (progressed from)) (now (out .entry)) steps ⌝ }
     ensures answer { λ e. ⌜ endAnswer (e .ended)
-        ≡ ended 0 0 0 r (meteredAfter laws (studyBy (now (bytes .entry)) (now (table .entry)) r s steps) steps .state) ⌝ }
-    ensures longest { λ e. ⌜ (longs ≡ true → longestQueues e ≡ longestFilled laws (studyBy (now (bytes .entry)) (now (table .entry)) r s steps)) ⌝ }
+        ≡ ended 0 0 0 r (meteredFrom laws (studyBy (now (bytes .entry)) (now (table .entry)) r (from .state) steps) (progressed from) steps .state) ⌝ }
+    ensures longest { λ e. ⌜ (longs ≡ true
+        → longestQueues e ≡ longestFrom laws (studyBy (now (bytes .entry)) (now (table .entry)) r (from .state) steps) (progressed from)) ⌝ }
 {
     let n = r.n;
     let places = n + 1;
@@ -131,14 +145,20 @@ fn fill_rows(
     let mut road = r;
     let mut cell = [0usize; 64];
     let ramps = passes::ramp_cells(n, &road.ramp, &mut cell);
+    let s = from.state;
+    let releases = from.releases;
+    let entries = from.entries;
     let mut held = s.held;
     let mut queue = s.queue;
     let mut cumulative = s.cumulative;
-    let mut came = s.held;
     let mut l = Ledger::of(s);
     let mut rest = [0u32; 64];
-    let mut room = [0u32; 65];
+    passes::remainders(n, &road.share, &cumulative, &mut rest);
     let mut release = [0u32; 64];
+    ramps::last_releases(ramps, &cell, &releases, &mut release);
+    let mut came = [0u32; 64];
+    ramps::came_before(n, &held, &cumulative, &entries, &mut came);
+    let mut room = [0u32; 65];
     let mut waiting = [0u32; 64];
     let mut demand = [0u32; 64];
     let mut gate = AtGate {
@@ -188,15 +208,10 @@ fn fill_rows(
         k += 1;
     }
     let ended = Ended::complete(r, l.state(held, queue, cumulative));
-    Longest {
-        ended: ended,
-        gate: gate.gate,
-        waiting: gate.waiting,
-        ramps: most,
-    }
+    counts::longest(ended, gate, most)
 }
 
-// Fills a record's releases by its ramps' laws under a table of lanes and runs it in one pass, with its longest queues where they are asked for.
+// Fills a record's releases by its ramps' laws under a table of lanes and runs it in one pass, with its longest queues where they are wanted.
 fn fill_opened(
     bytes: &mut [u8],
     laws: [Law; 64],
@@ -234,7 +249,12 @@ fn fill_opened(
     if out.len() < steps * (n + 1) {
         return counts::unbegun(Refusal::ListLength, 0);
     }
-    fill_rows(bytes, laws, table, road, state, steps, longs, out)
+    let start = Progress {
+        state: state,
+        releases: [0; 64],
+        entries: [0; 64],
+    };
+    fill_rows(bytes, laws, table, road, start, steps, longs, out)
 }
 
 // Fills a record's releases by its ramps' laws under a table of lanes and runs it in one pass: the refusals of reading, 16, 17, 18, 11.
@@ -260,4 +280,110 @@ pub fn fill_longest(bytes: &mut [u8], laws: [Law; 64], table: &[u8], out: &mut [
     ensures releases { λ e. ⌜ OnlyReleases (now (bytes .entry)) (now (bytes .exit)) ⌝ }
 {
     fill_opened(bytes, laws, table, true, out)
+}
+
+// Whether no last entry of the first n cells is above what the cell holds.
+fn entries_within(n: usize, held: [u32; 64], entries: [u32; 64]) -> bool
+    requires { ⌜ n ≤ mostCells ⌝ }
+    ensures { λ b. ⌜ b ≡ allOf (λ i. leb (at entries i) (at held i)) n ⌝ }
+{
+    let mut i = 0;
+    while i < n {
+        if held[i] < entries[i] {
+            return false;
+        }
+        i += 1;
+    }
+    true
+}
+
+// A refusal that names no state, with no step done.
+fn unbegun(refusal: Refusal, place: usize) -> FilledOn
+    ensures { λ e. ⌜ (e .longest .ended ≡ withoutState refusal place)
+        × ((longestQueues (e .longest) ≡ noQueues) × ((e .releases ≡ zeros) × (e .entries ≡ zeros))) ⌝ }
+{
+    let longest = counts::unbegun(refusal, place);
+    FilledOn {
+        longest: longest,
+        releases: [0; 64],
+        entries: [0; 64],
+    }
+}
+
+// With filling's answer, what its last step leaves for a further record: its releases stand in the record, its outflows in the list.
+fn with_last(
+    bytes: &[u8],
+    r: Road,
+    steps: usize,
+    from: Progress,
+    longest: Longest,
+    out: &[u32],
+) -> FilledOn
+    requires { ⌜ LastAsks (now bytes) r steps (longest .ended .state .cumulative) (now out) ⌝ }
+    ensures { λ e. ⌜ (e .longest ≡ longest)
+        × ((e .releases ≡ fillOf (releaseAt (recordRow (now (bytes .entry)) (r .n) (steps - 1))) (r .n) (from .releases))
+        × (e .entries ≡ fillOf (enteredIn (r .share) (longest .ended .state .cumulative) (rowAt (now (out .entry)) (r .n + 1) (steps - 1))) (r .n) (from .entries))) ⌝ }
+{
+    let n = r.n;
+    let places = n + 1;
+    let to = (steps - 1) * places;
+    let end = to + places;
+    let mut releases = from.releases;
+    last_step::put_releases(bytes, n, steps - 1, &mut releases);
+    let state = longest.ended.state;
+    let mut entries = from.entries;
+    last_step::put_entries(n, &r.share, &state.cumulative, &out[to..end], &mut entries);
+    FilledOn {
+        longest: longest,
+        releases: releases,
+        entries: entries,
+    }
+}
+
+// Fills the rows of a further record from where an earlier one was left, with its longest queues: the refusals of reading, 16, 17, 18, 7, 8, 11.
+pub fn fill_on(
+    bytes: &mut [u8],
+    laws: [Law; 64],
+    table: &[u8],
+    from: Progress,
+    out: &mut [u32],
+) -> FilledOn
+    ensures answer { λ e. ⌜ endAnswer (e .longest .ended) ≡ fillingOn laws (now (bytes .entry)) (now (table .entry)) (progressed from) (now (out .entry)) ⌝ }
+    ensures bytes { λ e. ⌜ now (bytes .exit) ≡ recordOn laws (now (bytes .entry)) (now (table .entry)) (progressed from) (now (out .entry)) ⌝ }
+    ensures list { λ e. ⌜ now (out .exit) ≡ filledListOn laws (now (bytes .entry)) (now (table .entry)) (progressed from) (now (out .entry)) ⌝ }
+    ensures longest { λ e. ⌜ longestQueues (e .longest) ≡ longestFillOn laws (now (bytes .entry)) (now (table .entry)) (progressed from) (now (out .entry)) ⌝ }
+    ensures progress { λ e. ⌜ metered (e .longest .ended .state) (e .releases) (e .entries)
+        ≡ progressOn laws (now (bytes .entry)) (now (table .entry)) (progressed from) (now (out .entry)) ⌝ }
+{
+    let a = reading::read(bytes);
+    let refusal = a.refusal;
+    if refusal.number() != 0 {
+        return unbegun(refusal, a.place);
+    }
+    let road = a.road;
+    let ramp = road.ramp;
+    let n = road.n;
+    let place = meter::law_fault(laws, ramp, n);
+    if place != 0 {
+        return unbegun(Refusal::LawNumbers, place);
+    }
+    let steps = a.steps;
+    let q = opening::refused(table, n, steps);
+    let closed = q.refusal;
+    if closed.number() != 0 {
+        return unbegun(closed, q.place);
+    }
+    let state = from.state;
+    let held = state.held;
+    let entries = from.entries;
+    let within = limits::state_within(road, state) & entries_within(n, held, entries);
+    let begins = opening::start_refusal(within, state.done, steps);
+    if begins.number() != 0 {
+        return unbegun(begins, 0);
+    }
+    if out.len() < steps * (n + 1) {
+        return unbegun(Refusal::ListLength, 0);
+    }
+    let longest = fill_rows(bytes, laws, table, road, from, steps, true, out);
+    with_last(bytes, road, steps, from, longest, out)
 }

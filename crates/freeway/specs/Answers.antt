@@ -34,7 +34,8 @@ refusals =
     ∷ refusal.StepInput ∷ refusal.StepsDone ∷ refusal.ReleaseAboveQueue ∷ refusal.ReleaseAboveSupply ∷ refusal.ListLength
     ∷ refusal.ScheduleLength ∷ refusal.OutflowAboveDemand ∷ refusal.EnteringAboveRoom ∷ refusal.TargetLength ∷ refusal.LawNumbers
     ∷ refusal.LanesLength ∷ refusal.Lanes ∷ refusal.Seconds ∷ refusal.RoadsDiffer ∷ refusal.SecondGate ∷ refusal.JoinedSize
-    ∷ refusal.WantedInput ∷ refusal.StreetInput ∷ refusal.Peak ∷ refusal.CallerLimits ∷ []
+    ∷ refusal.WantedInput ∷ refusal.StreetInput ∷ refusal.Peak ∷ refusal.CallerLimits
+    ∷ refusal.ManyLengths ∷ []
 
 abbrev refusalWith : ℕ → Refusal
 refusalWith number = getD refusals number refusal.None
@@ -67,6 +68,7 @@ read-back refusal.WantedInput = refl
 read-back refusal.StreetInput = refl
 read-back refusal.Peak = refl
 read-back refusal.CallerLimits = refl
+read-back refusal.ManyLengths = refl
 
 -- two refusals with one number are the same refusal
 pub refusal-same : (q p : Refusal) → refusalNumber q ≡ refusalNumber p → q ≡ p

@@ -5,4 +5,5 @@ pub mod WantedRun
 pub mod PutRun
 pub mod WantedPut
 pub mod JoinedRun
+pub mod GoingOnWhole
 pub mod Promises

@@ -1,4 +1,4 @@
--- One page of promises: what 01 and the requests ask to be proved, in their order, each restated under its sentence and proved by the law
+-- One page of promises: what 01 and the requests want proved, in their order, each restated under its sentence and proved by the law
 -- that says it. Contracts promise the rest: every function's outcome for all input, by an equation with its definition. Assumes nothing.
 use mathlib.Core.Path.{_≡_, refl}
 use mathlib.Core.Bool.{true, false}
@@ -20,20 +20,20 @@ use Rattle.model.specs.Road.{mostRate, startIn, totalOf}
 use Rattle.model.specs.Refusals.{refusalNumber, fault}
 use Rattle.model.specs.Record.{secondVersion, versionOf, rowNumbers}
 use Rattle.limits.specs.LimitsLaws.{RoadOk}
-use Rattle.model.specs.Load.{loaded, loadingOf, loadedList}
+use Rattle.model.specs.Load.{loaded, loadingOf, loadedList, LoadEnds}
 use Rattle.load.specs.Theorems as loads
-use Rattle.model.specs.Wanted.{Obeys, answer, wantedAnswer, wantedOf, tableAfter, Least}
+use Rattle.model.specs.Wanted.{TableObeys, searchAnswer, wantedAnswer, wantedOf, tableAfter, Least, WantedEnds, WantedRequest}
 use Rattle.wanted.specs.Theorems as wants
-use Rattle.model.specs.Street.{Asked, grantsOf, grantingOf, grantsAfter, Fair}
+use Rattle.model.specs.Street.{GrantRequest, grantsOf, grantingOf, grantsAfter, Fair, GrantEnds}
 use Rattle.street.specs.Theorems as streets
 use Rattle.model.specs.Meter.{wholeBelow, count}
 use Rattle.meter.specs.MeterLaws as meters
 use Rattle.model.specs.declared.Law.{Law}
 use Rattle.model.specs.Move.{presentOf, exitsOf, nextOf}
 use Rattle.theory.specs.Conservation.{arrivalsOf}
-use Rattle.model.specs.Schedules.{Released, outflowsOf, scheduleAfter, engineAfter, Obeying, scheduledAt}
+use Rattle.model.specs.Schedules.{Study, Released, outflowsOf, scheduleAfter, engineAfter, Obeying, proposedAt, scheduledAt}
 use Rattle.theory.specs.RulesLaws.{Sized}
-use Rattle.theory.specs.RunsLaws.{Fitting}
+use Rattle.theory.specs.RunsLaws.{Fitting, StudyOk}
 use Rattle.theory.specs.BetterRoad.{Improved}
 use Rattle.theory.specs.Conservation as conservation
 use Rattle.theory.specs.Edges as edges
@@ -43,7 +43,7 @@ use Rattle.reading.specs.Cases.{Accepted}
 use Rattle.reading.specs.Within as within
 use Rattle.reading.specs.Versions as versions
 use Rattle.reading.specs.Caller as callers
-use Rattle.model.specs.Put.{puttingOf, releasedRecord, Ramp, Stands}
+use Rattle.model.specs.Put.{puttingOf, releasedRecord, Ramp, Stands, PutEnds, PutRequest}
 use Rattle.put.specs.Theorems as puts
 use Rattle.model.specs.Writing.{writingOf, targetAfter}
 use Rattle.writing.specs.Theorems as saving
@@ -51,10 +51,11 @@ use Rattle.taking.specs.TakenRows as taking
 use Rattle.model.specs.Joining.{joinedRoad, joinedStart, joiningOf, joinedTarget}
 use Rattle.joining.specs.Theorems as joins
 use Rattle.model.specs.Judging.{judgingOf}
-use Rattle.model.specs.Running.{runningOf, listAfter, stepsMade}
+use Rattle.model.specs.Running.{runSays, firstStep, runEnd, runningOf, listAfter, stepsMade}
+use Rattle.model.specs.GoingOn.{stateFault}
 use Rattle.model.specs.Demand.{Taken, Promised, WeightedDemand, Reaches, Ahead, AcceptsExactly}
 use Rattle.theory.specs.DemandWhole as whole
-use Rattle.model.specs.Weights.{weighingOf}
+use Rattle.model.specs.Weights.{weightedTotalOfRun}
 use Rattle.theory.specs.DemandByWeights as weighting
 use Rattle.theory.specs.WeightsUnread as unread
 use Rattle.theory.specs.BetterRoadRuns as improving
@@ -68,17 +69,16 @@ use Rattle.theory.specs.AnyShares.{Most}
 use Rattle.theory.specs.NearRuns.{Deciding}
 use Rattle.theory.specs.Rounding as rounds
 use Rattle.theory.specs.Totals as totals
-use Rattle.model.specs.Filling.{fillingOf, recordAfter, filledList, OnlyReleases}
+use Rattle.model.specs.Ramps.{Metered}
+use Rattle.model.specs.Filling.{meteredFrom, fillingOf, recordAfter, filledList, OnlyReleases}
 use Rattle.filling.specs.Theorems as filling
 use Rattle.freeway.specs.Answers as answers
 use Rattle.freeway.specs.PutRun as putting
 use Rattle.freeway.specs.WantedRun as wantedRun
 use Rattle.freeway.specs.WantedPut as wantedPut
 use Rattle.freeway.specs.JoinedRun as joinedRun
-use Rattle.model.specs.Load as loadModel
-use Rattle.model.specs.Wanted as wanted
-use Rattle.model.specs.Street as streetModel
-use Rattle.model.specs.Put as putModel
+use Rattle.freeway.specs.GoingOnWhole as stretches
+use Rattle.theory.specs.GoingOn as onward
 
 -- 01, forms. A number and values for each case of an answer, and no two cases with the same; of every other type of answer: `Answers`
 pub refusal-settled : (q p : Refusal) → refusalNumber q ≡ refusalNumber p → q ≡ p
@@ -158,7 +158,7 @@ accepts-exactly bytes lanes zs = judged.accepts-exactly bytes lanes zs refl
 pub accounts : (bytes lanes zs : List ℕ) → Taken bytes lanes → (k : ℕ) → Reaches (studyOf bytes lanes) zs k → accounting.Accounts (studyOf bytes lanes) zs k
 accounts = accounting.accounts
 
--- demand 3. For every record that reads and every schedule that anyone draws for it (`Demand`, with what its words stand for)
+-- demand 3. For every record that reads and every schedule that anyone draws for it (`Demand`, with the meaning of its words)
 pub demand-three : (bytes lanes : List ℕ) → Taken bytes lanes → (list : List ℕ)
     → Promised bytes lanes (listAfter bytes lanes list) (runningOf bytes lanes list)
 demand-three = whole.promised
@@ -226,12 +226,13 @@ first-refuses = versions.first-refuses
 
 -- request 8. If no place weighs more than the one before it, gate first, the run's weighted total is at most every schedule's over the steps both reach
 pub weighted : (bytes lanes : List ℕ) → Taken bytes lanes → (list : List ℕ) (w u : ℕ → ℕ)
-    → WeightedDemand bytes lanes w u (listAfter bytes lanes list) (runningOf bytes lanes list) (weighingOf w u bytes lanes list)
+    → WeightedDemand bytes lanes w u (listAfter bytes lanes list) (runningOf bytes lanes list) (weightedTotalOfRun w u bytes lanes list)
 weighted = weighting.weighted-demand
 
 -- weights past cell n are not read
 pub weights-unread : (bytes lanes : List ℕ) (w v u x : ℕ → ℕ) → ((p : ℕ) → p ≤ studyOf bytes lanes .road .n → w p ≡ v p)
-    → ((i : ℕ) → i < studyOf bytes lanes .road .n → u i ≡ x i) → (list : List ℕ) → weighingOf w u bytes lanes list ≡ weighingOf v x bytes lanes list
+    → ((i : ℕ) → i < studyOf bytes lanes .road .n → u i ≡ x i) → (list : List ℕ)
+    → weightedTotalOfRun w u bytes lanes list ≡ weightedTotalOfRun v x bytes lanes list
 weights-unread = unread.run-unread
 
 -- raising v, w, J or C of cells never makes the total larger, after every step that both roads reach with the same releases, start, arrivals and closures
@@ -288,32 +289,32 @@ pub least-only : (start ceiling rate : ℕ) (arrivals : List ℕ) {one other : L
 least-only = wants.least-unique
 
 -- none exactly where, within the limits of 23, no table obeys; the lent table is then unchanged
-pub none-only : (start ceiling rate : ℕ) (arrivals table : List ℕ) → wantedOf start ceiling rate arrivals (length table) ≡ answer 0 true false
-    → (other : List ℕ) → Obeys start ceiling rate arrivals other → ⊥
+pub none-only : (start ceiling rate : ℕ) (arrivals table : List ℕ) → wantedOf start ceiling rate arrivals (length table) ≡ searchAnswer 0 true false
+    → (other : List ℕ) → TableObeys start ceiling rate arrivals other → ⊥
 none-only = wants.none-only
 
-pub none-if : (start ceiling rate : ℕ) (arrivals table : List ℕ) → wanted.Asked start ceiling rate arrivals (length table)
-    → ((other : List ℕ) → Obeys start ceiling rate arrivals other → ⊥)
-    → (wantedOf start ceiling rate arrivals (length table) ≡ answer 0 true false) × (tableAfter start ceiling rate arrivals table ≡ table)
+pub none-if : (start ceiling rate : ℕ) (arrivals table : List ℕ) → WantedRequest start ceiling rate arrivals (length table)
+    → ((other : List ℕ) → TableObeys start ceiling rate arrivals other → ⊥)
+    → (wantedOf start ceiling rate arrivals (length table) ≡ searchAnswer 0 true false) × (tableAfter start ceiling rate arrivals table ≡ table)
 none-if = wants.none-if
 
 -- 23 exactly where a limit is passed; the lent table is then unchanged
 pub wanted-refused : (start ceiling rate : ℕ) (arrivals table : List ℕ) → wantedOf start ceiling rate arrivals (length table) .number ≡ 23
-    → wanted.Asked start ceiling rate arrivals (length table) → ⊥
+    → WantedRequest start ceiling rate arrivals (length table) → ⊥
 wanted-refused = wants.refused-only
 
-pub wanted-refused-if : (start ceiling rate : ℕ) (arrivals table : List ℕ) → (wanted.Asked start ceiling rate arrivals (length table) → ⊥)
-    → (wantedOf start ceiling rate arrivals (length table) ≡ answer 23 false false) × (tableAfter start ceiling rate arrivals table ≡ table)
+pub wanted-refused-if : (start ceiling rate : ℕ) (arrivals table : List ℕ) → (WantedRequest start ceiling rate arrivals (length table) → ⊥)
+    → (wantedOf start ceiling rate arrivals (length table) ≡ searchAnswer 23 false false) × (tableAfter start ceiling rate arrivals table ≡ table)
 wanted-refused-if = wants.refused-if
 
 -- there is no other end
 pub wanted-ends : (start ceiling rate : ℕ) (arrivals table : List ℕ)
-    → wanted.Ends start ceiling rate arrivals table (wantedOf start ceiling rate arrivals (length table)) (tableAfter start ceiling rate arrivals table)
+    → WantedEnds start ceiling rate arrivals table (wantedOf start ceiling rate arrivals (length table)) (tableAfter start ceiling rate arrivals table)
 wanted-ends = wants.ends
 
 -- 'running checks it': where a ramp has a table's releases, and its start queue and arrivals, and the table obeys, running never says 9 of that ramp
 pub never-nine : (bytes lanes : List ℕ) → Taken bytes lanes → (i start ceiling rate : ℕ) (arrivals table : List ℕ)
-    → wantedRun.Follows (studyOf bytes lanes) i start arrivals table → Obeys start ceiling rate arrivals table
+    → wantedRun.Follows (studyOf bytes lanes) i start arrivals table → TableObeys start ceiling rate arrivals table
     → (list : List ℕ) → runningOf bytes lanes list .number ≡ 9 → runningOf bytes lanes list .place ≡ i + 1 → ⊥
 never-nine = wantedRun.running-never-nine
 
@@ -329,11 +330,11 @@ found-put = wantedPut.found-kept
 
 -- request 11. The limit is never passed, no ramp gets more than its wish, none less than the smaller of wish and guarantee, what remains goes in ramp
 -- order and nothing is wasted; no other grants are so
-pub fair : (limit : ℕ) (guarantees wishes : List ℕ) → Asked limit guarantees wishes
+pub fair : (limit : ℕ) (guarantees wishes : List ℕ) → GrantRequest limit guarantees wishes
     → Fair limit guarantees wishes (grantsOf limit guarantees wishes)
 fair = streets.fair
 
-pub fair-only : {limit : ℕ} {guarantees wishes : List ℕ} → Asked limit guarantees wishes → (grants : List ℕ)
+pub fair-only : {limit : ℕ} {guarantees wishes : List ℕ} → GrantRequest limit guarantees wishes → (grants : List ℕ)
     → Fair limit guarantees wishes grants → grants ≡ grantsOf limit guarantees wishes
 fair-only = streets.fair-unique
 
@@ -344,23 +345,23 @@ whatever-others-wish = streets.whatever-others-wish
 
 -- 24 or the grants, and no other end; 24 leaves the grants' list unchanged
 pub granted-ends : (limit : ℕ) (guarantees wishes grants : List ℕ)
-    → streetModel.Ends limit guarantees wishes grants (grantingOf limit guarantees wishes (length grants)) (grantsAfter limit guarantees wishes grants)
+    → GrantEnds limit guarantees wishes grants (grantingOf limit guarantees wishes (length grants)) (grantsAfter limit guarantees wishes grants)
 granted-ends = streets.ends
 
 -- putting never refuses a granted release for its size
-pub granted-put : (limit : ℕ) (guarantees wishes : List ℕ) → Asked limit guarantees wishes → (i : ℕ) → i < length guarantees
+pub granted-put : (limit : ℕ) (guarantees wishes : List ℕ) → GrantRequest limit guarantees wishes → (i : ℕ) → i < length guarantees
     → (bytes : List ℕ) (step cell : ℕ) → readingOf bytes .number ≡ 0 → Ramp (readingOf bytes .road .ramp) (readingOf bytes .road .n) cell
     → step < readingOf bytes .steps → puttingOf bytes step cell (at (grantsOf limit guarantees wishes) i) ≡ fault 0 0
 granted-put = putting.granted-put
 
 -- putting a release into a record changes nothing else in it
 pub put : (bytes : List ℕ) (step cell release : ℕ) → puttingOf bytes step cell release .number ≡ 0
-    → putModel.Asked bytes step cell release × Stands bytes (releasedRecord bytes step cell release) step cell release
+    → PutRequest bytes step cell release × Stands bytes (releasedRecord bytes step cell release) step cell release
 put = puts.puts
 
 -- each refusal with all that comes before it, and what it leaves of the record
 pub put-ends : (bytes : List ℕ) (step cell release : ℕ)
-    → putModel.Ends bytes step cell release (puttingOf bytes step cell release) (releasedRecord bytes step cell release)
+    → PutEnds bytes step cell release (puttingOf bytes step cell release) (releasedRecord bytes step cell release)
 put-ends = puts.ends
 
 -- a run that makes that step has checked the release against queue and supply
@@ -393,7 +394,7 @@ pub peak-refused-if : (seed peak : ℕ) (list : List ℕ) → mostRate < peak
 peak-refused-if = loads.refused-if
 
 -- there is no other end but the seed's arrivals in their order, with the last number
-pub loaded-ends : (seed peak : ℕ) (list : List ℕ) → loadModel.Ends seed peak list (loadingOf seed peak (length list)) (loadedList seed peak list)
+pub loaded-ends : (seed peak : ℕ) (list : List ℕ) → LoadEnds seed peak list (loadingOf seed peak (length list)) (loadedList seed peak list)
 loaded-ends = loads.ends
 
 -- request 14. For every pair of limits 26 comes exactly where no refusal before it applies and n or the count of bytes is above the pair
@@ -403,7 +404,7 @@ caller-beyond = callers.beyond-refused
 pub caller-only : (s : List ℕ) (cells most : ℕ) → readingWithin cells most s .number ≡ 26 → callers.Beyond cells most s
 caller-only = callers.refused-beyond
 
--- a record that keeps within the pair is read as without it; what is printed of it then is said in `printing/PrintedLaws`
+-- a record that keeps within the pair is read as without it; `printing/PrintedLaws` says what is printed of it then
 pub caller-same : (s : List ℕ) (cells most : ℕ) → cellsOf s ≤ cells → length s ≤ most → readingWithin cells most s ≡ readingOf s
 caller-same = callers.within-kept
 
@@ -411,3 +412,23 @@ caller-same = callers.within-kept
 pub caller-larger : (s : List ℕ) (cells most more longer : ℕ) → cells ≤ more → most ≤ longer → (readingWithin cells most s .number ≡ 26 → ⊥)
     → readingWithin more longer s ≡ readingWithin cells most s
 caller-larger = callers.within-larger
+
+-- going on from a state: b is what is left of a after k steps without a fault. Going on is not refused with 7 or 8, the whole ends as the rest does,
+-- and no schedule of the whole is ahead of a run in stretches
+pub stretch-starts : {a b : Study} {k : ℕ} → onward.Rest a b k → StudyOk a → ((j : ℕ) → j < k → runSays a j .number ≡ 0) → b .start ≡ engineAfter a k
+    → stateFault b ≡ 0
+stretch-starts h ok none s = stretches.starts-rest h ok none s
+
+pub stretch-ends : {a b : Study} {k : ℕ} → onward.Rest a b k → b .start ≡ engineAfter a k → ((j : ℕ) → j < k → runSays a j .number ≡ 0)
+    → onward.EndsAs a b k (runEnd a) (runEnd b)
+stretch-ends h s none = onward.run-rest h s none
+
+pub stretch-best : {a b : Study} {k : ℕ} → onward.Rest a b k → b .start ≡ engineAfter a k → StudyOk a → ((j : ℕ) → j < k → runSays a j .number ≡ 0)
+    → (zs : List ℕ) (j : ℕ) → j ≤ firstStep (runSays b) (b .steps) → Obeying a (proposedAt a zs) (k + j)
+    → Ahead (a .road) (engineAfter b j) (scheduledAt a zs (k + j))
+stretch-best h s ok none zs j l obeys = stretches.best-rest h s ok none zs j l obeys
+
+-- filling's wishes go by the same in the rest as in the whole
+pub stretch-filled : {a b : Study} {k : ℕ} → onward.Rest a b k → (laws : List Law) (m p : Metered) → p ≡ meteredFrom laws a m k
+    → (j : ℕ) → j ≤ b .steps → meteredFrom laws b p j ≡ meteredFrom laws a m (k + j)
+stretch-filled = onward.metered-rest

@@ -9,18 +9,17 @@ use lib.ListN.{length, set}
 use Rattle.model.specs.Numbers.{at}
 use Rattle.model.specs.Refusals.{fault}
 use Rattle.model.specs.Schedules.{Study, roadAt, scheduledAt}
-use Rattle.model.specs.Street.{grantsOf}
+use Rattle.model.specs.Street.{grantsOf, GrantRequest}
 use Rattle.street.specs.StreetLaws.{grants-wish}
 use Rattle.fields.specs.FieldsLaws.{row-at}
 use Rattle.model.specs.Reading.{ReadAnswer, readingOf, studyOf}
 use Rattle.model.specs.Places.{releaseAt, mostReleaseAt, supplyAt}
-use Rattle.model.specs.Put.{puttingOf, releasedRecord, Ramp, Asked, Stands}
+use Rattle.model.specs.Put.{puttingOf, releasedRecord, Ramp, PutRequest, Stands}
 use Rattle.put.specs.Theorems.{puts, put-if}
 use Rattle.model.specs.Running.{stepsMade, runningOf, listAfter}
 use Rattle.theory.specs.Readable.{readable}
 use Rattle.model.specs.Demand.{Taken, Promised}
 use Rattle.theory.specs.DemandWhole.{promised}
-use Rattle.model.specs.Street as street
 
 -- in the state that a table of outflows has before a step, a release at i is at most queue plus arrivals, and at most the supply
 pub record Checked (a : Study) (out : List ℕ) (step release i : ℕ) : Type 0 where
@@ -37,7 +36,7 @@ module _ (bytes lanes : List ℕ) (taken : Taken bytes lanes) (step cell release
   stands : Stands bytes (releasedRecord bytes step cell release) step cell release
   stands = puts bytes step cell release put .1
 
-  asked : Asked bytes step cell release
+  asked : PutRequest bytes step cell release
   asked = puts bytes step cell release put .0
 
   -- it is opened as the old one was
@@ -60,7 +59,7 @@ module _ (bytes lanes : List ℕ) (taken : Taken bytes lanes) (step cell release
       (runningOf (releasedRecord bytes step cell release) lanes list)
   put-promised list = promised (releasedRecord bytes step cell release) lanes put-taken list
 
-  -- the release stands in the row as the model counts it
+  -- the release is in the row, as the model counts it
   pub put-release : (i : ℕ) → i + 1 ≡ cell → releaseAt (studyOf (releasedRecord bytes step cell release) lanes .rows step) i ≡ release
   put-release i e =
       let k : 2 * i + 2 ≡ 2 * cell = omega arith in
@@ -80,7 +79,7 @@ module _ (bytes lanes : List ℕ) (taken : Taken bytes lanes) (step cell release
         record { queue = omega (arith, put-release i e, own .queue i n); supply = omega (arith, put-release i e, own .supply i n) }
 
 -- putting never refuses a granted release for its size: at a ramp of the road and a step of the record it is put
-pub granted-put : (limit : ℕ) (guarantees wishes : List ℕ) → street.Asked limit guarantees wishes → (i : ℕ) → i < length guarantees
+pub granted-put : (limit : ℕ) (guarantees wishes : List ℕ) → GrantRequest limit guarantees wishes → (i : ℕ) → i < length guarantees
     → (bytes : List ℕ) (step cell : ℕ) → readingOf bytes .number ≡ 0 → Ramp (readingOf bytes .road .ramp) (readingOf bytes .road .n) cell
     → step < readingOf bytes .steps → puttingOf bytes step cell (at (grantsOf limit guarantees wishes) i) ≡ fault 0 0
 granted-put limit guarantees wishes asked i l bytes step cell reads ramp before =

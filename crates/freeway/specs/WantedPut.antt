@@ -14,7 +14,7 @@ use Rattle.numbers.specs.RowsLaws.{length-list, list-at}
 use Rattle.model.specs.Road.{mostRate}
 use Rattle.model.specs.Refusals.{FaultAnswer, fault}
 use Rattle.model.specs.Schedules.{Study, scheduleAfter}
-use Rattle.model.specs.Wanted.{Obeys, wantedOf, tableAfter}
+use Rattle.model.specs.Wanted.{TableObeys, wantedOf, tableAfter}
 use Rattle.wanted.specs.Theorems.{found-least, found-asked}
 use Rattle.model.specs.Places.{arrivalsAt, releaseAt}
 use Rattle.model.specs.Record.{numberSize, versionOf, entryStart, recordRow}
@@ -155,7 +155,7 @@ module _ (bytes lanes : List ℕ) (taken : Taken bytes lanes) (i : ℕ)
     abbrev table : List ℕ
     table = tableAfter start ceiling rate arrivals lent
 
-    obeys : Obeys (at (readingOf bytes .state .queue) i) ceiling rate (rampArrivals bytes i)
+    obeys : TableObeys (at (readingOf bytes .state .queue) i) ceiling rate (rampArrivals bytes i)
         (tableAfter (at (readingOf bytes .state .queue) i) ceiling rate (rampArrivals bytes i) lent)
     obeys = found-least start ceiling rate arrivals lent found .obeys
 

@@ -24,7 +24,7 @@ use Rattle.theory.specs.SchedulesLaws.{step-within, end-all, end-fault}
 use Rattle.theory.specs.RunEnds.{runs-long, runs-short}
 use Rattle.theory.specs.Readable.{readable}
 use Rattle.model.specs.Demand.{Taken}
-use Rattle.model.specs.Wanted.{queueAfter, Obeys}
+use Rattle.model.specs.Wanted.{rampQueueAfter, TableObeys}
 
 -- the ramp of the cell at i has this start queue, these arrivals and this table's releases
 pub record Follows (a : Study) (i start : ℕ) (arrivals table : List ℕ) : Type 0 where
@@ -34,7 +34,7 @@ pub record Follows (a : Study) (i start : ℕ) (arrivals table : List ℕ) : Typ
   pub comes : (k : ℕ) → k < a .steps → arrivalsAt (a .rows k) i ≡ at arrivals k
   pub goes : (k : ℕ) → k < a .steps → releaseAt (a .rows k) i ≡ at table k
 
--- the lowest fault, told as 9 at place i + 1, is that of the cell at i
+-- the lowest fault, 9 at place i + 1, is that of the cell at i
 nine-there : (f : ℕ → ℕ) (n i : ℕ) → lowestOf f n 1 .number ≡ 9 → lowestOf f n 1 .place ≡ i + 1 → f i ≡ 9
 unfolding lowestOf
 nine-there f n i e p = go (eqb (firstFault f n) n) e p
@@ -54,10 +54,10 @@ fits-no-nine release most supply h = rw (le-leb release most h) (go (leb release
     go false e = omega arith
 
 module _ (a : Study) (ok : StudyOk a) (i start ceiling rate : ℕ) (arrivals table : List ℕ) (follows : Follows a i start arrivals table)
-    (obeys : Obeys start ceiling rate arrivals table) where
+    (obeys : TableObeys start ceiling rate arrivals table) where
   -- the queue that the table keeps, in the run's own states and in those of every schedule
-  pub queue-kept : (ys : ℕ → List ℕ) (k : ℕ) → k ≤ a .steps → at (scheduleAfter a ys k .queue) i ≡ queueAfter start arrivals table k
-  unfolding scheduleAfter queueAfter
+  pub queue-kept : (ys : ℕ → List ℕ) (k : ℕ) → k ≤ a .steps → at (scheduleAfter a ys k .queue) i ≡ rampQueueAfter start arrivals table k
+  unfolding scheduleAfter rampQueueAfter
   queue-kept ys zero l = follows .queue
   queue-kept ys (suc k) l =
       let r = roadAt a k in
@@ -113,7 +113,7 @@ module _ (a : Study) (ok : StudyOk a) (i start ceiling rate : ℕ) (arrivals tab
 
 -- the same of running's answer for a record, whatever list is lent
 module _ (bytes lanes : List ℕ) (taken : Taken bytes lanes) (i start ceiling rate : ℕ) (arrivals table : List ℕ)
-    (follows : Follows (studyOf bytes lanes) i start arrivals table) (obeys : Obeys start ceiling rate arrivals table) where
+    (follows : Follows (studyOf bytes lanes) i start arrivals table) (obeys : TableObeys start ceiling rate arrivals table) where
   within : StudyOk (studyOf bytes lanes)
   within = readable bytes lanes (readingOf bytes) refl (taken .reads) (taken .opens) .ok
 

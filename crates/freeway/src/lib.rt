@@ -3,15 +3,18 @@ pub use model::Alinea;
 pub use model::DemandCapacity;
 pub use model::Ended;
 pub use model::Fault;
+pub use model::FilledOn;
 pub use model::Law;
 pub use model::Loaded;
 pub use model::Longest;
+pub use model::Progress;
 pub use model::Reading;
 pub use model::Refusal;
 pub use model::Road;
 pub use model::Start;
 pub use model::State;
 pub use model::Stepped;
+pub use model::Tallied;
 pub use model::Wanted;
 pub use model::Weighed;
 pub use model::Weights;
@@ -24,27 +27,27 @@ ghost use Rattle.model.specs.Flow.{demandOf, gateDemandOf, supplyOf, roomOf, on
 ghost use Rattle.model.specs.Move.{presentOf, heldSum, queueSum, exitsOf};
 ghost use Rattle.model.specs.Lanes.{openCapacity};
 ghost use Rattle.model.specs.Numbers.{at};
-ghost use Rattle.model.specs.Weights.{weightedOf, weighingOf};
+ghost use Rattle.model.specs.Weights.{weightedPresent, weightedTotalOfRun};
 ghost use Rattle.model.specs.Reading.{readAnswer, readingOf, readingWithin};
 ghost use Rattle.model.specs.Running.{endAnswer, runningOf, listAfter};
 ghost use Rattle.model.specs.Demand.{Taken, Promised, WeightedDemand, AcceptsExactly};
 ghost use Rattle.model.specs.Longest.{longestQueues, longestRun, longestFill};
+ghost use Rattle.model.specs.Many.{manyFault, runAnswers, runLists, runRecord, fillAnswers, fillLists, fillRecord};
 ghost use Rattle.model.specs.Judging.{judgingOf};
 ghost use Rattle.model.specs.History.{historyOf, heldAfter, queueAfter};
+ghost use Rattle.model.specs.GoingOn.{runningOn, listOn, weightedTotalOn, longestOn, judgingOn, historyOn, heldOn, queueOn};
+ghost use Rattle.model.specs.GoingOn.{progressed, fillingOn, recordOn, filledListOn, longestFillOn, progressOn};
+ghost use Rattle.model.specs.Ramps.{metered};
 ghost use Rattle.model.specs.Writing.{writeAnswer, writingOf, targetAfter, ReadsBack};
 ghost use Rattle.model.specs.RowNumbers.{rowArray, takenCount, takenList};
 ghost use Rattle.model.specs.Joining.{joiningOf, joinedTarget, ReadsJoined};
 ghost use Rattle.model.specs.Meter.{wishOf, wholeBelow};
 ghost use Rattle.model.specs.Filling.{fillingOf, recordAfter, filledList, OnlyReleases};
-ghost use Rattle.model.specs.Wanted as wants;
-ghost use Rattle.model.specs.Wanted.{wantedAnswer, wantedOf, tableAfter};
-ghost use Rattle.model.specs.Street as streets;
+ghost use Rattle.model.specs.Wanted.{wantedAnswer, wantedOf, tableAfter, WantedEnds};
 ghost use Rattle.model.specs.Refusals.{refusalNumber, faultAnswer};
-ghost use Rattle.model.specs.Street.{grantingOf, grantsAfter};
-ghost use Rattle.model.specs.Put as puts;
-ghost use Rattle.model.specs.Put.{puttingOf, releasedRecord};
-ghost use Rattle.model.specs.Load as loads;
-ghost use Rattle.model.specs.Load.{loadAnswer, loadingOf, loadedList};
+ghost use Rattle.model.specs.Street.{grantingOf, grantsAfter, GrantEnds};
+ghost use Rattle.model.specs.Put.{puttingOf, releasedRecord, PutEnds};
+ghost use Rattle.model.specs.Load.{loadAnswer, loadingOf, loadedList, LoadEnds};
 ghost use Rattle.model.specs.Words.{vehicleSecondsOf};
 
 // docs/MODEL.md, 'One step'
@@ -146,12 +149,12 @@ pub fn open_capacity(capacity: u32, built: u8, usable: u8) -> u32
 
 // The gate queue, all held counts and all ramp queues, each times its weight; n above 64 counts as 64.
 pub fn weighted(r: Road, s: State, weights: Weights) -> u64
-    ensures { λ p. ⌜ p ≡ weightedOf (at (weights .places)) (at (weights .ramps)) (r .n) s ⌝ }
+    ensures { λ p. ⌜ p ≡ weightedPresent (at (weights .places)) (at (weights .ramps)) (r .n) s ⌝ }
 {
     counts::weighted(r, s, weights)
 }
 
-// docs/MODEL.md, 'Reading, and reading for a caller with limits of its own'
+// docs/MODEL.md, 'Reading'
 
 // Reads a record of any length, with no limits but the model's.
 pub fn read(bytes: &[u8]) -> Reading
@@ -159,6 +162,8 @@ pub fn read(bytes: &[u8]) -> Reading
 {
     reading::read(bytes)
 }
+
+// docs/MODEL.md, 'Reading for a caller with limits of its own'
 
 // Reads a record of any length for a caller that takes at most `cells` cells and `most` bytes; refusals 1, 2, 3, 19, 4 and 26 come first.
 pub fn read_within(bytes: &[u8], cells: usize, most: usize) -> Reading
@@ -186,7 +191,7 @@ pub fn run(bytes: &[u8], table: &[u8], out: &mut [u32]) -> Ended
 pub fn run_weighted(bytes: &[u8], table: &[u8], weights: Weights, out: &mut [u32]) -> Weighed
     ensures answer { λ e. ⌜ endAnswer (e .ended) ≡ runningOf (now (bytes .entry)) (now (table .entry)) (now (out .entry)) ⌝ }
     ensures list { λ e. ⌜ now (out .exit) ≡ listAfter (now (bytes .entry)) (now (table .entry)) (now (out .entry)) ⌝ }
-    ensures weighted { λ e. ⌜ e .weighted ≡ weighingOf (at (weights .places)) (at (weights .ramps)) (now (bytes .entry)) (now (table .entry)) (now (out .entry)) ⌝ }
+    ensures weighted { λ e. ⌜ e .weighted ≡ weightedTotalOfRun (at (weights .places)) (at (weights .ramps)) (now (bytes .entry)) (now (table .entry)) (now (out .entry)) ⌝ }
     ensures demand { λ e. ⌜ (Taken (now (bytes .entry)) (now (table .entry))
         → Promised (now (bytes .entry)) (now (table .entry)) (now (out .exit)) (endAnswer (e .ended))) ⌝ }
     ensures weights { λ e. ⌜ (Taken (now (bytes .entry)) (now (table .entry))
@@ -314,13 +319,109 @@ pub fn fill_longest(bytes: &mut [u8], laws: [Law; 64], table: &[u8], out: &mut [
     filling::fill_longest(bytes, laws, table, out)
 }
 
+// docs/MODEL.md, 'Going on'
+
+// Runs the rows of a further record from a state, with its longest queues and its weighted total: the refusals of reading, 17, 18, 7, 8, 11, then 9 or
+// 10 with its step, counted in these rows, and cell.
+pub fn run_on(bytes: &[u8], table: &[u8], weights: Weights, from: State, out: &mut [u32]) -> Tallied
+    ensures answer { λ e. ⌜ endAnswer (e .longest .ended) ≡ runningOn (now (bytes .entry)) (now (table .entry)) from (now (out .entry)) ⌝ }
+    ensures list { λ e. ⌜ now (out .exit) ≡ listOn (now (bytes .entry)) (now (table .entry)) from (now (out .entry)) ⌝ }
+    ensures weighted { λ e. ⌜ e .weighted
+        ≡ weightedTotalOn (at (weights .places)) (at (weights .ramps)) (now (bytes .entry)) (now (table .entry)) from (now (out .entry)) ⌝ }
+    ensures longest { λ e. ⌜ longestQueues (e .longest) ≡ longestOn (now (bytes .entry)) (now (table .entry)) from (now (out .entry)) ⌝ }
+{
+    running::run_on(bytes, table, weights, from, out)
+}
+
+// Judges a schedule of the rows of a further record from a state: the refusals of reading, 17, 18, 7, 8, 12, then 9 or 10 and 13 or 14 step by step.
+pub fn judge_on(bytes: &[u8], table: &[u8], from: State, schedule: &[u32]) -> Ended
+    ensures { λ e. ⌜ endAnswer e ≡ judgingOn (now (bytes .entry)) (now (table .entry)) from (now (schedule .entry)) ⌝ }
+{
+    judging::judge_on(bytes, table, from, schedule)
+}
+
+// Judges so and writes the schedule's states: the refusals of reading, 17, 18, 7, 8, 12, 11, then as judging.
+pub fn history_on(
+    bytes: &[u8],
+    table: &[u8],
+    from: State,
+    schedule: &[u32],
+    held: &mut [u32],
+    queue: &mut [u32],
+) -> Ended
+    ensures answer { λ e. ⌜ endAnswer e ≡ historyOn (now (bytes .entry)) (now (table .entry)) from (now (schedule .entry)) (now (held .entry)) (now (queue .entry)) ⌝ }
+    ensures held { λ e. ⌜ now (held .exit) ≡ heldOn (now (bytes .entry)) (now (table .entry)) from (now (schedule .entry)) (now (held .entry)) (now (queue .entry)) ⌝ }
+    ensures queue { λ e. ⌜ now (queue .exit) ≡ queueOn (now (bytes .entry)) (now (table .entry)) from (now (schedule .entry)) (now (held .entry)) (now (queue .entry)) ⌝ }
+{
+    judging::history_on(bytes, table, from, schedule, held, queue)
+}
+
+// Fills the rows of a further record from where an earlier one was left, with its longest queues: the refusals of reading, 16, 17, 18, 7, 8, 11. Its
+// state, releases and entries are what the next record goes on from.
+pub fn fill_on(
+    bytes: &mut [u8],
+    laws: [Law; 64],
+    table: &[u8],
+    from: Progress,
+    out: &mut [u32],
+) -> FilledOn
+    ensures answer { λ e. ⌜ endAnswer (e .longest .ended) ≡ fillingOn laws (now (bytes .entry)) (now (table .entry)) (progressed from) (now (out .entry)) ⌝ }
+    ensures bytes { λ e. ⌜ now (bytes .exit) ≡ recordOn laws (now (bytes .entry)) (now (table .entry)) (progressed from) (now (out .entry)) ⌝ }
+    ensures list { λ e. ⌜ now (out .exit) ≡ filledListOn laws (now (bytes .entry)) (now (table .entry)) (progressed from) (now (out .entry)) ⌝ }
+    ensures longest { λ e. ⌜ longestQueues (e .longest) ≡ longestFillOn laws (now (bytes .entry)) (now (table .entry)) (progressed from) (now (out .entry)) ⌝ }
+    ensures progress { λ e. ⌜ metered (e .longest .ended .state) (e .releases) (e .entries)
+        ≡ progressOn laws (now (bytes .entry)) (now (table .entry)) (progressed from) (now (out .entry)) ⌝ }
+{
+    filling::fill_on(bytes, laws, table, from, out)
+}
+
+// docs/MODEL.md, 'Many studies'
+
+// Runs a record with each of many tables of arrivals: the refusals of reading, then 27; entry k is what `run_longest` gives with table k.
+pub fn run_many(
+    bytes: &mut [u8],
+    table: &[u8],
+    arrivals: &[u32],
+    out: &mut [u32],
+    answers: &mut [u64],
+) -> Fault
+    ensures answer { λ r. ⌜ faultAnswer r ≡ manyFault (now (bytes .entry)) (now (arrivals .entry)) (now (answers .entry)) ⌝ }
+    ensures bytes { λ r. ⌜ now (bytes .exit) ≡ runRecord (now (bytes .entry)) (now (arrivals .entry)) (now (answers .entry)) ⌝ }
+    ensures list { λ r. ⌜ now (out .exit)
+        ≡ runLists (now (bytes .entry)) (now (table .entry)) (now (arrivals .entry)) (now (out .entry)) (now (answers .entry)) ⌝ }
+    ensures answers { λ r. ⌜ now (answers .exit)
+        ≡ runAnswers (now (bytes .entry)) (now (table .entry)) (now (arrivals .entry)) (now (out .entry)) (now (answers .entry)) ⌝ }
+{
+    many::run_many(bytes, table, arrivals, out, answers)
+}
+
+// Fills a record with each of many tables of arrivals: the refusals of reading, then 27; entry k is what `fill_longest` gives with table k.
+pub fn fill_many(
+    bytes: &mut [u8],
+    laws: [Law; 64],
+    table: &[u8],
+    arrivals: &[u32],
+    out: &mut [u32],
+    answers: &mut [u64],
+) -> Fault
+    ensures answer { λ r. ⌜ faultAnswer r ≡ manyFault (now (bytes .entry)) (now (arrivals .entry)) (now (answers .entry)) ⌝ }
+    ensures bytes { λ r. ⌜ now (bytes .exit)
+        ≡ fillRecord laws (now (bytes .entry)) (now (table .entry)) (now (arrivals .entry)) (now (out .entry)) (now (answers .entry)) ⌝ }
+    ensures list { λ r. ⌜ now (out .exit)
+        ≡ fillLists laws (now (bytes .entry)) (now (table .entry)) (now (arrivals .entry)) (now (out .entry)) (now (answers .entry)) ⌝ }
+    ensures answers { λ r. ⌜ now (answers .exit)
+        ≡ fillAnswers laws (now (bytes .entry)) (now (table .entry)) (now (arrivals .entry)) (now (out .entry)) (now (answers .entry)) ⌝ }
+{
+    many::fill_many(bytes, laws, table, arrivals, out, answers)
+}
+
 // docs/MODEL.md, 'Releases for a wanted queue'
 
 // Gives the releases whose running sum is least after every step, where any table keeps the queue; otherwise the table is unchanged.
 pub fn wanted(start: u32, ceiling: u32, rate: u32, arrivals: &[u32], table: &mut [u32]) -> Wanted
     ensures answer { λ r. ⌜ wantedAnswer r ≡ wantedOf start ceiling rate (now (arrivals .entry)) (length (now (table .entry))) ⌝ }
     ensures table { λ r. ⌜ now (table .exit) ≡ tableAfter start ceiling rate (now (arrivals .entry)) (now (table .entry)) ⌝ }
-    ensures ends { λ r. ⌜ wants.Ends start ceiling rate (now (arrivals .entry)) (now (table .entry)) (wantedAnswer r) (now (table .exit)) ⌝ }
+    ensures ends { λ r. ⌜ WantedEnds start ceiling rate (now (arrivals .entry)) (now (table .entry)) (wantedAnswer r) (now (table .exit)) ⌝ }
 {
     wanted::wanted(start, ceiling, rate, arrivals, table)
 }
@@ -331,7 +432,7 @@ pub fn wanted(start: u32, ceiling: u32, rate: u32, arrivals: &[u32], table: &mut
 pub fn grant(limit: u32, guarantees: &[u32], wishes: &[u32], grants: &mut [u32]) -> Refusal
     ensures answer { λ r. ⌜ refusalNumber r ≡ grantingOf limit (now (guarantees .entry)) (now (wishes .entry)) (length (now (grants .entry))) ⌝ }
     ensures grants { λ r. ⌜ now (grants .exit) ≡ grantsAfter limit (now (guarantees .entry)) (now (wishes .entry)) (now (grants .entry)) ⌝ }
-    ensures ends { λ r. ⌜ streets.Ends limit (now (guarantees .entry)) (now (wishes .entry)) (now (grants .entry)) (refusalNumber r) (now (grants .exit)) ⌝ }
+    ensures ends { λ r. ⌜ GrantEnds limit (now (guarantees .entry)) (now (wishes .entry)) (now (grants .entry)) (refusalNumber r) (now (grants .exit)) ⌝ }
 {
     street::grant(limit, guarantees, wishes, grants)
 }
@@ -342,7 +443,7 @@ pub fn grant(limit: u32, guarantees: &[u32], wishes: &[u32], grants: &mut [u32])
 pub fn put(bytes: &mut [u8], step: usize, cell: usize, release: u32) -> Fault
     ensures answer { λ r. ⌜ faultAnswer r ≡ puttingOf (now (bytes .entry)) step cell release ⌝ }
     ensures bytes { λ r. ⌜ now (bytes .exit) ≡ releasedRecord (now (bytes .entry)) step cell release ⌝ }
-    ensures ends { λ r. ⌜ puts.Ends (now (bytes .entry)) step cell release (faultAnswer r) (now (bytes .exit)) ⌝ }
+    ensures ends { λ r. ⌜ PutEnds (now (bytes .entry)) step cell release (faultAnswer r) (now (bytes .exit)) ⌝ }
 {
     put::put(bytes, step, cell, release)
 }
@@ -353,7 +454,7 @@ pub fn put(bytes: &mut [u8], step: usize, cell: usize, release: u32) -> Fault
 pub fn load(seed: u32, peak: u32, list: &mut [u32]) -> Loaded
     ensures answer { λ r. ⌜ loadAnswer r ≡ loadingOf seed peak (length (now (list .entry))) ⌝ }
     ensures list { λ r. ⌜ now (list .exit) ≡ loadedList seed peak (now (list .entry)) ⌝ }
-    ensures ends { λ r. ⌜ loads.Ends seed peak (now (list .entry)) (loadAnswer r) (now (list .exit)) ⌝ }
+    ensures ends { λ r. ⌜ LoadEnds seed peak (now (list .entry)) (loadAnswer r) (now (list .exit)) ⌝ }
 {
     load::load(seed, peak, list)
 }

@@ -174,7 +174,7 @@ module _ {before : List ℕ} {start : ℕ} {up : List ℕ} {n : ℕ} {down : Lis
     pub rowing-end : T ≤ t → Puts before start (concatOf (rowBytes (n + m) (joinedRows up n down m)) T) after end
     rowing-end l = putting-end before start _ (rowSize (n + m)) t T (omega (arith, h .within)) (h .put)
 
--- what putting the joined record asks
+-- what putting the joined record requires
 pub record Joins (up : List ℕ) (road : Road) (T : ℕ) (down : List ℕ) (next : Road) (target : List ℕ) : Type 0 where
   pub some : 1 ≤ road .n
   pub counts : Counts (road .n + next .n) T

@@ -23,7 +23,7 @@ halves n m P up down i l = ⊎-elim
     (λ (h : i < n). up i h)
     (order n i)
 
--- a column l of n + m cells stands as it did in both: its first n entries are upstream's, the m that follow are downstream's, past them all is 0
+-- a column l of n + m cells is as it was in both: its first n entries are upstream's, the m that follow are downstream's, past them all is 0
 pub record Joined (n m : ℕ) (up down l : List ℕ) : Type 0 where
   pub upper : (i : ℕ) → i < n → at l i ≡ at up i
   pub lower : (i : ℕ) → i < m → at l (n + i) ≡ at down i

@@ -32,7 +32,7 @@ blank n T queue = study (record {
   capacity = zeros;
 }) (startState (record { «gate_queue» = queue; held = zeros; queue = zeros })) T (λ _. []) []
 
--- two roads of 40 cells, without room, meet what comes first of 5 at cell 40, 20, 21 and 22; two of 32 cells meet 15
+-- two roads of 40 cells, without room, are refused with the first of 5 at cell 40, 20, 21 and 22; two of 32 cells with 15
 on-paper : (joiningBy (blank 40 1 0) (blank 40 2 1) 1001 0 ≡ unwritten 5 40)
     × ((joiningBy (blank 40 1 0) (blank 40 2 1) 1000 0 ≡ unwritten 20 0)
     × ((joiningBy (blank 40 1 0) (blank 40 1 1) 1000 0 ≡ unwritten 21 0)
@@ -40,7 +40,7 @@ on-paper : (joiningBy (blank 40 1 0) (blank 40 2 1) 1001 0 ≡ unwritten 5 40)
 unfolding firstOf firstFrom secondsSize
 on-paper = (refl, (refl, (refl, (refl, refl))))
 
--- a record of version 3, which meets 2; no bytes meet 1
+-- a record of version 3 is refused with 2; no bytes with 1
 abbrev unknown : List ℕ
 unknown = 0 ∷ 0 ∷ 0 ∷ 12 ∷ 3 ∷ replicate 11 0
 

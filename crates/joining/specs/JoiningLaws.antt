@@ -48,7 +48,7 @@ idle-queue s n T queue h = rw (ne-eqb queue 0 h)
 pub idle-steps : (s : List ℕ) (n T queue : ℕ) {t : Bool} → queue ≡ 0 → t ≡ allOf (noArrival s n) T → t ≡ idleBy s n T queue
 idle-steps s n T queue h e = e ∙ rw (eq-eqb queue 0 h)
 
--- what the tests ask of two records that read
+-- what the tests require of two records that read
 pub record Joinable (road : Road) (T : ℕ) (down : List ℕ) (next : Road) (nextT : ℕ) : Type 0 where
   pub cells : road .n ≤ mostCells
   pub steps : T ≤ mostSteps

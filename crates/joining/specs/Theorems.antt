@@ -29,7 +29,7 @@ pub record Both (up down : List ℕ) : Type 0 where
   pub upper : readingOf up .number ≡ 0
   pub lower : readingOf down .number ≡ 0
 
--- what no refusal asks
+-- what holds where nothing is refused
 pub record Asked (up down : List ℕ) (share : ℕ) (target : List ℕ) : Type 0 where
   pub both : Both up down
   pub stated : share ≤ whole
@@ -95,7 +95,7 @@ module _ (up down : List ℕ) (share : ℕ) (target : List ℕ) where
         room = leb-true (recordSize j) (length target) w;
       }))))))))
 
--- no refusal comes exactly where all that is asked holds
+-- no refusal comes exactly where all of this holds
 joined-asked : {up down : List ℕ} {share : ℕ} {target : List ℕ} {a : WriteAnswer} {after : List ℕ} → Ends up down share target a after → a .number ≡ 0
     → Asked up down share target
     × ((a ≡ written (recordSize (joinedOf up down share)))
@@ -263,7 +263,7 @@ module _ (up down : List ℕ) (share : ℕ) (target : List ℕ) (h : joiningOf u
       subst (λ (row : List ℕ). JoinedNumbers n m (recordRow up n t) (recordRow down m t) row) (sym rows)
       (row-joined n m (recordRow up n t) (recordRow down m t) (length-row up n t) (length-row down m t))
 
--- as an answer and the target at exit tell it
+-- by the answer and the target at exit
 pub reads-as-joined : (up down : List ℕ) (share : ℕ) (target : List ℕ) {a : WriteAnswer} {after : List ℕ} → a ≡ joiningOf up down share target
     → after ≡ joinedTarget up down share target → a .number ≡ 0 → ReadsJoined up down share (a .count) after
 reads-as-joined up down share target ea et z =

@@ -1,4 +1,4 @@
--- One step of a schedule, judged and made: what it asks, and what holds after it. Assumes nothing.
+-- One step of a schedule, judged and made: what it requires, and what holds after it. Assumes nothing.
 use mathlib.Core.Path.{_≡_, sym, _∙_}
 use mathlib.Core.List.{List}
 use Prim.Native.Nat.{ℕ, _+_, _<_}
@@ -17,7 +17,7 @@ use Rattle.outflows.specs.Columns.{roadOf}
 use Rattle.stepping.specs.StepNeeds.{Movable}
 use Rattle.verdict.specs.ProposedRow.{Proposed}
 
--- it asks that on some road with these columns all is within the limits, that steps are left, and that the rows are whole
+-- it requires that on some road with these columns all is within the limits, that steps are left, and that the rows are whole
 pub record Judges (n gate : ℕ) (speed wave share jam capacity : List ℕ) (s : State) (row room y : List ℕ) : Type 0 where
   pub road : Road
   pub input : InputOk (roadOf road n gate speed wave share jam capacity) s row

@@ -3,3 +3,4 @@ pub mod JudgingLoop
 pub mod WrittenStates
 pub mod PutPlaces
 pub mod OwnRows
+pub mod PromiseOn

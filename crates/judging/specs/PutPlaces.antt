@@ -8,12 +8,12 @@ use lib.ListN.{length, getD, set}
 use Rattle.model.specs.Numbers.{at, placed}
 use Rattle.numbers.specs.RowsLaws.{length-list, list-at}
 use Rattle.numbers.specs.PlacedText.{Copied, copied-none, copied-more, copied-end}
-use Rattle.model.specs.History.{numberAt, placesOf}
+use Rattle.model.specs.History.{placeNumber, placesOf}
 
 -- the places before i are written, and x is the number of the next
 pub record Putting (gate : ℕ) (cells : List ℕ) (n : ℕ) (list₀ : List ℕ) (from : ℕ) (list : List ℕ) (i x : ℕ) : Type 0 where
   pub within : i ≤ n
-  pub carried : x ≡ numberAt gate cells i
+  pub carried : x ≡ placeNumber gate cells i
   pub copied : Copied list₀ from (placesOf gate cells n) list i
 
 module _ {gate : ℕ} {cells : List ℕ} {n : ℕ} {list₀ : List ℕ} {from : ℕ} where
@@ -22,16 +22,16 @@ module _ {gate : ℕ} {cells : List ℕ} {n : ℕ} {list₀ : List ℕ} {from : 
 
   module _ {list : List ℕ} {i x : ℕ} (h : Putting gate cells n list₀ from list i x) where
     size : length (placesOf gate cells n) ≡ n + 1
-    size = length-list (numberAt gate cells) (n + 1)
+    size = length-list (placeNumber gate cells) (n + 1)
 
     stored : Copied list₀ from (placesOf gate cells n) (set list (from + i) x) (i + 1)
     stored =
-        let e : getD (placesOf gate cells n) i 0 ≡ x = list-at (numberAt gate cells) (n + 1) i (omega (arith, h .within)) ∙ sym (h .carried) in
+        let e : getD (placesOf gate cells n) i 0 ≡ x = list-at (placeNumber gate cells) (n + 1) i (omega (arith, h .within)) ∙ sym (h .carried) in
         subst (λ (u : ℕ). Copied list₀ from (placesOf gate cells n) (set list (from + i) u) (i + 1)) e
         (copied-more (h .copied) (omega (arith, h .within, size)))
 
     pub putting-more : i < n → {y : ℕ} → y ≡ at cells i → Putting gate cells n list₀ from (set list (from + i) x) (i + 1) y
-    putting-more l e = record { within = omega arith; carried = e ∙ ap (numberAt gate cells) (sym (add-one i)); copied = stored }
+    putting-more l e = record { within = omega arith; carried = e ∙ ap (placeNumber gate cells) (sym (add-one i)); copied = stored }
 
     pub putting-end : n ≤ i → set list (from + n) x ≡ placed list₀ from (placesOf gate cells n)
     putting-end l =

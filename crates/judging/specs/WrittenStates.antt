@@ -39,7 +39,7 @@ heldEnd a zs list = heldTable a zs list (passedSteps a zs)
 abbrev pub queueEnd : Study → List ℕ → List ℕ → List ℕ
 queueEnd a zs list = queueTable a zs list (passedSteps a zs)
 
--- what judging step by step asks: a record that reads, a schedule of the right length and, where it writes states, lists long enough
+-- what judging step by step requires: a record that reads, a schedule of the right length and, where it writes states, lists long enough
 pub record Judgeable (bytes : List ℕ) (a : Study) (zs : List ℕ) (writes : Bool) (held queue : List ℕ) : Type 0 where
   pub readable : Readable bytes a
   pub right : length zs ≡ tableSize a

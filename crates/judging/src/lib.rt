@@ -22,6 +22,7 @@ ghost use Rattle.model.specs.Demand.{AcceptsExactly};
 ghost use Rattle.judging.specs.JudgedStep.{Judges, JudgedStep};
 ghost use Rattle.model.specs.History.{placesOf, historyOf, heldAfter, queueAfter};
 ghost use Rattle.judging.specs.WrittenStates.{heldEnd, queueEnd, Judgeable};
+ghost use Rattle.model.specs.GoingOn.{judgingOn, historyOn, heldOn, queueOn};
 
 // What judging finds of a step, and the ledger after it: the one before it where there is a fault.
 struct Judged {
@@ -202,6 +203,37 @@ pub fn judge(bytes: &[u8], table: &[u8], schedule: &[u32]) -> Ended
     )
 }
 
+// Judges a schedule that goes on from a state over the rows of a further record: the refusals of reading, 17, 18, 7, 8, 12, then as judging, with the
+// step counted in these rows.
+pub fn judge_on(bytes: &[u8], table: &[u8], from: State, schedule: &[u32]) -> Ended
+    ensures { λ e. ⌜ endAnswer e ≡ judgingOn (now (bytes .entry)) (now (table .entry)) from (now (schedule .entry)) ⌝ }
+{
+    let a = opening::started(bytes, table, from);
+    let refusal = a.refusal;
+    if refusal.number() != 0 {
+        return Ended::without_state(refusal, a.place);
+    }
+    let road = a.road;
+    let state = a.state;
+    let steps = a.steps;
+    if schedule.len() != steps * (road.n + 1) {
+        return Ended::without_state(Refusal::ScheduleLength, 0);
+    }
+    let mut held = [0u32; 0];
+    let mut queue = [0u32; 0];
+    judge_rows(
+        bytes,
+        table,
+        road,
+        state,
+        steps,
+        schedule,
+        false,
+        &mut held,
+        &mut queue,
+    )
+}
+
 // Judges a schedule under a table of lanes and writes its states: the refusals of reading, 17, 18, 12, 11, then as judging.
 pub fn history(
     bytes: &[u8],
@@ -215,6 +247,50 @@ pub fn history(
     ensures queue { λ e. ⌜ now (queue .exit) ≡ queueAfter (now (bytes .entry)) (now (table .entry)) (now (schedule .entry)) (now (held .entry)) (now (queue .entry)) ⌝ }
 {
     let a = opening::opened(bytes, table);
+    let refusal = a.refusal;
+    if refusal.number() != 0 {
+        return Ended::without_state(refusal, a.place);
+    }
+    let road = a.road;
+    let state = a.state;
+    let steps = a.steps;
+    let size = steps * (road.n + 1);
+    if schedule.len() != size {
+        return Ended::without_state(Refusal::ScheduleLength, 0);
+    }
+    if held.len() < size {
+        return Ended::without_state(Refusal::ListLength, 0);
+    }
+    if queue.len() < size {
+        return Ended::without_state(Refusal::ListLength, 0);
+    }
+    judge_rows(
+        bytes,
+        table,
+        road,
+        state,
+        steps,
+        schedule,
+        true,
+        held,
+        queue,
+    )
+}
+
+// The same of a schedule that goes on from a state: the refusals of reading, 17, 18, 7, 8, 12, 11, then as judging.
+pub fn history_on(
+    bytes: &[u8],
+    table: &[u8],
+    from: State,
+    schedule: &[u32],
+    held: &mut [u32],
+    queue: &mut [u32],
+) -> Ended
+    ensures answer { λ e. ⌜ endAnswer e ≡ historyOn (now (bytes .entry)) (now (table .entry)) from (now (schedule .entry)) (now (held .entry)) (now (queue .entry)) ⌝ }
+    ensures held { λ e. ⌜ now (held .exit) ≡ heldOn (now (bytes .entry)) (now (table .entry)) from (now (schedule .entry)) (now (held .entry)) (now (queue .entry)) ⌝ }
+    ensures queue { λ e. ⌜ now (queue .exit) ≡ queueOn (now (bytes .entry)) (now (table .entry)) from (now (schedule .entry)) (now (held .entry)) (now (queue .entry)) ⌝ }
+{
+    let a = opening::started(bytes, table, from);
     let refusal = a.refusal;
     if refusal.number() != 0 {
         return Ended::without_state(refusal, a.place);

@@ -10,7 +10,7 @@ use borrow.Author.Tests.{le-leb, lt-leb}
 use Rattle.model.specs.Numbers.{at}
 use Rattle.numbers.specs.RowsLaws.{length-list, list-at}
 use Rattle.model.specs.Road.{mostRate}
-use Rattle.model.specs.Load.{numbers, half, nextOf, arrivalOf, numberAfter, arrivalAt, arrivalsOf, loaded, loadingOf, loadedList}
+use Rattle.model.specs.Load.{numbers, half, nextNumber, arrivalOf, numberAfter, arrivalAt, arrivalsOf, loaded, loadingOf, loadedList}
 
 -- one law for every width: the product of two numbers of k bits has at most k + k
 pub product-below : (k : ℕ) {a b : ℕ} → a < 2 ^ k → b < 2 ^ k → a * b < 2 ^ (k + k)
@@ -35,7 +35,7 @@ module _ (seed peak : ℕ) where
   unfolding numberAfter
   number-none = refl
 
-  pub number-more : (n : ℕ) → numberAfter seed (suc n) ≡ nextOf (numberAfter seed n)
+  pub number-more : (n : ℕ) → numberAfter seed (suc n) ≡ nextNumber (numberAfter seed n)
   unfolding numberAfter
   number-more n = refl
 

@@ -8,28 +8,28 @@ use native.Mathlib.Omega.{arith}
 use lib.ListN.{length, set, drop-of-length-le}
 use Rattle.model.specs.Numbers.{fillOf, listOf}
 use Rattle.numbers.specs.RowsLaws.{fill-more, fill-list, length-fill}
-use Rattle.model.specs.Load.{nextOf, arrivalOf, numberAfter, arrivalAt, arrivalsOf}
+use Rattle.model.specs.Load.{nextNumber, arrivalOf, numberAfter, arrivalAt, arrivalsOf}
 
 -- i arrivals are stored, and `number` made the last of them
-pub record Filled (seed peak : ℕ) (lent : List ℕ) (number i : ℕ) (list : List ℕ) : Type 0 where
+pub record StoredArrivals (seed peak : ℕ) (lent : List ℕ) (number i : ℕ) (list : List ℕ) : Type 0 where
   pub within : i ≤ length lent
   pub last : number ≡ numberAfter seed i
   pub stored : list ≡ fillOf (arrivalAt seed peak) i lent
 
 module _ {seed peak : ℕ} {lent : List ℕ} where
-  pub filled-none : Filled seed peak lent seed 0 lent
+  pub filled-none : StoredArrivals seed peak lent seed 0 lent
   unfolding numberAfter fillOf
   filled-none = record { within = omega arith; last = refl; stored = refl }
 
-  module _ {number i : ℕ} {list : List ℕ} (h : Filled seed peak lent number i list) where
+  module _ {number i : ℕ} {list : List ℕ} (h : StoredArrivals seed peak lent number i list) where
     pub filled-length : length list ≡ length lent
     filled-length = ap length (h .stored) ∙ length-fill (arrivalAt seed peak) i lent
 
-    pub filled-more : {following arrives : ℕ} → i < length list → following ≡ nextOf number → arrives ≡ arrivalOf following peak
-        → Filled seed peak lent following (i + 1) (set list i arrives)
+    pub filled-more : {following arrives : ℕ} → i < length list → following ≡ nextNumber number → arrives ≡ arrivalOf following peak
+        → StoredArrivals seed peak lent following (i + 1) (set list i arrives)
     unfolding numberAfter
     filled-more {following} l e f =
-        let q : following ≡ numberAfter seed (suc i) = e ∙ ap nextOf (h .last) in
+        let q : following ≡ numberAfter seed (suc i) = e ∙ ap nextNumber (h .last) in
         record {
           within = omega (arith, filled-length);
           last = rw add-one q;

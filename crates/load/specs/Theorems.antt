@@ -9,7 +9,7 @@ use lib.ListN.{length, length-append}
 use Rattle.model.specs.Numbers.{at, listOf}
 use Rattle.numbers.specs.Tests.{order}
 use Rattle.model.specs.Road.{mostRate}
-use Rattle.model.specs.Load.{nextOf, numberAfter, arrivalAt, arrivalsOf, LoadAnswer, loaded, loadingOf, loadedList, Arrivals, Ends}
+use Rattle.model.specs.Load.{nextNumber, numberAfter, arrivalAt, arrivalsOf, LoadAnswer, loaded, loadingOf, loadedList, Arrivals, LoadEnds}
 use Rattle.load.specs.LoadLaws.{arrival-most, number-none, number-below, arrivals-length, arrivals-at, refused-answer, refused-list, loaded-answer, loaded-list}
 
 -- 1: every arrival is at most the peak
@@ -31,7 +31,7 @@ same-list seed peak one other h e = loaded-list seed peak h one ∙ ap (arrivals
 numbers-on : (seed k m : ℕ) → numberAfter seed (k + m) ≡ numberAfter (numberAfter seed k) m
 unfolding numberAfter
 numbers-on seed k zero = rw add-zero refl
-numbers-on seed k (suc m) = rw (add-suc k m) (ap nextOf (numbers-on seed k m))
+numbers-on seed k (suc m) = rw (add-suc k m) (ap nextNumber (numbers-on seed k m))
 
 arrivals-on : (seed peak k m : ℕ) → arrivalsOf seed peak (k + m) ≡ arrivalsOf seed peak k ++ arrivalsOf (numberAfter seed k) peak m
 unfolding arrivalsOf listOf numberAfter
@@ -86,13 +86,13 @@ arrivals seed peak list h = record {
 }
 
 -- 6: every answer is one of them
-pub ends : (seed peak : ℕ) (list : List ℕ) → Ends seed peak list (loadingOf seed peak (length list)) (loadedList seed peak list)
+pub ends : (seed peak : ℕ) (list : List ℕ) → LoadEnds seed peak list (loadingOf seed peak (length list)) (loadedList seed peak list)
 ends seed peak list = ⊎-elim
-    (λ (h : peak ≤ mostRate). rw (loaded-answer seed peak h (length list)) (Ends.filled h (arrivals seed peak list h)))
-    (λ (h : mostRate < peak). rw (refused-answer seed peak h (length list), refused-list seed peak h list) (Ends.refused h))
+    (λ (h : peak ≤ mostRate). rw (loaded-answer seed peak h (length list)) (LoadEnds.filled h (arrivals seed peak list h)))
+    (λ (h : mostRate < peak). rw (refused-answer seed peak h (length list), refused-list seed peak h list) (LoadEnds.refused h))
     (order peak mostRate)
 
 -- an answer and a list that are those of the definitions are one of them; so a contract may promise all three
 pub ended : (seed peak : ℕ) (list : List ℕ) {a : LoadAnswer} {left : List ℕ} → a ≡ loadingOf seed peak (length list) → left ≡ loadedList seed peak list
-    → (a ≡ loadingOf seed peak (length list)) × ((left ≡ loadedList seed peak list) × Ends seed peak list a left)
+    → (a ≡ loadingOf seed peak (length list)) × ((left ≡ loadedList seed peak list) × LoadEnds seed peak list a left)
 ended seed peak list e f = (e, (f, rw (e, f) (ends seed peak list)))

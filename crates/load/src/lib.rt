@@ -6,7 +6,7 @@ ghost use mathlib.Core.Path.{_≡_};
 ghost use Prim.Native.Nat.{_*_, _%_, _≤_};
 ghost use lib.ListN.{length};
 ghost use Rattle.model.specs.Road.{mostRate};
-ghost use Rattle.model.specs.Load.{numbers, nextOf, arrivalOf, numberAfter, arrivalsOf, loadAnswer, loadingOf, loadedList, Ends};
+ghost use Rattle.model.specs.Load.{numbers, nextNumber, arrivalOf, numberAfter, arrivalsOf, loadAnswer, loadingOf, loadedList, LoadEnds};
 
 // How many numbers have 32 bits.
 const NUMBERS: u64 = 4294967296;
@@ -27,12 +27,12 @@ fn product(a: u32, b: u32) -> u32
 
 // The number that follows.
 fn next(number: u32) -> u32
-    ensures { λ r. ⌜ r ≡ nextOf number ⌝ }
+    ensures { λ r. ⌜ r ≡ nextNumber number ⌝ }
 {
     std::num::wrapping_add_u32(product(MULTIPLIER, number), INCREMENT)
 }
 
-// The arrival that a number stands for.
+// The arrival of a number.
 fn arrival(number: u32, peak: u32) -> u32
     requires { ⌜ peak ≤ mostRate ⌝ }
     ensures { λ r. ⌜ r ≡ arrivalOf number peak ⌝ }
@@ -61,7 +61,7 @@ fn fill(seed: u32, peak: u32, list: &mut [u32]) -> u32
 pub fn load(seed: u32, peak: u32, list: &mut [u32]) -> Loaded
     ensures answer { λ r. ⌜ loadAnswer r ≡ loadingOf seed peak (length (now (list .entry))) ⌝ }
     ensures list { λ r. ⌜ now (list .exit) ≡ loadedList seed peak (now (list .entry)) ⌝ }
-    ensures ends { λ r. ⌜ Ends seed peak (now (list .entry)) (loadAnswer r) (now (list .exit)) ⌝ }
+    ensures ends { λ r. ⌜ LoadEnds seed peak (now (list .entry)) (loadAnswer r) (now (list .exit)) ⌝ }
 {
     if Road::RATE < peak {
         return Loaded {

@@ -247,7 +247,7 @@ pub ok-ramp : (laws : List Law) (ramp : List ℕ) (i : ℕ) → (at ramp i ≡ 0
 unfolding lawOk
 ok-ramp laws ramp i ne = rw (ne-eqb (at ramp i) 0 ne)
 
--- within a list its entry is the same whatever stands for an entry past its end
+-- within a list its entry is the same whatever an entry past its end counts as
 any-default : (l : List Law) (i : ℕ) (d e : Law) → i < length l → getD l i d ≡ getD l i e
 any-default [] i d e h = absurd (omega arith)
 any-default (x ∷ l) zero d e h = refl

@@ -9,7 +9,7 @@ use Rattle.model.specs.declared.Road.{Road}
 use Rattle.model.specs.Numbers.{at}
 use Rattle.model.specs.Road.{totalOf}
 use Rattle.model.specs.Schedules.{Study, roadAt, tableSize, Greatest, Obeying, proposedAt, scheduledAt}
-use Rattle.model.specs.Weights.{Falling, weighedIn}
+use Rattle.model.specs.Weights.{Falling, weightedTotalOfSchedule}
 use Rattle.model.specs.Refusals.{began}
 use Rattle.model.specs.Reading.{readingOf, studyOf}
 use Rattle.model.specs.Running.{EndAnswer, lanesFault, stepsMade}
@@ -52,7 +52,7 @@ module _ (bytes lanes : List ℕ) where
     pub returned : (zs : List ℕ) → e .state .done ≡ judgingOf bytes lanes zs .state .done
         → Ahead (a .road) (e .state) (judgingOf bytes lanes zs .state)
 
-  -- what the words of Demand stand for: the rows written, taken as a schedule; the steps made; reaching; the states returned
+  -- what the words of Demand mean: the rows written, taken as a schedule; the steps made; reaching; the states returned
   pub record Grounds (out : List ℕ) (e : EndAnswer) : Type 0 where
     -- the rows written, taken as a schedule, obey the rules up to every step written
     pub own : (k : ℕ) → k ≤ stepsMade a e → Reaches a out k
@@ -74,17 +74,17 @@ module _ (bytes lanes : List ℕ) where
     pub judgedRoad : (zs : List ℕ) → length zs ≡ tableSize a → judgingOf bytes lanes zs .road ≡ a .road
 
   -- the same with weights w of places, gate first, and u of ramps: what the weighted total of running's answer e, with its list at exit, is worth.
-  -- That weights fall from the gate on is needed: `Rising` has a schedule that beats the engine where they rise
+  -- That weights fall from the gate on is needed: in `WorkedWeights` a schedule beats the engine where they rise
   pub record WeightedDemand (w u : ℕ → ℕ) (out : List ℕ) (e : EndAnswer) (total : ℕ) : Type 0 where
     -- it is that of the rows written, taken as a schedule
-    pub own : total ≡ weighedIn w u a out (stepsMade a e)
+    pub own : total ≡ weightedTotalOfSchedule w u a out (stepsMade a e)
     -- if no place weighs more than the one before it, gate first, then after every step that both reach the engine's weighted total so far is at
     -- most the schedule's; ramp queues may weigh anything, since they are equal on both sides
     pub best : Falling w (a .road .n) → (zs : List ℕ) (k : ℕ) → k ≤ stepsMade a e → Reaches a zs k
-        → weighedIn w u a out k ≤ weighedIn w u a zs k
+        → weightedTotalOfSchedule w u a out k ≤ weightedTotalOfSchedule w u a zs k
     -- where running and judging end after equally many steps, the total returned is at most that of the steps judged
     pub returned : Falling w (a .road .n) → (zs : List ℕ) → e .state .done ≡ judgingOf bytes lanes zs .state .done
-        → total ≤ weighedIn w u a zs (stepsMade a (judgingOf bytes lanes zs))
+        → total ≤ weightedTotalOfSchedule w u a zs (stepsMade a (judgingOf bytes lanes zs))
 
   -- no refusal of the record (those of reading) or of its table of lanes (17, 18) applies
   pub record Taken : Type 0 where

@@ -19,22 +19,32 @@ use Rattle.model.specs.Ramps.{putTable, Metered, unmetered, grantedAt, f
 abbrev pub Outside : ℕ → ℕ → ℕ → Type 0
 Outside k i w = (k < i) ⊎ (i + w ≤ k)
 
--- what the wishes of step k go by: held, queue and supply are those of the state before it
-unfoldable pub meteredAfter : List Law → Study → ℕ → Metered
-meteredAfter laws a zero = unmetered (a .start)
-meteredAfter laws a (suc k) = meteredOf laws (roadAt a k) (meteredAfter laws a k) (a .rows k)
+-- what the wishes of step k go by, where those of step 0 go by m: held, queue and supply are those of the state before it
+unfoldable pub meteredFrom : List Law → Study → Metered → ℕ → Metered
+meteredFrom laws a m zero = m
+meteredFrom laws a m (suc k) = meteredOf laws (roadAt a k) (meteredFrom laws a m k) (a .rows k)
 
 -- the release of the cell at i in step k
-abbrev pub grantedIn : List Law → Study → ℕ → ℕ → ℕ
-grantedIn laws a k i = grantedAt laws (roadAt a k) (meteredAfter laws a k) (a .rows k) i
+abbrev pub grantedFrom : List Law → Study → Metered → ℕ → ℕ → ℕ
+grantedFrom laws a m k i = grantedAt laws (roadAt a k) (meteredFrom laws a m k) (a .rows k) i
 
 -- the row of step k with its releases filled
-abbrev pub filledRows : List Law → Study → ℕ → List ℕ
-filledRows laws a k = filledRow laws (roadAt a k) (meteredAfter laws a k) (a .rows k)
+abbrev pub rowsFrom : List Law → Study → Metered → ℕ → List ℕ
+rowsFrom laws a m k = filledRow laws (roadAt a k) (meteredFrom laws a m k) (a .rows k)
 
 -- the study with its releases filled: road, start, T, arrivals and lanes stay
+abbrev pub filledFrom : List Law → Study → Metered → Study
+filledFrom laws a m = study (a .road) (a .start) (a .steps) (rowsFrom laws a m) (a .lanes)
+
+-- the same from the record's start, before which the last release and last entry are 0
+abbrev pub meteredAfter : List Law → Study → ℕ → Metered
+meteredAfter laws a k = meteredFrom laws a (unmetered (a .start)) k
+
+abbrev pub grantedIn : List Law → Study → ℕ → ℕ → ℕ
+grantedIn laws a k i = grantedFrom laws a (unmetered (a .start)) k i
+
 abbrev pub filledStudy : List Law → Study → Study
-filledStudy laws a = study (a .road) (a .start) (a .steps) (filledRows laws a) (a .lanes)
+filledStudy laws a = filledFrom laws a (unmetered (a .start))
 
 -- filling changes only the record's releases
 unfoldable pub filledBytes : List Law → List ℕ → List ℕ → List ℕ

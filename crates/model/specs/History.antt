@@ -10,12 +10,12 @@ use Rattle.model.specs.Running.{EndAnswer, noState, unlessOpened, stepsM
 use Rattle.model.specs.Judging.{judgeEnd}
 
 -- a row of places: the gate's number, then each cell's
-abbrev pub numberAt : ℕ → List ℕ → ℕ → ℕ
-numberAt gate cells zero = gate
-numberAt gate cells (suc i) = at cells i
+abbrev pub placeNumber : ℕ → List ℕ → ℕ → ℕ
+placeNumber gate cells zero = gate
+placeNumber gate cells (suc i) = at cells i
 
 abbrev pub placesOf : ℕ → List ℕ → ℕ → List ℕ
-placesOf gate cells n = listOf (numberAt gate cells) (n + 1)
+placesOf gate cells n = listOf (placeNumber gate cells) (n + 1)
 
 -- after step k of a schedule: the gate's queue and what each cell holds; and 0 and each ramp's queue
 abbrev pub heldRow : Study → List ℕ → ℕ → List ℕ

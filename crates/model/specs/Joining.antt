@@ -101,7 +101,7 @@ joiningOf up down share target =
     (unless (eqb (readingOf down .number) 0) (unwritten (readingOf down .number) (readingOf down .place))
     (joiningBy (studyOf up []) (studyOf down []) share (length target)))
 
--- the target then: the joined record's bytes in front of what stood beyond them, or as lent after a refusal
+-- the target then: the joined record's bytes in front of what was beyond them, or unchanged after a refusal
 unfoldable pub joinedTarget : List ℕ → List ℕ → ℕ → List ℕ → List ℕ
 joinedTarget up down share target =
     cond (eqb (joiningOf up down share target .number) 0)

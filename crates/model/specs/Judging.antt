@@ -1,4 +1,4 @@
--- docs/MODEL.md, 'Judging': what is said of one row of a proposed schedule, and of all. Assumes nothing.
+-- docs/MODEL.md, 'Judging': the verdict on one row of a proposed schedule, and on all. Assumes nothing.
 use mathlib.Core.Bool.{cond}
 use mathlib.Core.List.{List}
 use Prim.Native.Nat.{ℕ, _+_}

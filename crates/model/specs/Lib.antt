@@ -23,14 +23,18 @@ pub mod Meter
 pub mod Ramps
 pub mod Filling
 pub mod Longest
+pub mod GoingOn
+pub mod Many
 pub mod Wanted
 pub mod Street
 pub mod Put
 pub mod Load
 pub mod Words
 pub mod Listing
+pub mod WorkedPrinted
 pub mod WorkedEdges
 pub mod WorkedRecord
+pub mod WorkedVersions
 pub mod WorkedSchedule
 pub mod WorkedWeights
 pub mod WorkedRoads
@@ -42,3 +46,5 @@ pub mod WorkedPut
 pub mod WorkedLoad
 pub mod WorkedOperations
 pub mod WorkedRuns
+pub mod WorkedGoingOn
+pub mod WorkedMany

@@ -70,6 +70,10 @@ unfoldable pub inputOk : Road → State → List ℕ → Bool
 inputOk r s row =
     frameOk (r .n) (s .done) (totalOf s) (length row) && (allOf (placeOk r s) (r .n + 1) && rowOk (r .ramp) (r .n) row)
 
+-- 7, of the state alone: steps done, total, gate and cells
+unfoldable pub stateOk : Road → State → Bool
+stateOk r s = leb (s .done) mostSteps && (leb (totalOf s) (mostTotal (s .done)) && allOf (placeOk r s) (r .n + 1))
+
 -- no number of the list is above `most`
 unfoldable pub allWithin : List ℕ → ℕ → Bool
 allWithin list most = allOf (λ i. leb (at list i) most) (length list)

@@ -97,7 +97,7 @@ refusedLine number step place = refusedWord ++ (wordOf number blank ++ (wordOf s
 pub record Holds (before text after : List ℕ) (end : ℕ) : Type 0 where
   pub first : take end after ≡ text
   pub within : end ≤ length after
-  -- this follows, and is what taking that part asks
+  -- this follows, and is what taking that part requires
   pub counted : end ≡ length (take end after)
   pub same : length after ≡ length before
 

@@ -17,8 +17,8 @@ abbrev pub half : ℕ
 half = 2 ^ 16
 
 -- a 32-bit number becomes 1664525 × number + 1013904223, wrapping
-abbrev pub nextOf : ℕ → ℕ
-nextOf number = (1664525 * number + 1013904223) % numbers
+abbrev pub nextNumber : ℕ → ℕ
+nextNumber number = (1664525 * number + 1013904223) % numbers
 
 -- an arrival is its upper 16 bits × (peak + 1) ÷ 65,536, rounded down
 abbrev pub arrivalOf : ℕ → ℕ → ℕ
@@ -27,7 +27,7 @@ arrivalOf number peak = number / half * (peak + 1) / half
 -- the number after n arrivals, the seed after none
 unfoldable pub numberAfter : ℕ → ℕ → ℕ
 numberAfter seed zero = seed
-numberAfter seed (suc n) = nextOf (numberAfter seed n)
+numberAfter seed (suc n) = nextNumber (numberAfter seed n)
 
 -- the arrival of step k is that of the number after the update
 abbrev pub arrivalAt : ℕ → ℕ → ℕ → ℕ
@@ -64,6 +64,6 @@ pub record Arrivals (seed peak : ℕ) (list filled : List ℕ) : Type 0 where
   pub within : (k : ℕ) → k < length list → at filled k ≤ peak
 
 -- both ends, with what each leaves of the lent list
-pub data Ends (seed peak : ℕ) (list : List ℕ) : LoadAnswer → List ℕ → Type 0 where
-  refused : mostRate < peak → Ends seed peak list (loaded 25 seed) list
-  filled : peak ≤ mostRate → {after : List ℕ} → Arrivals seed peak list after → Ends seed peak list (loaded 0 (numberAfter seed (length list))) after
+pub data LoadEnds (seed peak : ℕ) (list : List ℕ) : LoadAnswer → List ℕ → Type 0 where
+  refused : mostRate < peak → LoadEnds seed peak list (loaded 25 seed) list
+  filled : peak ≤ mostRate → {after : List ℕ} → Arrivals seed peak list after → LoadEnds seed peak list (loaded 0 (numberAfter seed (length list))) after

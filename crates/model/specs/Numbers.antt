@@ -64,7 +64,7 @@ concatOf f (suc n) = concatOf f n ++ f n
 unfoldable pub rowAt : List ℕ → ℕ → ℕ → List ℕ
 rowAt l w k = take w (drop (k * w) l)
 
--- a lent list with the first k rows of w numbers written in front; what stands beyond them is kept
+-- a lent list with the first k rows of w numbers written in front; what is beyond them is kept
 unfoldable pub frontOf : (ℕ → List ℕ) → ℕ → List ℕ → ℕ → List ℕ
 frontOf rows w list k = concatOf rows k ++ drop (k * w) list
 

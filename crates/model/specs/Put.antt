@@ -19,8 +19,8 @@ rampOk ramp n zero = false
 rampOk ramp n (suc i) = leb (suc i) n && eqb (at ramp i) 1
 
 -- 6: a step before T, and a release of at most 1,000,000
-abbrev pub ratesOk : ℕ → ℕ → ℕ → Bool
-ratesOk step T release = ltb step T && leb release mostRate
+abbrev pub stepAndRateOk : ℕ → ℕ → ℕ → Bool
+stepAndRateOk step T release = ltb step T && leb release mostRate
 
 -- the release of cell i is number 2i of a row
 abbrev pub releasedAt : List ℕ → ℕ → ℕ → ℕ → ℕ → List ℕ
@@ -31,7 +31,7 @@ unfoldable pub puttingOf : List ℕ → ℕ → ℕ → ℕ → FaultAnswer
 puttingOf bytes step cell release =
     unless (eqb (readingOf bytes .number) 0) (fault (readingOf bytes .number) (readingOf bytes .place))
     (unless (rampOk (readingOf bytes .road .ramp) (readingOf bytes .road .n) cell) (fault 5 cell)
-    (unless (ratesOk step (readingOf bytes .steps) release) (fault 6 step)
+    (unless (stepAndRateOk step (readingOf bytes .steps) release) (fault 6 step)
     (fault 0 0)))
 
 -- the record then; a refusal leaves it unchanged
@@ -58,8 +58,8 @@ pub record Put (s u : List ℕ) (n t k x : ℕ) : Type 0 where
   pub row : recordRow u n t ≡ set (recordRow s n t) k x
   pub rows : (q : ℕ) → (q ≡ t → ⊥) → recordRow u n q ≡ recordRow s n q
 
--- what no refusal asks: the record reads, the cell is on the road and has a ramp, the step is one of its T, and the release is a rate
-pub record Asked (bytes : List ℕ) (step cell release : ℕ) : Type 0 where
+-- what holds where nothing is refused: the record reads, the cell is on the road and has a ramp, the step is one of its T, and the release is a rate
+pub record PutRequest (bytes : List ℕ) (step cell release : ℕ) : Type 0 where
   pub reads : readingOf bytes .number ≡ 0
   pub ramp : Ramp (readingOf bytes .road .ramp) (readingOf bytes .road .n) cell
   pub before : step < readingOf bytes .steps
@@ -73,10 +73,10 @@ pub record Stands (bytes after : List ℕ) (step cell release : ℕ) : Type 0 wh
   pub reads : readingOf after ≡ readingOf bytes
 
 -- the ends of putting, with what each leaves of the record
-pub data Ends (bytes : List ℕ) (step cell release : ℕ) : FaultAnswer → List ℕ → Type 0 where
-  unread : (readingOf bytes .number ≡ 0 → ⊥) → Ends bytes step cell release (fault (readingOf bytes .number) (readingOf bytes .place)) bytes
+pub data PutEnds (bytes : List ℕ) (step cell release : ℕ) : FaultAnswer → List ℕ → Type 0 where
+  unread : (readingOf bytes .number ≡ 0 → ⊥) → PutEnds bytes step cell release (fault (readingOf bytes .number) (readingOf bytes .place)) bytes
   noRamp : readingOf bytes .number ≡ 0 → (Ramp (readingOf bytes .road .ramp) (readingOf bytes .road .n) cell → ⊥)
-      → Ends bytes step cell release (fault 5 cell) bytes
+      → PutEnds bytes step cell release (fault 5 cell) bytes
   noRate : readingOf bytes .number ≡ 0 → Ramp (readingOf bytes .road .ramp) (readingOf bytes .road .n) cell
-      → (step < readingOf bytes .steps → release ≤ mostRate → ⊥) → Ends bytes step cell release (fault 6 step) bytes
-  put : Asked bytes step cell release → {after : List ℕ} → Stands bytes after step cell release → Ends bytes step cell release (fault 0 0) after
+      → (step < readingOf bytes .steps → release ≤ mostRate → ⊥) → PutEnds bytes step cell release (fault 6 step) bytes
+  put : PutRequest bytes step cell release → {after : List ℕ} → Stands bytes after step cell release → PutEnds bytes step cell release (fault 0 0) after

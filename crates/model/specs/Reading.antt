@@ -124,7 +124,7 @@ readingBy by s =
     (unlessFirst (stepOk s (roadOf s)) (stepsOf s) (refusedOf 6)
     (acceptedOf (stepsOf s) (roadOf s) (startOf s)))))))))
 
--- reading for a caller with limits of its own: above 64 and 65,536 they are as good as these, since 1 and 3 come first
+-- reading for a caller with limits of its own: above 64 and 65,536 they count as these, since 1 and 3 come first
 abbrev pub readingWithin : ℕ → ℕ → List ℕ → ReadAnswer
 readingWithin cells bytes s = readingBy (record { known = bothVersions; cells = cells; bytes = bytes }) s
 
@@ -132,7 +132,7 @@ readingWithin cells bytes s = readingBy (record { known = bothVersions; cells = 
 abbrev pub readingOf : List ℕ → ReadAnswer
 readingOf s = readingWithin mostCells mostBytes s
 
--- the study of a record that gave this road, start and T, under a table of lanes: its rows stand in the bytes
+-- the study of a record that gave this road, start and T, under a table of lanes: the bytes hold its rows
 abbrev pub studyBy : List ℕ → List ℕ → Road → State → ℕ → Study
 studyBy s lanes r q T = study r q T (recordRow s (r .n)) lanes
 

@@ -1,4 +1,4 @@
--- docs/MODEL.md, 'The record': where each field stands, and the numbers, columns and rows that the bytes give. Assumes nothing.
+-- docs/MODEL.md, 'The record': where each field is, and the numbers, columns and rows that the bytes give. Assumes nothing.
 use mathlib.Core.Bool.{cond}
 use mathlib.Core.List.{List, [], _∷_, _++_}
 use Prim.Native.Nat.{ℕ, zero, suc, _+_, _*_, _/_, _%_}
@@ -48,7 +48,7 @@ cellsOffset = 5
 abbrev pub stepsOffset : ℕ
 stepsOffset = 6
 
--- version 2 has two more bytes after byte 7, the step's seconds, and all that follows stands two bytes later; other versions have none
+-- version 2 has two more bytes after byte 7, the step's seconds, and all that follows is two bytes later; other versions have none
 abbrev pub secondsOffset : ℕ
 secondsOffset = 8
 
@@ -63,7 +63,7 @@ gateCapacityOffset version = 8 + secondsSize version
 abbrev pub gateQueueOffset : ℕ → ℕ
 gateQueueOffset version = 12 + secondsSize version
 
--- all that stands before the cells
+-- all that comes before the cells
 abbrev pub headerSize : ℕ → ℕ
 headerSize version = 16 + secondsSize version
 
@@ -120,7 +120,7 @@ fieldOf s offset w i = numberOf s (headerSize (versionOf s) + cellSize * i + off
 abbrev pub columnOf : List ℕ → ℕ → ℕ → ℕ → List ℕ
 columnOf s offset w n = fillOf (fieldOf s offset w) n zeros
 
--- where number k of that row stands
+-- where number k of that row is
 abbrev pub entryStart : ℕ → ℕ → ℕ → ℕ → ℕ
 entryStart version n t k = rowStart version n t + numberSize * k
 

@@ -6,7 +6,7 @@ use Rattle.model.specs.declared.Refusal.{Refusal}
 use Rattle.model.specs.declared.Fault.{Fault}
 use Rattle.model.specs.declared.Refusal.the-variants.{None, Length, Version, Counts, Size, Limits, Rates, StepInput, StepsDone, ReleaseAboveQueue, ReleaseAboveSupply}
 use Rattle.model.specs.declared.Refusal.the-variants.{ListLength, ScheduleLength, OutflowAboveDemand, EnteringAboveRoom, TargetLength, LawNumbers, LanesLength, Lanes}
-use Rattle.model.specs.declared.Refusal.the-variants.{Seconds, RoadsDiffer, SecondGate, JoinedSize, WantedInput, StreetInput, Peak, CallerLimits}
+use Rattle.model.specs.declared.Refusal.the-variants.{Seconds, RoadsDiffer, SecondGate, JoinedSize, WantedInput, StreetInput, Peak, CallerLimits, ManyLengths}
 use Rattle.model.specs.Numbers.{oneOf}
 
 -- the number of each refusal, 0 for none
@@ -52,6 +52,8 @@ refusalNumber StreetInput = 24
 refusalNumber Peak = 25
 -- reading, for a caller with limits of its own
 refusalNumber CallerLimits = 26
+-- many studies, of the lists lent
+refusalNumber ManyLengths = 27
 
 -- a run or a judgement began: it was not refused, or with a step, a place and the state before that step
 unfoldable pub began : ℕ → Bool

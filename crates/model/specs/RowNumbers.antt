@@ -36,10 +36,10 @@ takenRow bytes n t = take (rowNumbers n) (rowArray bytes n t)
 abbrev pub roomy : ℕ → ℕ → ℕ → Bool
 roomy n T room = leb n mostCells && (leb T mostSteps && leb (T * rowNumbers n) room)
 
--- how many numbers stand in the list then; otherwise none
+-- how many numbers the list then holds; otherwise none
 unfoldable pub takenCount : ℕ → ℕ → ℕ → ℕ
 takenCount n T room = cond (roomy n T room) (T * rowNumbers n) 0
 
--- the list then: the rows one after the other in front of what stood beyond them; otherwise as lent
+-- the list then: the rows one after the other in front of what was beyond them; otherwise unchanged
 unfoldable pub takenList : List ℕ → ℕ → ℕ → List ℕ → List ℕ
 takenList bytes n T list = cond (roomy n T (length list)) (frontOf (takenRow bytes n) (rowNumbers n) list T) list

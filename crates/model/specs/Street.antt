@@ -10,7 +10,7 @@ use Rattle.model.specs.Road.{mostRate, mostRamps}
 use Rattle.model.specs.Limits.{allWithin}
 
 -- the limits of refusal 24, as facts
-pub record Asked (limit : ℕ) (guarantees wishes : List ℕ) : Type 0 where
+pub record GrantRequest (limit : ℕ) (guarantees wishes : List ℕ) : Type 0 where
   pub some : 1 ≤ length guarantees
   pub most : length guarantees ≤ mostRamps
   pub same : length wishes ≡ length guarantees
@@ -20,12 +20,12 @@ pub record Asked (limit : ℕ) (guarantees wishes : List ℕ) : Type 0 where
   pub together : sumOf guarantees ≤ limit
 
 -- and as a test; refusal 24: ramps not 1 to 8, lists of unequal length, a guarantee, wish or limit above 1,000,000, guarantees that together pass the limit
-abbrev pub frameOk : ℕ → ℕ → ℕ → ℕ → Bool
-frameOk limit ramps wishes places = leb 1 ramps && (leb ramps mostRamps && (eqb wishes ramps && (eqb places ramps && leb limit mostRate)))
+abbrev pub streetFrameOk : ℕ → ℕ → ℕ → ℕ → Bool
+streetFrameOk limit ramps wishes places = leb 1 ramps && (leb ramps mostRamps && (eqb wishes ramps && (eqb places ramps && leb limit mostRate)))
 
-unfoldable pub askedOk : ℕ → List ℕ → List ℕ → ℕ → Bool
-askedOk limit guarantees wishes places =
-    frameOk limit (length guarantees) (length wishes) places
+unfoldable pub streetOk : ℕ → List ℕ → List ℕ → ℕ → Bool
+streetOk limit guarantees wishes places =
+    streetFrameOk limit (length guarantees) (length wishes) places
     && (allWithin guarantees mostRate && (allWithin wishes mostRate && leb (sumOf guarantees) limit))
 
 -- it first gets the smaller of the two
@@ -49,11 +49,11 @@ grantsOf limit guarantees wishes = listOf (grantAt limit guarantees wishes) (len
 
 -- granting answers a refusal's number, 0 for none
 unfoldable pub grantingOf : ℕ → List ℕ → List ℕ → ℕ → ℕ
-grantingOf limit guarantees wishes places = unless (askedOk limit guarantees wishes places) 24 0
+grantingOf limit guarantees wishes places = unless (streetOk limit guarantees wishes places) 24 0
 
 -- the lent grants then; 24 leaves them unchanged
 unfoldable pub grantsAfter : ℕ → List ℕ → List ℕ → List ℕ → List ℕ
-grantsAfter limit guarantees wishes grants = unless (askedOk limit guarantees wishes (length grants)) grants (grantsOf limit guarantees wishes)
+grantsAfter limit guarantees wishes grants = unless (streetOk limit guarantees wishes (length grants)) grants (grantsOf limit guarantees wishes)
 
 -- the grants of a street's ramps in a step
 pub record Fair (limit : ℕ) (guarantees wishes grants : List ℕ) : Type 0 where
@@ -70,7 +70,7 @@ pub record Fair (limit : ℕ) (guarantees wishes grants : List ℕ) : Type 0 whe
   pub whole : sumOf grants ≡ min limit (sumOf wishes)
 
 -- both ends, with what each leaves of the lent grants
-pub data Ends (limit : ℕ) (guarantees wishes grants : List ℕ) : ℕ → List ℕ → Type 0 where
-  refused : (Asked limit guarantees wishes → length grants ≡ length guarantees → ⊥) → Ends limit guarantees wishes grants 24 grants
-  granted : Asked limit guarantees wishes → length grants ≡ length guarantees → {filled : List ℕ} → Fair limit guarantees wishes filled
-      → Ends limit guarantees wishes grants 0 filled
+pub data GrantEnds (limit : ℕ) (guarantees wishes grants : List ℕ) : ℕ → List ℕ → Type 0 where
+  refused : (GrantRequest limit guarantees wishes → length grants ≡ length guarantees → ⊥) → GrantEnds limit guarantees wishes grants 24 grants
+  granted : GrantRequest limit guarantees wishes → length grants ≡ length guarantees → {filled : List ℕ} → Fair limit guarantees wishes filled
+      → GrantEnds limit guarantees wishes grants 0 filled

@@ -13,22 +13,22 @@ use Rattle.model.specs.Refusals.{refusalNumber}
 use Rattle.model.specs.Limits.{allWithin}
 
 -- the queue after k steps that release what a table says
-unfoldable pub queueAfter : ℕ → List ℕ → List ℕ → ℕ → ℕ
-queueAfter start arrivals table zero = start
-queueAfter start arrivals table (suc k) = queueAfter start arrivals table k + at arrivals k - at table k
+unfoldable pub rampQueueAfter : ℕ → List ℕ → List ℕ → ℕ → ℕ
+rampQueueAfter start arrivals table zero = start
+rampQueueAfter start arrivals table (suc k) = rampQueueAfter start arrivals table k + at arrivals k - at table k
 
 -- a table that obeys: no release exceeds the rate or queue plus arrivals, and the queue after each step is at or under the ceiling
-pub record Obeys (start ceiling rate : ℕ) (arrivals table : List ℕ) : Type 0 where
+pub record TableObeys (start ceiling rate : ℕ) (arrivals table : List ℕ) : Type 0 where
   pub steps : length table ≡ length arrivals
   pub slow : (k : ℕ) → k < length arrivals → at table k ≤ rate
-  pub there : (k : ℕ) → k < length arrivals → at table k ≤ queueAfter start arrivals table k + at arrivals k
-  pub under : (k : ℕ) → k < length arrivals → queueAfter start arrivals table (suc k) ≤ ceiling
+  pub there : (k : ℕ) → k < length arrivals → at table k ≤ rampQueueAfter start arrivals table k + at arrivals k
+  pub under : (k : ℕ) → k < length arrivals → rampQueueAfter start arrivals table (suc k) ≤ ceiling
 
 -- the running sum of a table after k steps
 abbrev pub runningSum : List ℕ → ℕ → ℕ
 runningSum table k = sumOf (take k table)
 
--- the limits of refusal 23, as facts: of what comes, and of all that is asked
+-- the limits of refusal 23, as facts: of the arrivals, and of all arguments
 pub record Comes (start : ℕ) (arrivals : List ℕ) : Type 0 where
   pub most : length arrivals ≤ mostSteps
   pub starts : start ≤ mostStart
@@ -40,17 +40,17 @@ pub record Limits (start ceiling rate : ℕ) (arrivals : List ℕ) : Type 0 wher
   pub rates : rate ≤ mostRate
   pub ceilings : ceiling ≤ mostStart
 
-pub record Asked (start ceiling rate : ℕ) (arrivals : List ℕ) (places : ℕ) : Type 0 where
+pub record WantedRequest (start ceiling rate : ℕ) (arrivals : List ℕ) (places : ℕ) : Type 0 where
   pub limits : Limits start ceiling rate arrivals
   pub same : places ≡ length arrivals
 
 -- and as a test; refusal 23: no step, more than 1,440, lists of unequal length, a rate or arrival above 1,000,000, a start or ceiling above 1,000,000,000
-abbrev pub frameOk : ℕ → ℕ → ℕ → ℕ → ℕ → Bool
-frameOk start ceiling rate steps places =
+abbrev pub wantedFrameOk : ℕ → ℕ → ℕ → ℕ → ℕ → Bool
+wantedFrameOk start ceiling rate steps places =
     leb 1 steps && (leb steps mostSteps && (eqb places steps && (leb rate mostRate && (leb start mostStart && leb ceiling mostStart))))
 
-abbrev pub askedOk : ℕ → ℕ → ℕ → List ℕ → ℕ → Bool
-askedOk start ceiling rate arrivals places = frameOk start ceiling rate (length arrivals) places && allWithin arrivals mostRate
+abbrev pub wantedOk : ℕ → ℕ → ℕ → List ℕ → ℕ → Bool
+wantedOk start ceiling rate arrivals places = wantedFrameOk start ceiling rate (length arrivals) places && allWithin arrivals mostRate
 
 -- the queue after k steps that each release as much as they may: no table brings it lower
 unfoldable pub lowestQueue : ℕ → ℕ → List ℕ → ℕ → ℕ
@@ -75,13 +75,13 @@ abbrev pub leastAt : ℕ → ℕ → ℕ → List ℕ → ℕ → ℕ
 leastAt start ceiling rate arrivals k = leastFrom start ceiling rate arrivals k (length arrivals - suc k)
 
 -- the release of each step: how much that least grows
-unfoldable pub releaseOf : ℕ → ℕ → ℕ → List ℕ → ℕ → ℕ
-releaseOf start ceiling rate arrivals zero = leastAt start ceiling rate arrivals 0
-releaseOf start ceiling rate arrivals (suc k) = leastAt start ceiling rate arrivals (suc k) - leastAt start ceiling rate arrivals k
+unfoldable pub leastRelease : ℕ → ℕ → ℕ → List ℕ → ℕ → ℕ
+leastRelease start ceiling rate arrivals zero = leastAt start ceiling rate arrivals 0
+leastRelease start ceiling rate arrivals (suc k) = leastAt start ceiling rate arrivals (suc k) - leastAt start ceiling rate arrivals k
 
 -- and the table of all of them
-unfoldable pub tableOf : ℕ → ℕ → ℕ → List ℕ → List ℕ
-tableOf start ceiling rate arrivals = listOf (releaseOf start ceiling rate arrivals) (length arrivals)
+unfoldable pub leastTable : ℕ → ℕ → ℕ → List ℕ → List ℕ
+leastTable start ceiling rate arrivals = listOf (leastRelease start ceiling rate arrivals) (length arrivals)
 
 -- what the search answers: the refusal's number, whether there was a search, and whether it found a table
 pub record WantedAnswer : Type 0 where
@@ -89,36 +89,36 @@ pub record WantedAnswer : Type 0 where
   pub searched : Bool
   pub found : Bool
 
-abbrev pub answer : ℕ → Bool → Bool → WantedAnswer
-answer number searched found = record { number = number; searched = searched; found = found }
+abbrev pub searchAnswer : ℕ → Bool → Bool → WantedAnswer
+searchAnswer number searched found = record { number = number; searched = searched; found = found }
 
 -- the number and the values of each case of the code's answer; no two cases have the same
 abbrev pub wantedAnswer : Wanted → WantedAnswer
-wantedAnswer (Refused refusal) = answer (refusalNumber refusal) false false
-wantedAnswer None = answer 0 true false
-wantedAnswer Found = answer 0 true true
+wantedAnswer (Refused refusal) = searchAnswer (refusalNumber refusal) false false
+wantedAnswer None = searchAnswer 0 true false
+wantedAnswer Found = searchAnswer 0 true true
 
 -- 23 precedes any search; if no table does it, the result is none
 unfoldable pub wantedOf : ℕ → ℕ → ℕ → List ℕ → ℕ → WantedAnswer
 wantedOf start ceiling rate arrivals places =
-    unless (askedOk start ceiling rate arrivals places) (answer 23 false false)
-    (unless (possibleOf start ceiling rate arrivals) (answer 0 true false)
-    (answer 0 true true))
+    unless (wantedOk start ceiling rate arrivals places) (searchAnswer 23 false false)
+    (unless (possibleOf start ceiling rate arrivals) (searchAnswer 0 true false)
+    (searchAnswer 0 true true))
 
 -- the lent table then: the table found, and unchanged after none as after a refusal
 unfoldable pub tableAfter : ℕ → ℕ → ℕ → List ℕ → List ℕ → List ℕ
 tableAfter start ceiling rate arrivals table =
-    cond (wantedOf start ceiling rate arrivals (length table) .found) (tableOf start ceiling rate arrivals) table
+    cond (wantedOf start ceiling rate arrivals (length table) .found) (leastTable start ceiling rate arrivals) table
 
 -- a table that obeys, and whose running sum after every step is at most that of each table that obeys
 pub record Least (start ceiling rate : ℕ) (arrivals table : List ℕ) : Type 0 where
-  pub obeys : Obeys start ceiling rate arrivals table
-  pub least : (other : List ℕ) → Obeys start ceiling rate arrivals other → (k : ℕ) → k ≤ length arrivals → runningSum table k ≤ runningSum other k
+  pub obeys : TableObeys start ceiling rate arrivals table
+  pub least : (other : List ℕ) → TableObeys start ceiling rate arrivals other → (k : ℕ) → k ≤ length arrivals → runningSum table k ≤ runningSum other k
 
 -- the three ends, with what each leaves of the lent table
-pub data Ends (start ceiling rate : ℕ) (arrivals table : List ℕ) : WantedAnswer → List ℕ → Type 0 where
-  refused : (Asked start ceiling rate arrivals (length table) → ⊥) → Ends start ceiling rate arrivals table (answer 23 false false) table
-  none : Asked start ceiling rate arrivals (length table) → ((other : List ℕ) → Obeys start ceiling rate arrivals other → ⊥)
-      → Ends start ceiling rate arrivals table (answer 0 true false) table
-  found : Asked start ceiling rate arrivals (length table) → {filled : List ℕ} → Least start ceiling rate arrivals filled
-      → Ends start ceiling rate arrivals table (answer 0 true true) filled
+pub data WantedEnds (start ceiling rate : ℕ) (arrivals table : List ℕ) : WantedAnswer → List ℕ → Type 0 where
+  refused : (WantedRequest start ceiling rate arrivals (length table) → ⊥) → WantedEnds start ceiling rate arrivals table (searchAnswer 23 false false) table
+  none : WantedRequest start ceiling rate arrivals (length table) → ((other : List ℕ) → TableObeys start ceiling rate arrivals other → ⊥)
+      → WantedEnds start ceiling rate arrivals table (searchAnswer 0 true false) table
+  found : WantedRequest start ceiling rate arrivals (length table) → {filled : List ℕ} → Least start ceiling rate arrivals filled
+      → WantedEnds start ceiling rate arrivals table (searchAnswer 0 true true) filled

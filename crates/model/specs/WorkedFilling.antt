@@ -18,7 +18,7 @@ use Rattle.model.specs.Running.{endOf, openingOf}
 use Rattle.model.specs.Judging.{outflowFaultAt, verdictOf, judgingOf}
 use Rattle.model.specs.Meter.{alineaOf, wishOf, wholeBelow, lawFinite, lawOk, lawFaultOf}
 use Rattle.model.specs.Ramps.{putReleases, putTable, releasedRow, releaseOf, grantedAt, filledRow, meteredOf}
-use Rattle.model.specs.Filling.{meteredAfter, filledBytes, fillingOf, recordAfter, filledList}
+use Rattle.model.specs.Filling.{meteredFrom, filledBytes, fillingOf, recordAfter, filledList}
 use Rattle.model.specs.WorkedRecord.{sample, header, upstream, downstream, row}
 use Rattle.model.specs.WorkedSchedule.{still}
 use Rattle.model.specs.WorkedWishes.{number}
@@ -40,7 +40,7 @@ unfolding sample header upstream downstream row readingBy oneOf numberOf seconds
     sumOf fillOf listOf firstFrom firstOf firstFault placeOk rowOk
     capacityAt demandAt mostReleaseAt shareAt cumulativeAt movedTo countedOf outflowsOf lowestOf tableFault roadAt engineAfter
     laws number round add sub mul le ofInt alineaOf wishOf wholeBelow lawFinite lawOk lawFaultOf
-    releasedRow releaseOf grantedAt filledRow meteredOf meteredAfter fillingOf filledList frontOf concatOf
+    releasedRow releaseOf grantedAt filledRow meteredOf meteredFrom fillingOf filledList frontOf concatOf
 fills = record { number = refl; total = refl; rampTime = refl; outflows = refl }
 
 -- the filled record, against the schedule that sends nothing: judging accepts it, with the larger total and the same ramp time
@@ -55,6 +55,6 @@ unfolding sample header upstream downstream row readingBy oneOf numberOf seconds
     sumOf fillOf listOf firstFrom firstOf firstFault placeOk rowOk
     capacityAt demandAt mostReleaseAt shareAt cumulativeAt movedTo countedOf outflowsOf lowestOf outflowFaultAt verdictOf tableFault roadAt engineAfter
     laws number round add sub mul le ofInt alineaOf wishOf wholeBelow lawFinite lawOk lawFaultOf
-    releasedRow releaseOf grantedAt filledRow meteredOf meteredAfter fillingOf recordAfter filledBytes putTable putReleases placed bytesOf
+    releasedRow releaseOf grantedAt filledRow meteredOf meteredFrom fillingOf recordAfter filledBytes putTable putReleases placed bytesOf
     scheduleAfter rowAt endOf openingOf judgingOf
 rival = record { judged = refl; total = refl; rampTime = refl }

@@ -29,7 +29,8 @@ use Rattle.model.specs.Filling.{fillingOf, filledList}
 use Rattle.model.specs.Put.{rampOk}
 use Rattle.model.specs.Words.{vehicleSeconds, digitsOf, decimalOf}
 use Rattle.model.specs.Listing.{mostText, headerLine, totalLine, refusedLine, stepsLines, timeOf, printedEnd}
-use Rattle.model.specs.WorkedEdges.{road, start, row, built, after}
+use Rattle.model.specs.WorkedPrinted.{road, start, row, built}
+use Rattle.model.specs.WorkedEdges.{after}
 use Rattle.model.specs.WorkedRecord.{sample, header, upstream, downstream, row as bytes}
 use Rattle.model.specs.WorkedSchedule.{still}
 use Rattle.model.specs.WorkedWishes.{number}
@@ -68,7 +69,7 @@ pub too-wide : joiningBy (wide 64) (wide 1) 0 0 .number ≡ 22
 unfolding firstFrom firstOf secondsSize
 too-wide = refl
 
--- filling: 16 before 11, and a refusal leaves the list as it was lent; what entered each cell in a step by a fixed rate of 300
+-- filling: 16 before 11, and a refusal leaves the list unchanged; what entered each cell in a step by a fixed rate of 300
 unfoldable pub endless : List Law
 endless = law.Fixed (number 0 1) ∷ law.Fixed (inf false) ∷ []
 

@@ -35,7 +35,7 @@ pub above-rate : puttingOf sample 2 2 1000001 ≡ fault 6 2
 unfolding puttingOf rampOk readingBy sample header upstream downstream row numberOf secondsSize oneOf firstOf firstFrom placeOk rowOk fillOf listOf
 above-rate = refl
 
--- the release of cell 2 in step 1 becomes 7, and the row's other numbers stand
+-- the release of cell 2 in step 1 becomes 7, and the row's other numbers stay
 pub put-there : recordRow (releasedRecord sample 1 2 7) 2 1 ≡ 1000 ∷ 0 ∷ 0 ∷ 500 ∷ 7 ∷ []
 unfolding releasedRecord placed bytesOf
     puttingOf rampOk readingBy sample header upstream downstream row numberOf secondsSize oneOf firstOf firstFrom placeOk rowOk fillOf listOf

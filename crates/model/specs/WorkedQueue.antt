@@ -4,28 +4,28 @@ use mathlib.Core.Bool.{true, false}
 use mathlib.Core.List.{[], _∷_}
 use Rattle.model.specs.Numbers.{firstOf, firstFrom, sumOf, listOf}
 use Rattle.model.specs.Limits.{allWithin}
-use Rattle.model.specs.Wanted.{lowestQueue, possibleOf, inflowOf, leastFrom, releaseOf, tableOf, answer, wantedOf, tableAfter}
+use Rattle.model.specs.Wanted.{lowestQueue, possibleOf, inflowOf, leastFrom, leastRelease, leastTable, searchAnswer, wantedOf, tableAfter}
 
--- three arrive in the last step, which can release two: the step before it releases one that no ceiling asks for yet
+-- three arrive in the last step, which can release two: the step before it releases one that no ceiling needs yet
 pub early : tableAfter 4 3 2 (0 ∷ 0 ∷ 3 ∷ []) (9 ∷ 9 ∷ 9 ∷ []) ≡ 1 ∷ 1 ∷ 2 ∷ []
-unfolding tableAfter wantedOf possibleOf lowestQueue tableOf releaseOf leastFrom inflowOf allWithin firstOf firstFrom sumOf listOf
+unfolding tableAfter wantedOf possibleOf lowestQueue leastTable leastRelease leastFrom inflowOf allWithin firstOf firstFrom sumOf listOf
 early = refl
 
 -- six are too many: the queue would be 4 at least
-pub too-late : wantedOf 4 3 2 (0 ∷ 0 ∷ 6 ∷ []) 3 ≡ answer 0 true false
+pub too-late : wantedOf 4 3 2 (0 ∷ 0 ∷ 6 ∷ []) 3 ≡ searchAnswer 0 true false
 unfolding wantedOf possibleOf lowestQueue allWithin firstOf firstFrom
 too-late = refl
 
 -- five are not: the queue is then 3, at the ceiling
 pub just-in-time : tableAfter 4 3 2 (0 ∷ 0 ∷ 5 ∷ []) (9 ∷ 9 ∷ 9 ∷ []) ≡ 2 ∷ 2 ∷ 2 ∷ []
-unfolding tableAfter wantedOf possibleOf lowestQueue tableOf releaseOf leastFrom inflowOf allWithin firstOf firstFrom sumOf listOf
+unfolding tableAfter wantedOf possibleOf lowestQueue leastTable leastRelease leastFrom inflowOf allWithin firstOf firstFrom sumOf listOf
 just-in-time = refl
 
 -- no step, and a table of another length
-pub no-step : wantedOf 4 3 2 [] 0 ≡ answer 23 false false
+pub no-step : wantedOf 4 3 2 [] 0 ≡ searchAnswer 23 false false
 unfolding wantedOf possibleOf lowestQueue allWithin firstOf firstFrom
 no-step = refl
 
-pub other-length : wantedOf 4 3 2 (0 ∷ []) 2 ≡ answer 23 false false
+pub other-length : wantedOf 4 3 2 (0 ∷ []) 2 ≡ searchAnswer 23 false false
 unfolding wantedOf possibleOf lowestQueue allWithin firstOf firstFrom
 other-length = refl

@@ -51,7 +51,7 @@ pub record Raised : Type 0 where
   pub gone-on : runningOf (shared (two 3 232)) [] list .number ≡ 0
   pub small : totalOf (runningOf (shared (two 0 0)) [] list .state) ≡ 0
   pub large : totalOf (runningOf (shared (two 3 232)) [] list .state) ≡ 1
-  -- speed 500, and cell 2 is empty when the release comes; speed 1000, and it meets refusal 10 in step 1 at cell 2
+  -- speed 500, and cell 2 is empty when the release comes; speed 1000, and refusal 10 comes in step 1 at cell 2
   pub slow : runningOf (hastened (two 1 244)) [] list .number ≡ 0
   pub fast : runningOf (hastened (two 3 232)) [] list .number ≡ 10
   pub step : runningOf (hastened (two 3 232)) [] list .step ≡ 1

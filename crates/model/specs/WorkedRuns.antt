@@ -19,7 +19,8 @@ use Rattle.model.specs.Stepping.{lowestOf, steppingOf, tableFault}
 use Rattle.model.specs.Running.{ended, endOf, openingOf, runningOf, stepsMade}
 use Rattle.model.specs.Judging.{outflowFaultAt, verdictOf, judgingOf}
 use Rattle.model.specs.History.{historyOf, queueAfter}
-use Rattle.model.specs.WorkedEdges.{past, road, start, row, built, works, releasedBy}
+use Rattle.model.specs.WorkedPrinted.{past, road, start, row, built, works}
+use Rattle.model.specs.WorkedEdges.{releasedBy}
 use Rattle.model.specs.WorkedRecord.{sample, header, upstream, downstream, row as bytes}
 use Rattle.model.specs.WorkedSchedule.{still}
 use Rattle.model.specs.WorkedRoads.{two, four, cell, hastened, list, header as raisedHeader, row as raisedRow}

@@ -7,7 +7,7 @@ use Rattle.model.specs.Flow.{thousandthsOf, demandOf, gateDemandOf, supp
 use Rattle.model.specs.Places.{capacityAt, demandAt, mostReleaseAt, shareAt, cumulativeAt}
 use Rattle.model.specs.Move.{movedTo, countedOf}
 use Rattle.model.specs.Schedules.{roadAt, outflowsOf, scheduleAfter, engineAfter}
-use Rattle.model.specs.Weights.{weightedOf, weightedTotal, weighingOf, weighedIn}
+use Rattle.model.specs.Weights.{weightedPresent, weightedTotal, weightedTotalOfRun, weightedTotalOfSchedule}
 use Rattle.model.specs.Record.{numberOf, secondsSize}
 use Rattle.model.specs.Limits.{placeOk, rowOk}
 use Rattle.model.specs.Reading.{readingBy, studyOf}
@@ -25,13 +25,13 @@ unweighed i = 0
 
 -- the engine has held more upstream, and weight 255 makes less of the smaller count downstream
 pub record Beaten : Type 0 where
-  pub engine : weighingOf rising unweighed sample [] still ≡ 4833200
-  pub schedule : weighedIn rising unweighed (studyOf sample []) still 3 ≡ 4719000
+  pub engine : weightedTotalOfRun rising unweighed sample [] still ≡ 4833200
+  pub schedule : weightedTotalOfSchedule rising unweighed (studyOf sample []) still 3 ≡ 4719000
 
 pub beaten : Beaten
 unfolding sample header upstream downstream row readingBy oneOf numberOf secondsSize
     thousandthsOf demandOf gateDemandOf supplyOf roomOf onwardOf enteringOf greatestOf outflowOf
     sumOf fillOf listOf firstFrom firstOf firstFault placeOk rowOk
     capacityAt demandAt mostReleaseAt shareAt cumulativeAt movedTo countedOf outflowsOf lowestOf
-    tableFault roadAt scheduleAfter engineAfter rowAt endOf openingOf runningOf weightedOf weightedTotal weighingOf
+    tableFault roadAt scheduleAfter engineAfter rowAt endOf openingOf runningOf weightedPresent weightedTotal weightedTotalOfRun
 beaten = record { engine = refl; schedule = refl }

@@ -65,7 +65,7 @@ writingBy a numbers room =
 unfoldable pub writingOf : Road → ℕ → Start → List ℕ → List ℕ → WriteAnswer
 writingOf road T start rows target = writingBy (given road T start rows) (length rows) (length target)
 
--- the target then: the record's bytes in front of what stood beyond them, or as lent after a refusal
+-- the target then: the record's bytes in front of what was beyond them, or unchanged after a refusal
 unfoldable pub targetAfter : Road → ℕ → Start → List ℕ → List ℕ → List ℕ
 targetAfter road T start rows target =
     cond (eqb (writingOf road T start rows target .number) 0)

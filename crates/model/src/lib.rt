@@ -4,7 +4,7 @@ ghost use Prim.Native.Nat.{_+_, min};
 ghost use Rattle.model.specs.Road.{mostLong, emptyRoad, emptyState, endedAt, withoutState, startState, startIn, totalOf};
 ghost use Rattle.model.specs.Refusals.{refusalNumber};
 
-// Cell i of docs/MODEL.md stands at i - 1 of each array; entries from n on belong to no cell.
+// Cell i of docs/MODEL.md is at i - 1 of each array; entries from n on belong to no cell.
 #[repr(C)]
 pub struct Road {
     pub n: usize,
@@ -193,6 +193,7 @@ pub enum Refusal {
     StreetInput,
     Peak,
     CallerLimits,
+    ManyLengths,
 }
 
 impl Refusal {
@@ -228,6 +229,7 @@ impl Refusal {
             Refusal::StreetInput => 24,
             Refusal::Peak => 25,
             Refusal::CallerLimits => 26,
+            Refusal::ManyLengths => 27,
         }
     }
 }
@@ -276,10 +278,11 @@ pub enum Wanted {
     Found,
 }
 
-// A refusal, or none, with its place: of a table of lanes, of a row of releases or of outflows, and of a release put into a record.
+// A refusal, or none, with its place: of a table of lanes, of a row of releases or of outflows, of a release put into a record, and of many
+// studies as a whole.
 pub struct Fault {
     pub refusal: Refusal,
-    // Of a release put into a record: of a refusal of reading its place; of 5 the cell asked, of 6 the step asked.
+    // Of a release put into a record: of a refusal of reading its place; of 5 the cell given, of 6 the step given.
     pub place: usize,
 }
 
@@ -354,6 +357,27 @@ pub struct Longest {
     pub gate: u32,
     pub waiting: u32,
     pub ramps: [u32; 64],
+}
+
+// What a run that goes on from a state answers: its answer with its longest queues, and its weighted total, both over the steps of its record.
+pub struct Tallied {
+    pub longest: Longest,
+    pub weighted: u64,
+}
+
+// What filling goes on from: a state, and of the step before it each release and what entered each cell from upstream.
+#[repr(C)]
+pub struct Progress {
+    pub state: State,
+    pub releases: [u32; 64],
+    pub entries: [u32; 64],
+}
+
+// What filling that goes on from a progress answers: its answer with its longest queues, and with its state what the next goes on from.
+pub struct FilledOn {
+    pub longest: Longest,
+    pub releases: [u32; 64],
+    pub entries: [u32; 64],
 }
 
 // The ALINEA feedback: a gain, and the count that the cell is to hold.

@@ -17,7 +17,7 @@ pub length-placed : (list : List ℕ) (at : ℕ) (text : List ℕ) → length (p
 unfolding placed
 length-placed list at text = length-sets list at text
 
--- where there is room, the text stands there, and all else is as it was
+-- where there is room, the text is there, and all else is as it was
 pub placed-there : (list : List ℕ) (at : ℕ) (text : List ℕ) → at + length text ≤ length list
     → placed list at text ≡ take at list ++ text ++ drop (at + length text) list
 unfolding placed
@@ -87,7 +87,7 @@ pub record Room (a : List ℕ) (at : ℕ) (b : List ℕ) (m k : ℕ) : Type 0 wh
 pub room : (a : List ℕ) (at : ℕ) (x b : List ℕ) (m k : ℕ) → Puts a at x b m → length x ≤ k → Room a at b m k
 room a at x b m k p h = record { end = omega (arith, p .0); same = ap length (p .1) ∙ length-placed a at x }
 
--- a text that was put, as a type from which laws infer the text and where it stands
+-- a text that was put, as a type from which laws infer the text and where it is
 pub data Text (a : List ℕ) (at : ℕ) (x b : List ℕ) (m : ℕ) : Type 0 where
   put : Puts a at x b m → Text a at x b m
 

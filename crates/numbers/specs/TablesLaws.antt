@@ -55,7 +55,7 @@ module _ (rows : ℕ → List ℕ) (w : ℕ) (same : (k : ℕ) → length (rows 
   pub concat-row : (k j : ℕ) → j < k → rowAt (concatOf rows k) w j ≡ rows j
   concat-row k j l = ap (λ (x : List ℕ). rowAt x w j) (sym (append-nil (concatOf rows k))) ∙ row-there k j [] l
 
-  -- and in front of a list: its length stays, row j is there, what stands beyond is kept
+  -- and in front of a list: its length stays, row j is there, what is beyond is kept
   module _ (list : List ℕ) (k : ℕ) where
     pub length-front : k * w ≤ length list → length (frontOf rows w list k) ≡ length list
     unfolding frontOf

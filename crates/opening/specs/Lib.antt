@@ -1,2 +1,3 @@
 pub mod RefusedCell
 pub mod OpeningEnds
+pub mod StartingEnds

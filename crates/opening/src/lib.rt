@@ -1,7 +1,9 @@
-// A table of lanes: refusals 17 and 18, and a record opened with it, for running, filling and judging.
+// A table of lanes: refusals 17 and 18, and a record opened with it, for running, filling and judging; and going on from a state, with 7 and 8.
 use model::Fault;
 use model::Reading;
 use model::Refusal;
+use model::Road;
+use model::State;
 ghost use mathlib.Core.Path.{_≡_};
 ghost use Prim.Native.Nat.{_≤_};
 ghost use Rattle.model.specs.Road.{mostCells, mostSteps};
@@ -9,6 +11,11 @@ ghost use Rattle.model.specs.Refusals.{refusalNumber, fault, faultAnswer};
 ghost use Rattle.model.specs.Stepping.{tableFault};
 ghost use Rattle.model.specs.Reading.{readAnswer};
 ghost use Rattle.model.specs.Running.{openingOf};
+ghost use mathlib.Core.Bool.{true};
+ghost use Prim.Native.Nat.{_+_};
+ghost use lib.Dec.{leb};
+ghost use Rattle.model.specs.Numbers.{unless};
+ghost use Rattle.theory.specs.Started.{startingOf};
 
 fn made(refusal: Refusal, place: usize) -> Fault
     ensures { λ q. ⌜ faultAnswer q ≡ fault (refusalNumber refusal) place ⌝ }
@@ -53,4 +60,42 @@ pub fn opened(bytes: &[u8], table: &[u8]) -> Reading
         return reading::refused(closed, q.place);
     }
     a
+}
+
+// 7 where a start breaks a limit, then 8 where more than 1,440 steps would be done, or none.
+pub fn start_refusal(within: bool, done: usize, steps: usize) -> Refusal
+    requires { ⌜ (within ≡ true → done ≤ mostSteps) × (steps ≤ mostSteps) ⌝ }
+    ensures { λ q. ⌜ refusalNumber q ≡ unless within 7 (unless (leb (done + steps) mostSteps) 8 0) ⌝ }
+{
+    if !within {
+        return Refusal::StepInput;
+    }
+    if Road::STEPS < done + steps {
+        return Refusal::StepsDone;
+    }
+    Refusal::None
+}
+
+// A record opened to go on from a state: its road and T, with that state, or a refusal: those of reading, 17, 18, 7, 8.
+pub fn started(bytes: &[u8], table: &[u8], from: State) -> Reading
+    ensures { λ a. ⌜ readAnswer a ≡ startingOf (now (bytes .entry)) (now (table .entry)) from ⌝ }
+{
+    let a = opened(bytes, table);
+    let refusal = a.refusal;
+    if refusal.number() != 0 {
+        return a;
+    }
+    let road = a.road;
+    let within = limits::state_within(road, from);
+    let begins = start_refusal(within, from.done, a.steps);
+    if begins.number() != 0 {
+        return reading::refused(begins, 0);
+    }
+    Reading {
+        refusal: Refusal::None,
+        place: 0,
+        steps: a.steps,
+        road: road,
+        state: from,
+    }
 }

@@ -39,7 +39,7 @@ pub record Adds (give wait : ℕ → ℕ) (n ramps : ℕ) (cell release waiting 
   pub rates : (i : ℕ) → i < n → give i ≤ mostRate
   pub queues : (i : ℕ) → i < n → wait i ≤ mostWaiting
 
--- what adding them asks
+-- what adding them requires
 pub record Addable (n ramps sum : ℕ) (cell release waiting held queue : List ℕ) : Type 0 where
   pub give : ℕ → ℕ
   pub wait : ℕ → ℕ

@@ -43,7 +43,7 @@ pub record NextAsks (q : Road) (s : State) (row : List ℕ) (ramps arrivals : �
   pub demands : (i : ℕ) → i < q .n → at demand i ≡ demandAt q s (suc i)
   pub gate : arrivals ≡ gateArrivals row
 
--- the demands ask nothing more, and are the model's
+-- the demands need nothing more, and are the model's
 pub demands-ask : {q : Road} {s : State} {row : List ℕ} → InputOk q s row → Demands (q .n) (q .speed) (s .held)
 demands-ask k = record {
   cells = k .road .cells;
@@ -261,7 +261,7 @@ module _ {q : Road} {s : State} {row : List ℕ} {ramps arrivals : ℕ} {cell re
         pub rests-long : q .n ≤ length rest₁
         rests-long = omega (arith, ap length (h .rests), length-fill (restAt c) (q .n) rest, k .longRest)
 
--- what a step asks: that it is ready on some road with the columns that are lent
+-- what a step requires: that it is ready on some road with the columns that are lent
 pub record NextLent (n gate : ℕ) (share : List ℕ) (s : State) (ramps arrivals : ℕ) (cell release waiting room rest demand y : List ℕ) : Type 0 where
   pub road : Road
   pub row : List ℕ

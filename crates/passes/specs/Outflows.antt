@@ -56,7 +56,7 @@ grownAt c i = at (c .cumulative) i + outAt c i
 abbrev pub restAt : Pass → ℕ → ℕ
 restAt c i = restOf (at (c .share) i) (grownAt c i)
 
--- what sending asks
+-- what sending requires
 pub record Sends (n : ℕ) (c : Pass) (rest : List ℕ) : Type 0 where
   pub cells : n ≤ mostCells
   pub longHeld : n ≤ length (c .held)

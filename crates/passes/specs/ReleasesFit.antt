@@ -21,7 +21,7 @@ use Rattle.passes.specs.Supplies.{NoRamp, supplyIn, supply-model, Suppli
 use Rattle.passes.specs.RampList.{Listed, listed-map}
 use Rattle.passes.specs.TakeReleases.{arriveIn, giveIn, lessAt, Fits, Takes, Taken, Took}
 
--- what the test asks: all within the limits, the bytes hold the row, and the cells with a ramp are listed
+-- what the test requires: all within the limits, the bytes hold the row, and the cells with a ramp are listed
 pub record Fittable (bytes : List ℕ) (start : ℕ) (q : Road) (s : State) (row : List ℕ) (ramps : ℕ) (cell room release waiting : List ℕ) : Type 0 where
   pub input : InputOk q s row
   pub sized : Sized q s

@@ -1,14 +1,25 @@
 -- What b × F leaves by 1,000, kept from step to step: outflow, entering and the next rest from it, in numbers below 2 ^ 32. Assumes nothing.
 use mathlib.Core.Path.{_≡_}
-use Prim.Native.Nat.{ℕ, zero, suc, _+_, _-_, _*_, _/_, _≤_, _<_, min}
+use mathlib.Core.List.{List}
+use Prim.Native.Nat.{ℕ, zero, suc, _+_, _-_, _*_, _/_, _%_, _^_, _≤_, _<_, min}
 use native.Mathlib.Nat.{mul-le-mul, mul-add, mul-suc, mul-comm, zero-mul, le-div-iff-mul-le, le-refl}
 use native.Mathlib.Omega.{arith}
+use Rattle.model.specs.Numbers.{at}
 use Rattle.model.specs.Flow.{whole, thousandthsOf, onwardOf, enteringOf, outflowOf}
 use Rattle.flow.specs.FlowLaws.{outflow-le, outflow-greatest, outflow-unique, outflow-whole, entering-mono, entering-whole, onward-entering, onward-whole}
 
 -- the rest of b × F by 1,000: what the onward total leaves of it
 unfoldable pub restOf : ℕ → ℕ → ℕ
 restOf b F = b * F - whole * onwardOf b F
+
+-- of columns
+abbrev pub restIn : List ℕ → List ℕ → ℕ → ℕ
+restIn share cumulative i = restOf (at share i) (at cumulative i)
+
+-- as the code finds it
+pub rest-found : (b F x : ℕ) → x ≡ b * F % whole → x ≡ restOf b F
+unfolding restOf onwardOf thousandthsOf
+rest-found b F x e = omega arith
 
 -- the rest is below 1,000, and with the onward total it is b × F
 pub rest-small : (b F : ℕ) → restOf b F ≤ 999
@@ -32,7 +43,7 @@ rest-is b F x k h e = (omega arith, omega arith)
 pub rest-after : (b F y : ℕ) → restOf b F + b * y ≡ whole * enteringOf b F y + restOf b (F + y)
 rest-after b F y = omega (arith, rest-onward b F, rest-onward b (F + y), onward-entering b F y, mul-add b F y)
 
--- so one division tells what enters
+-- so one division gives what enters
 pub entering-by-rest : (b F y : ℕ) → (restOf b F + b * y) / whole ≡ enteringOf b F y
 entering-by-rest b F y = omega (arith, rest-after b F y, rest-small b (F + y))
 
@@ -93,13 +104,13 @@ some-share zero r demand room h l = absurd (omega (arith, zero-mul demand))
 some-share (suc b) r demand room h l = omega arith
 
 -- and with the rest what it sends is the room, in thousandths, and less than a whole more
-pub record Filled (b r room y : ℕ) : Type 0 where
+pub record RoomFilled (b r room y : ℕ) : Type 0 where
   pub under : r + b * y ≤ whole * room + 999
   pub over : whole * room ≤ r + b * y
   pub small : room ≤ 1000000
 
 pub filled : {b r demand room y : ℕ} → b ≤ whole → demand ≤ 1000000 → r ≤ 999 → room < (r + b * demand) / whole
-    → y ≡ (whole * room + 999 - r) / b → Filled b r room y
+    → y ≡ (whole * room + 999 - r) / b → RoomFilled b r room y
 filled {b} {r} {demand} {room} {y} h d small l e =
     let some = some-share b r demand room small l in
     let top : ℕ = whole * room + 999 - r in
@@ -109,6 +120,6 @@ filled {b} {r} {demand} {room} {y} h d small l e =
     let comm = mul-comm y b in
     record { under = omega arith; over = omega arith; small = omega (arith, product-most b demand h d) }
 
--- before anything was sent nothing is left
-pub rest-start : (b F : ℕ) → F ≡ 0 → restOf b F ≡ 0
-rest-start b F e = let z : b * 0 ≡ 0 = omega arith in rw e (omega (arith, rest-onward b 0))
+-- a product of a share and an F is within 64 bits
+pub product-fits : (b F : ℕ) → b < 2 ^ 16 → F < 2 ^ 32 → b * F < 2 ^ 64
+product-fits b F h l = let p : b ≤ 65535 = omega arith in let q : F ≤ 4294967295 = omega arith in omega (arith, mul-le-mul p q)

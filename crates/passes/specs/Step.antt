@@ -38,7 +38,7 @@ pub record Arrays (r : Road) (ramps : ℕ) (cell cumulative rest room release wa
   pub longWaiting : r .n ≤ length waiting
   pub longDemand : r .n ≤ length demand
 
--- what a step asks: all within the limits, a step left, the row in the bytes, the arrays, and room for the row of outflows
+-- what a step requires: all within the limits, a step left, the row in the bytes, the arrays, and room for the row of outflows
 pub record StepAsks (bytes : List ℕ) (k : ℕ) (q : Road) (s : State) (ramps : ℕ) (cell rest room release waiting demand y : List ℕ) : Type 0 where
   pub input : InputOk q s (recordRow bytes (q .n) k)
   pub sized : Sized q s
@@ -62,7 +62,7 @@ pub record StepGives (bytes : List ℕ) (k : ℕ) (q : Road) (s : State) (ramps 
   pub outflows : f .number ≡ 0 → y ≡ outflowsOf q s (recordRow bytes (q .n) k)
   pub arrays : f .number ≡ 0 → Arrays q ramps cell (t .cumulative) rest room release waiting demand
 
--- a row's numbers where they stand in the bytes
+-- a row's numbers where they are in the bytes
 module _ (bytes : List ℕ) (n k start : ℕ) (e : start ≡ rowStart (versionOf bytes) n k) where
   pub gate-row : numberOf bytes start 4 ≡ gateArrivals (recordRow bytes n k)
   gate-row =
@@ -85,7 +85,7 @@ module _ {bytes : List ℕ} {k : ℕ} {q : Road} {s : State} {ramps : ℕ} {cell
   abbrev row : List ℕ
   row = recordRow bytes (q .n) k
 
-  -- the test of the releases asks nothing more
+  -- the test of the releases needs nothing more
   pub fittable : {start : ℕ} → start ≡ rowStart (versionOf bytes) (q .n) k → Fittable bytes start q s row ramps cell room₀ release₀ waiting₀
   fittable {start} e = record {
     input = h .input;

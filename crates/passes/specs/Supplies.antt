@@ -29,7 +29,7 @@ pub demand-model : (r : Road) (s : State) (i : ℕ) → demandIn (r .speed) (r .
 unfolding demandIn demandAt capacityAt
 demand-model r s i = refl
 
--- what their products ask of the first `count` entries
+-- what their products require of the first `count` entries
 pub record Supplies (count : ℕ) (wave jam held : List ℕ) : Type 0 where
   pub cells : count ≤ mostCells
   pub waves : (i : ℕ) → i < count → at wave i ≤ whole
@@ -83,6 +83,6 @@ pub demand-product : {count : ℕ} {speed held : List ℕ} → Demands count spe
     → at speed i * at held i ≤ 1000000000
 demand-product {speed = speed} {held} k i l = product-most (at speed i) (at held i) (k .speeds i l) (k .helds i l)
 
--- no ramp stands at the cell at i
+-- the cell at i has no ramp
 abbrev pub NoRamp : List ℕ → ℕ → Type 0
 NoRamp ramp i = at ramp i ≡ 1 → ⊥

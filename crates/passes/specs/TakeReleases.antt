@@ -27,7 +27,7 @@ pub record Fits (bytes : List ℕ) (start : ℕ) (queue room : List ℕ) (i : �
   pub ramp : giveIn bytes start i ≤ at queue i + arriveIn bytes start i
   pub supply : giveIn bytes start i ≤ at room i
 
--- what taking them asks
+-- what taking them requires
 pub record Takes (bytes : List ℕ) (start n ramps : ℕ) (cell queue room₀ release₀ waiting₀ : List ℕ) : Type 0 where
   pub cells : n ≤ mostCells
   pub row : start + rowSize n ≤ length bytes

@@ -6,6 +6,7 @@ pub use at_ramps::ramp_cells;
 use model::Fault;
 use model::Refusal;
 use outflows::Ledger;
+pub use sending::remainders;
 ghost use mathlib.Core.Path.{_≡_};
 ghost use mathlib.Core.List.{List};
 ghost use Prim.Native.Nat.{ℕ, min};

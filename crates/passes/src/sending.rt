@@ -3,8 +3,9 @@ ghost use mathlib.Core.Path.{_≡_};
 ghost use Prim.Native.Nat.{ℕ, _+_, _≤_};
 ghost use lib.ListN.{length};
 ghost use Rattle.model.specs.Flow.{whole};
-ghost use Rattle.model.specs.Road.{mostRate};
-ghost use Rattle.passes.specs.Rest.{restOf, Sent};
+ghost use Rattle.model.specs.Road.{mostRate, mostCells};
+ghost use Rattle.model.specs.Numbers.{fillOf};
+ghost use Rattle.passes.specs.Rest.{restOf, restIn, Sent};
 ghost use Rattle.passes.specs.Outflows.{passOf, Sends, SentTo};
 
 // What a place sends in a step: its outflow, what of it enters the next cell, and then the remainder of b x F by 1,000.
@@ -12,6 +13,26 @@ struct Flow {
     outflow: u32,
     entering: u32,
     rest: u32,
+}
+
+// The remainder of b x F by 1,000.
+fn remainder(share: u16, cumulative: u32) -> u32
+    ensures { λ x. ⌜ x ≡ restOf share cumulative ⌝ }
+{
+    let product = share as u64 * cumulative as u64;
+    (product % 1000) as u32
+}
+
+// The remainders of b x F by 1,000 of the first n cells, with which a run begins.
+pub fn remainders(n: usize, share: &[u16; 64], cumulative: &[u32; 64], rest: &mut [u32; 64])
+    requires { ⌜ n ≤ mostCells ⌝ }
+    ensures { λ _. ⌜ now (rest .exit) ≡ fillOf (restIn (now (share .entry)) (now (cumulative .entry))) n (now (rest .entry)) ⌝ }
+{
+    let mut i = 0;
+    while i < n {
+        rest[i] = remainder(share[i], cumulative[i]);
+        i += 1;
+    }
 }
 
 // What a place sends, from the remainder of b x F by 1,000, its demand and the room of the next cell. Where the demand does not fit, exactly the

@@ -1,4 +1,4 @@
--- What printing asks, and what its loop over the steps knows. Assumes nothing.
+-- What printing requires, and what its loop over the steps knows. Assumes nothing.
 use mathlib.Core.Path.{_≡_, refl, sym, ap, subst, _∙_}
 use mathlib.Core.Bool.{Bool, true, false, cond}
 use mathlib.Core.List.{List, [], _∷_, _++_, append-nil}
@@ -29,7 +29,7 @@ use Rattle.model.specs.Listing.{mostOutflows, mostLine, mostLast, mostTime, hea
 use Rattle.model.specs.Listing.{printedRun, printedWithin, mostText, Printed}
 use Rattle.model.specs.Running.{EndAnswer, ended, runEnd}
 use Rattle.theory.specs.Readable.{Readable}
-use Rattle.running.specs.Steps.{Ran, RanTurn, ran-reached, ran-none, ran-more, row-is, ends-ran, all-ran}
+use Rattle.running.specs.Steps.{FaultlessSteps, RanTurn, ran-reached, ran-none, ran-more, row-is, ends-ran, all-ran}
 use Rattle.model.specs.Numbers.{placed}
 use Rattle.numbers.specs.PlacedText.{Puts, placed-none, puts-first, puts-more, Room, room}
 use Rattle.listing.specs.ListingLaws.{header-room, lines-room, total-length, total-room, seconds-length, refused-room}
@@ -131,21 +131,22 @@ module _ {bytes : List ℕ} {k : ℕ} {q : Road} {u : State} {ramps : ℕ} {cell
     arrays = h .arrays;
   }
 
--- when k steps are made: their lines stand in the buffer after the header, which ends at `start`
-pub record Lined (a : Study) (before : List ℕ) (start : ℕ) (buffer : List ℕ) (u : State) (end k : ℕ) : Type 0 where
-  pub ran : Ran a u k
+-- when k steps are made: their lines are in the buffer after the header, which ends at `start`
+pub record LinesInBuffer (a : Study) (before : List ℕ) (start : ℕ) (buffer : List ℕ) (u : State) (end k : ℕ) : Type 0 where
+  pub ran : FaultlessSteps a u k
   pub top : start ≤ mostLine
   pub enough : mostText ≤ length before
   pub puts : Puts before start (stepsLines a k) buffer end
   pub room : Room before start buffer end (mostLine * (k * places a))
 
 -- the same of a buffer that was written with what it had
-pub lined-same : {a : Study} {before : List ℕ} {start : ℕ} {buffer other : List ℕ} {u : State} {end k : ℕ} → other ≡ buffer → Lined a before start buffer u end k
-    → Lined a before start other u end k
-lined-same {a} {before} {start} {u = u} {end} {k} e h = subst (λ (b : List ℕ). Lined a before start b u end k) (sym e) h
+pub lined-same : {a : Study} {before : List ℕ} {start : ℕ} {buffer other : List ℕ} {u : State} {end k : ℕ} → other ≡ buffer
+    → LinesInBuffer a before start buffer u end k
+    → LinesInBuffer a before start other u end k
+lined-same {a} {before} {start} {u = u} {end} {k} e h = subst (λ (b : List ℕ). LinesInBuffer a before start b u end k) (sym e) h
 
 module _ {a : Study} {before : List ℕ} {start : ℕ} where
-  pub lined-none : start ≤ mostLine → mostText ≤ length before → Lined a before start before (a .start) start 0
+  pub lined-none : start ≤ mostLine → mostText ≤ length before → LinesInBuffer a before start before (a .start) start 0
   unfolding stepsLines
   lined-none t e = record {
     ran = ran-none;
@@ -155,7 +156,7 @@ module _ {a : Study} {before : List ℕ} {start : ℕ} where
     room = record { end = omega arith; same = refl };
   }
 
-  module _ {buffer : List ℕ} {u : State} {end k : ℕ} (h : Lined a before start buffer u end k) where
+  module _ {buffer : List ℕ} {u : State} {end k : ℕ} (h : LinesInBuffer a before start buffer u end k) where
     -- room is left for the lines of the next step, and for a refusal's line
     pub lines-fit : tableSize a ≤ mostOutflows → k < a .steps → end + mostLine * places a ≤ length buffer
     lines-fit m l = omega (arith, h .room .end, h .room .same, h .top, h .enough, row-ends k (a .steps) (places a) l)
@@ -179,7 +180,7 @@ module _ {a : Study} {before : List ℕ} {start : ℕ} where
     module _ {q : Road} {row : List ℕ} (t : RanTurn a u k q row) {f : FaultAnswer} (e : f ≡ releasesOf q u row) (z : f .number ≡ 0) where
       -- one step more is made and put
       pub lined-more : {v : State} {y c : List ℕ} {m : ℕ} → v ≡ nextOf q u row (outflowsOf q u row) → y ≡ outflowsOf q u row
-          → Puts buffer end (linesOf k y v (a .road .n)) c m → Lined a before start c v m (k + 1)
+          → Puts buffer end (linesOf k y v (a .road .n)) c m → LinesInBuffer a before start c v m (k + 1)
       unfolding stepsLines
       lined-more {v} {y} {c} {m} ev ey p =
           let w = ran-more t e z ev in
@@ -219,7 +220,7 @@ printed before text after end k p z l m = record {
 
 -- after the header, which ends at `start`, and the lines of k steps
 module _ {a : Study} {before start-buffer : List ℕ} {start : ℕ} {buffer : List ℕ} {u : State} {end k : ℕ} (p : Puts before 0 headerLine start-buffer start)
-    (h : Lined a start-buffer start buffer u end k) (most : tableSize a ≤ mostOutflows) where
+    (h : LinesInBuffer a start-buffer start buffer u end k) (most : tableSize a ≤ mostOutflows) where
   -- a refusal's line, in the place of what was put before
   pub holds-fault : k < a .steps → {e : EndAnswer} {after : List ℕ} {m : ℕ} → e ≡ runEnd a → (e .number ≡ 0 → ⊥)
       → Puts buffer 0 (refusedLine (e .number) (e .step) (e .place)) after m → Printed before (printedRun a) after m

@@ -145,6 +145,7 @@ fn run_lines(bytes: &[u8], r: Road, s: State, steps: usize, buffer: &mut [u8]) -
     let mut cumulative = s.cumulative;
     let mut l = Ledger::of(s);
     let mut rest = [0u32; 64];
+    passes::remainders(n, &r.share, &cumulative, &mut rest);
     let mut room = [0u32; 65];
     let mut release = [0u32; 64];
     let mut waiting = [0u32; 64];

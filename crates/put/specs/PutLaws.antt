@@ -12,9 +12,9 @@ use Rattle.numbers.specs.Tests.{never, and-true, both-true, le-head}
 use Rattle.model.specs.Road.{mostRate}
 use Rattle.model.specs.Refusals.{FaultAnswer, fault}
 use Rattle.model.specs.Reading.{ReadAnswer, readingOf}
-use Rattle.model.specs.Put.{rampOk, ratesOk, releasedAt, puttingOf, releasedRecord, Ramp}
+use Rattle.model.specs.Put.{rampOk, stepAndRateOk, releasedAt, puttingOf, releasedRecord, Ramp}
 
--- what putting a release there asks: the bytes hold the row, and the cell is on the road
+-- what putting a release there requires: the bytes hold the row, and the cell is on the road
 pub record Place (bytes : List ℕ) (n step cell : ℕ) : Type 0 where
   pub row : HoldsRow bytes n step
   pub within : cell ≤ n
@@ -53,12 +53,12 @@ at-cell ramp n (suc i) l m =
     rw (le-leb (suc i) n m, e)
 
 -- the row's number, as the code has it
-pub rates-facts : (step T release : ℕ) → ratesOk step T release ≡ true → (step < T) × (release ≤ mostRate)
+pub rates-facts : (step T release : ℕ) → stepAndRateOk step T release ≡ true → (step < T) × (release ≤ mostRate)
 rates-facts step T release h =
     let a = and-true (ltb step T) (leb release mostRate) h in
     (ltb-true step T (a .0), leb-true release mostRate (a .1))
 
-pub facts-rates : (step T release : ℕ) → step < T → release ≤ mostRate → ratesOk step T release ≡ true
+pub facts-rates : (step T release : ℕ) → step < T → release ≤ mostRate → stepAndRateOk step T release ≡ true
 facts-rates step T release l m = both-true (ltb step T) (leb release mostRate) (lt-ltb step T l) (le-leb release mostRate m)
 
 -- what putting answers, and what it leaves of the record
@@ -83,11 +83,11 @@ module _ (bytes : List ℕ) (step cell release : ℕ) {x : ReadAnswer} (e : x �
     ends-ramp f = left-refused bytes step cell release (fault 5 cell) (λ k. omega arith) (rw (← e, eq-eqb (x .number) 0 z, f) refl)
 
     module _ (r : rampOk (x .road .ramp) (x .road .n) cell ≡ true) where
-      pub ends-rates : ratesOk step (x .steps) release ≡ false → Left bytes step cell release (fault 6 step) bytes
+      pub ends-rates : stepAndRateOk step (x .steps) release ≡ false → Left bytes step cell release (fault 6 step) bytes
       unfolding puttingOf
       ends-rates f = left-refused bytes step cell release (fault 6 step) (λ k. omega arith) (rw (← e, eq-eqb (x .number) 0 z, r, f) refl)
 
-      pub ends-put : ratesOk step (x .steps) release ≡ true
+      pub ends-put : stepAndRateOk step (x .steps) release ≡ true
           → Left bytes step cell release (fault 0 0) (releasedAt bytes (x .road .n) step cell release)
       unfolding puttingOf releasedRecord
       ends-put f = record { says = rw (← e, eq-eqb (x .number) 0 z, r, f); leaves = rw (← e, eq-eqb (x .number) 0 z, r, f) }

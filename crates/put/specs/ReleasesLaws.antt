@@ -1,4 +1,4 @@
--- Laws of releases put into a record: what is put stands there, and nothing else changes. Assumes nothing.
+-- Laws of releases put into a record: what is put is there, and nothing else changes. Assumes nothing.
 use mathlib.Core.Path.{_≡_, refl, sym, ap, _∙_}
 use mathlib.Core.Logic.{_⊎_, ⊎-elim, inl, inr}
 use mathlib.Core.List.{List, [], _∷_}

@@ -1,23 +1,45 @@
--- Theorem: a record that differs from one that reads in its rows alone, and whose rows are within the limits, reads the same. Assumes nothing.
+-- Theorems: a record that differs from another in its rows alone reads the same where its rows pass and fail alike, and where the other reads and
+-- its own rows are within the limits. Assumes nothing.
 use mathlib.Core.Path.{_≡_, sym, ap, _∙_}
-use mathlib.Core.Bool.{true}
+use mathlib.Core.Bool.{true, _&&_}
 use mathlib.Core.List.{List}
-use Prim.Native.Nat.{ℕ, _+_, _*_, _≤_, _<_}
+use Prim.Native.Nat.{ℕ, _+_, _-_, _*_, _≤_, _<_}
 use native.Mathlib.Omega.{arith}
+use lib.Dec.{leb, eqb}
 use lib.ListN.{length}
-use Rattle.model.specs.Numbers.{at}
+use Rattle.model.specs.Numbers.{at, oneOf, unless, unlessFirst, firstOf}
+use Rattle.numbers.specs.FirstLaws.{first-same}
 use Rattle.numbers.specs.RowsLaws.{fill-same}
 use Rattle.model.specs.declared.Road.{Road}
-use Rattle.model.specs.Road.{zeros}
+use Rattle.model.specs.declared.State.{State}
+use Rattle.model.specs.Road.{zeros, mostCells, mostBytes}
 use Rattle.model.specs.Record.{countSize, shortSize, numberSize, cellSize, versionOffset, versionOf, cellsOffset, stepsOffset, secondsOffset, secondsSize, secondsOf}
 use Rattle.model.specs.Record.{gateCapacityOffset, gateQueueOffset, speedOffset, waveOffset, shareOffset, rampOffset, jamOffset, capacityOffset, heldOffset, queueOffset}
 use Rattle.model.specs.Record.{rowStart, numberOf, fieldOf, columnOf, recordRow}
 use Rattle.fields.specs.BytesLaws.{number-same}
-use Rattle.model.specs.Limits.{rowOk}
+use Rattle.model.specs.Limits.{placeOk, rowOk}
 use Rattle.limits.specs.LimitsLaws.{place-ok}
-use Rattle.model.specs.Reading.{cellsOf, stepsOf, ReadAnswer, roadOf, startOf, stepOk, acceptedOf, readingOf}
+use Rattle.model.specs.Reading.{cellsOf, stepsOf, sizeOf, bothVersions, leastSize, cellsAndStepsOk, secondsOk, callerOk, ReadAnswer, roadOf, startOf, stepOk, refusedOf}
+use Rattle.model.specs.Reading.{acceptedOf, readingBy, readingOf}
 use Rattle.reading.specs.Headers.{Header}
 use Rattle.reading.specs.Cases.{Accepted, Found, read-found, early-refused, reads}
+
+-- the first row that is not within the limits
+abbrev rowsFirst : List ℕ → ℕ
+rowsFirst s = firstOf (stepOk s (roadOf s)) (stepsOf s)
+
+-- what reading answers, by a record's length, its header, its road and start, and that row
+abbrev answerBy : ℕ → ℕ → ℕ → ℕ → ℕ → ℕ → Road → State → ℕ → ReadAnswer
+answerBy size count version n T seconds r q first =
+    unless (leb (leastSize bothVersions version) size && (leb size mostBytes && eqb count (size - countSize))) (refusedOf 1 0)
+    (unless (oneOf bothVersions version) (refusedOf 2 0)
+    (unless (cellsAndStepsOk n T) (refusedOf 3 0)
+    (unless (secondsOk version seconds) (refusedOf 19 0)
+    (unless (eqb size (sizeOf version n T)) (refusedOf 4 0)
+    (unless (callerOk mostCells mostBytes n size) (refusedOf 26 0)
+    (unlessFirst (placeOk r q) (n + 1) (refusedOf 5)
+    (unless (eqb first T) (refusedOf 6 first)
+    (acceptedOf T r q))))))))
 
 -- the bytes before the rows are the same
 module _ (s u : List ℕ) (head : (b : ℕ) → b < rowStart (versionOf s) (cellsOf s) 0 → at u b ≡ at s b) where
@@ -72,6 +94,34 @@ module _ (s u : List ℕ) (head : (b : ℕ) → b < rowStart (versionOf s) (cell
     seconds = rw (seconds, version) (h .seconds);
     size = rw (size, version) (h .size);
   }
+
+  -- what reading goes by, beside the rows
+  steps : stepsOf u ≡ stepsOf s
+  steps = number stepsOffset shortSize (omega arith)
+
+  count : numberOf u 0 countSize ≡ numberOf s 0 countSize
+  count = number 0 countSize (omega arith)
+
+  rows-first : ((t : ℕ) → t < stepsOf s → stepOk u (roadOf s) t ≡ stepOk s (roadOf s) t)
+      → firstOf (stepOk u (roadOf u)) (stepsOf u) ≡ firstOf (stepOk s (roadOf s)) (stepsOf s)
+  rows-first h =
+      ap (λ (r : Road). firstOf (stepOk u r) (stepsOf u)) road-same
+      ∙ ap (firstOf (stepOk u (roadOf s))) steps
+      ∙ first-same (stepOk u (roadOf s)) (stepOk s (roadOf s)) (stepsOf s) h
+
+  -- rows that pass and fail alike leave the answer as it was, a refusal too
+  pub reading-alike : length u ≡ length s → ((t : ℕ) → t < stepsOf s → stepOk u (roadOf s) t ≡ stepOk s (roadOf s) t) → readingOf u ≡ readingOf s
+  unfolding readingBy
+  reading-alike size h =
+      ap (λ (x : ℕ). answerBy x (numberOf u 0 countSize) (versionOf u) (cellsOf u) (stepsOf u) (secondsOf u) (roadOf u) (startOf u) (rowsFirst u)) size
+      ∙ ap (λ (x : ℕ). answerBy (length s) x (versionOf u) (cellsOf u) (stepsOf u) (secondsOf u) (roadOf u) (startOf u) (rowsFirst u)) count
+      ∙ ap (λ (x : ℕ). answerBy (length s) (numberOf s 0 countSize) x (cellsOf u) (stepsOf u) (secondsOf u) (roadOf u) (startOf u) (rowsFirst u)) version
+      ∙ ap (λ (x : ℕ). answerBy (length s) (numberOf s 0 countSize) (versionOf s) x (stepsOf u) (secondsOf u) (roadOf u) (startOf u) (rowsFirst u)) cells
+      ∙ ap (λ (x : ℕ). answerBy (length s) (numberOf s 0 countSize) (versionOf s) (cellsOf s) x (secondsOf u) (roadOf u) (startOf u) (rowsFirst u)) steps
+      ∙ ap (λ (x : ℕ). answerBy (length s) (numberOf s 0 countSize) (versionOf s) (cellsOf s) (stepsOf s) x (roadOf u) (startOf u) (rowsFirst u)) seconds
+      ∙ ap (λ (x : Road). answerBy (length s) (numberOf s 0 countSize) (versionOf s) (cellsOf s) (stepsOf s) (secondsOf s) x (startOf u) (rowsFirst u)) road-same
+      ∙ ap (λ (x : State). answerBy (length s) (numberOf s 0 countSize) (versionOf s) (cellsOf s) (stepsOf s) (secondsOf s) (roadOf s) x (rowsFirst u)) start-same
+      ∙ ap (answerBy (length s) (numberOf s 0 countSize) (versionOf s) (cellsOf s) (stepsOf s) (secondsOf s) (roadOf s) (startOf s)) (rows-first h)
 
   reading-same : Accepted s (stepsOf s) (roadOf s) (startOf s) → length u ≡ length s → ((t : ℕ) → t < stepsOf s → stepOk u (roadOf s) t ≡ true)
       → readingOf u ≡ acceptedOf (stepsOf s) (roadOf s) (startOf s)

@@ -1,4 +1,4 @@
--- The theorems of putting a release: exactly that number changes, all else of the record and of its reading stands; each refusal comes exactly where
+-- The theorems of putting a release: exactly that number changes, all else of the record and of its reading stays; each refusal comes exactly where
 -- it should, and leaves the record as it was. Assumes nothing.
 use mathlib.Core.Path.{_≡_, refl, sym, ap, _∙_}
 use mathlib.Core.Logic.{_⊎_, ⊎-elim, inl}
@@ -21,7 +21,7 @@ use Rattle.model.specs.Reading.{readingOf}
 use Rattle.reading.specs.Cases.{Accepted}
 use Rattle.reading.specs.Within.{read-within, read-row}
 use Rattle.put.specs.Bytes.{compare}
-use Rattle.model.specs.Put.{Put, rampOk, ratesOk, releasedAt, puttingOf, releasedRecord, Ramp, Asked, Stands, Ends}
+use Rattle.model.specs.Put.{Put, rampOk, stepAndRateOk, releasedAt, puttingOf, releasedRecord, Ramp, PutRequest, Stands, PutEnds}
 use Rattle.put.specs.ReleasesLaws.{put-entry}
 use Rattle.put.specs.SameReading.{rows-replaced}
 use Rattle.put.specs.PutLaws.{ramp-facts, facts-ramp, rates-facts, facts-rates, Left}
@@ -54,7 +54,7 @@ module _ (r : Road) (row : List ℕ) (h : RowOk r row) (cell x : ℕ) (ramp : Ra
     noRelease = λ i m z. release i m .1 z;
   }
 
-module _ (bytes : List ℕ) (step cell release : ℕ) (asked : Asked bytes step cell release) where
+module _ (bytes : List ℕ) (step cell release : ℕ) (asked : PutRequest bytes step cell release) where
   abbrev n : ℕ
   n = readingOf bytes .road .n
 
@@ -97,55 +97,55 @@ module _ (bytes : List ℕ) (step cell release : ℕ) where
 
   -- an answer, with the record that it leaves
   abbrev End : FaultAnswer → Type 0
-  End x = Ends bytes step cell release x (unless (eqb (x .number) 0) bytes (releasedAt bytes (r .n) step cell release))
+  End x = PutEnds bytes step cell release x (unless (eqb (x .number) 0) bytes (releasedAt bytes (r .n) step cell release))
 
-  pub ends : Ends bytes step cell release (puttingOf bytes step cell release) (releasedRecord bytes step cell release)
+  pub ends : PutEnds bytes step cell release (puttingOf bytes step cell release) (releasedRecord bytes step cell release)
   unfolding puttingOf releasedRecord
   ends =
-      unless-elim End (eqb (readingOf bytes .number) 0) (λ e. rw e (Ends.unread (eqb-false (readingOf bytes .number) 0 e))) (λ e.
+      unless-elim End (eqb (readingOf bytes .number) 0) (λ e. rw e (PutEnds.unread (eqb-false (readingOf bytes .number) 0 e))) (λ e.
       let reads = eqb-true (readingOf bytes .number) 0 e in
-      unless-elim End (rampOk (r .ramp) (r .n) cell) (λ f. Ends.noRamp reads (λ h. never (facts-ramp (r .ramp) (r .n) cell h) f)) (λ f.
+      unless-elim End (rampOk (r .ramp) (r .n) cell) (λ f. PutEnds.noRamp reads (λ h. never (facts-ramp (r .ramp) (r .n) cell h) f)) (λ f.
       let ramp = ramp-facts (r .ramp) (r .n) cell f in
-      unless-elim End (ratesOk step T release) (λ g. Ends.noRate reads ramp (λ l m. never (facts-rates step T release l m) g)) (λ g.
+      unless-elim End (stepAndRateOk step T release) (λ g. PutEnds.noRate reads ramp (λ l m. never (facts-rates step T release l m) g)) (λ g.
       let rates = rates-facts step T release g in
-      let asked : Asked bytes step cell release = record { reads = reads; ramp = ramp; before = rates .0; rate = rates .1 } in
-      Ends.put asked (stands bytes step cell release asked))))
+      let asked : PutRequest bytes step cell release = record { reads = reads; ramp = ramp; before = rates .0; rate = rates .1 } in
+      PutEnds.put asked (stands bytes step cell release asked))))
 
 -- an answer and a record that are those of the definitions are one of them; so a contract may promise all three
 pub ended : (bytes : List ℕ) (step cell release : ℕ) {a : FaultAnswer} {left : List ℕ} → Left bytes step cell release a left
-    → (a ≡ puttingOf bytes step cell release) × ((left ≡ releasedRecord bytes step cell release) × Ends bytes step cell release a left)
+    → (a ≡ puttingOf bytes step cell release) × ((left ≡ releasedRecord bytes step cell release) × PutEnds bytes step cell release a left)
 ended bytes step cell release h = (h .says, (h .leaves, rw (h .says, h .leaves) (ends bytes step cell release)))
 
--- 2: with no refusal the release stands there and nothing else is changed
-put-stands : {bytes : List ℕ} {step cell release : ℕ} {a : FaultAnswer} {after : List ℕ} → Ends bytes step cell release a after → a .number ≡ 0
-    → Asked bytes step cell release × Stands bytes after step cell release
-put-stands (Ends.unread h) e = absurd (h e)
-put-stands (Ends.noRamp q h) e = absurd (omega arith)
-put-stands (Ends.noRate q p h) e = absurd (omega arith)
-put-stands (Ends.put asked s) e = (asked, s)
+-- 2: with no refusal the release is there and nothing else is changed
+put-stands : {bytes : List ℕ} {step cell release : ℕ} {a : FaultAnswer} {after : List ℕ} → PutEnds bytes step cell release a after → a .number ≡ 0
+    → PutRequest bytes step cell release × Stands bytes after step cell release
+put-stands (PutEnds.unread h) e = absurd (h e)
+put-stands (PutEnds.noRamp q h) e = absurd (omega arith)
+put-stands (PutEnds.noRate q p h) e = absurd (omega arith)
+put-stands (PutEnds.put asked s) e = (asked, s)
 
 pub puts : (bytes : List ℕ) (step cell release : ℕ) → puttingOf bytes step cell release .number ≡ 0
-    → Asked bytes step cell release × Stands bytes (releasedRecord bytes step cell release) step cell release
+    → PutRequest bytes step cell release × Stands bytes (releasedRecord bytes step cell release) step cell release
 puts bytes step cell release = put-stands (ends bytes step cell release)
 
--- and there is none exactly where all that it asks holds
-asked-put : {bytes : List ℕ} {step cell release : ℕ} {a : FaultAnswer} {after : List ℕ} → Ends bytes step cell release a after → Asked bytes step cell release
+-- and there is none exactly where all of this holds
+asked-put : {bytes : List ℕ} {step cell release : ℕ} {a : FaultAnswer} {after : List ℕ} → PutEnds bytes step cell release a after → PutRequest bytes step cell release
     → a ≡ fault 0 0
-asked-put (Ends.unread h) q = absurd (h (q .reads))
-asked-put (Ends.noRamp z h) q = absurd (h (q .ramp))
-asked-put (Ends.noRate z p h) q = absurd (h (q .before) (q .rate))
-asked-put (Ends.put asked s) q = refl
+asked-put (PutEnds.unread h) q = absurd (h (q .reads))
+asked-put (PutEnds.noRamp z h) q = absurd (h (q .ramp))
+asked-put (PutEnds.noRate z p h) q = absurd (h (q .before) (q .rate))
+asked-put (PutEnds.put asked s) q = refl
 
-pub put-if : (bytes : List ℕ) (step cell release : ℕ) → Asked bytes step cell release → puttingOf bytes step cell release ≡ fault 0 0
+pub put-if : (bytes : List ℕ) (step cell release : ℕ) → PutRequest bytes step cell release → puttingOf bytes step cell release ≡ fault 0 0
 put-if bytes step cell release = asked-put (ends bytes step cell release)
 
 -- 3: a refusal leaves the record unchanged
-refused-left : {bytes : List ℕ} {step cell release : ℕ} {a : FaultAnswer} {after : List ℕ} → Ends bytes step cell release a after → (a .number ≡ 0 → ⊥)
+refused-left : {bytes : List ℕ} {step cell release : ℕ} {a : FaultAnswer} {after : List ℕ} → PutEnds bytes step cell release a after → (a .number ≡ 0 → ⊥)
     → after ≡ bytes
-refused-left (Ends.unread h) n = refl
-refused-left (Ends.noRamp q h) n = refl
-refused-left (Ends.noRate q p h) n = refl
-refused-left (Ends.put asked s) n = absurd (n refl)
+refused-left (PutEnds.unread h) n = refl
+refused-left (PutEnds.noRamp q h) n = refl
+refused-left (PutEnds.noRate q p h) n = refl
+refused-left (PutEnds.put asked s) n = absurd (n refl)
 
 pub refused-unchanged : (bytes : List ℕ) (step cell release : ℕ) → (puttingOf bytes step cell release .number ≡ 0 → ⊥)
     → releasedRecord bytes step cell release ≡ bytes

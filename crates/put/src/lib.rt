@@ -7,7 +7,7 @@ ghost use Prim.Native.Nat.{_≤_};
 ghost use Rattle.model.specs.Road.{mostCells};
 ghost use Rattle.model.specs.Refusals.{faultAnswer};
 ghost use Rattle.put.specs.PutLaws.{Place};
-ghost use Rattle.model.specs.Put.{rampOk, ratesOk, puttingOf, releasedAt, releasedRecord, Ends};
+ghost use Rattle.model.specs.Put.{rampOk, stepAndRateOk, puttingOf, releasedAt, releasedRecord, PutEnds};
 
 // Whether a cell is on a road of n cells and has a ramp.
 fn has_ramp(ramp: [u16; 64], n: usize, cell: usize) -> bool
@@ -25,7 +25,7 @@ fn has_ramp(ramp: [u16; 64], n: usize, cell: usize) -> bool
 
 // Whether a step is one of a record's and a release may be one.
 fn rates_within(step: usize, steps: usize, release: u32) -> bool
-    ensures { λ r. ⌜ r ≡ ratesOk step steps release ⌝ }
+    ensures { λ r. ⌜ r ≡ stepAndRateOk step steps release ⌝ }
 {
     (step < steps) & (release <= Road::RATE)
 }
@@ -43,7 +43,7 @@ fn put_release(bytes: &mut [u8], n: usize, step: usize, cell: usize, release: u3
 pub fn put(bytes: &mut [u8], step: usize, cell: usize, release: u32) -> Fault
     ensures answer { λ r. ⌜ faultAnswer r ≡ puttingOf (now (bytes .entry)) step cell release ⌝ }
     ensures bytes { λ r. ⌜ now (bytes .exit) ≡ releasedRecord (now (bytes .entry)) step cell release ⌝ }
-    ensures ends { λ r. ⌜ Ends (now (bytes .entry)) step cell release (faultAnswer r) (now (bytes .exit)) ⌝ }
+    ensures ends { λ r. ⌜ PutEnds (now (bytes .entry)) step cell release (faultAnswer r) (now (bytes .exit)) ⌝ }
 {
     let a = reading::read(bytes);
     let refusal = a.refusal;

@@ -1,4 +1,4 @@
--- Granting the releases of the listed cells: what it asks, what its loop carries and what it gives. Assumes nothing.
+-- Granting the releases of the listed cells: what it requires, what its loop carries and what it gives. Assumes nothing.
 use mathlib.Core.Path.{_≡_, refl, sym, ap, _∙_}
 use mathlib.Core.Logic.{⊎-elim}
 use mathlib.Core.List.{List}
@@ -40,7 +40,7 @@ pub record Lasts (m : Metered) (ramps : ℕ) (cell release came : List ℕ) : Ty
   pub entries : (j : ℕ) → j < ramps
       → at came (at cell j) + at (m .entries) (at cell j) ≡ at (m .state .held) (at cell j) + at (m .state .cumulative) (at cell j)
 
--- what granting asks: a step by the filled row may be made, the bytes hold the row, which is within its limits, the laws are in columns, and the
+-- what granting requires: a step by the filled row may be made, the bytes hold the row, which is within its limits, the laws are in columns, and the
 -- rooms are the supplies
 pub record GrantAsks (laws : List Law) (q : Road) (m : Metered) (bytes : List ℕ) (k start ramps : ℕ) (cell kinds : List ℕ) (numbers : List Float)
     (room release waits came : List ℕ) : Type 0 where

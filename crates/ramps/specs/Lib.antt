@@ -1,2 +1,3 @@
 pub mod RampsLaws
 pub mod Grants
+pub mod LastStep

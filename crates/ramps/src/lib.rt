@@ -11,7 +11,11 @@ ghost use Rattle.model.specs.Meter.{wishOf, wholeBelow};
 ghost use Rattle.outflows.specs.declared.Ledger.{Ledger};
 ghost use Rattle.outflows.specs.Columns.{stateOf};
 ghost use Rattle.model.specs.Ramps.{metered};
+ghost use Prim.Native.Nat.{_≤_, _<_};
+ghost use Rattle.model.specs.Numbers.{at, fillOf};
+ghost use Rattle.model.specs.Road.{mostCells};
 ghost use Rattle.ramps.specs.Grants.{GrantAsks, GrantLent, Granted};
+ghost use Rattle.ramps.specs.LastStep.{cameIn, CameAsks};
 
 // The cap of a release: queue and arrivals together, supply and the greatest rate.
 fn cap(coming: u32, supply: u32) -> u32
@@ -26,6 +30,41 @@ fn granted(law: Law, last: u32, entered: u32, held: u32, cap: u32) -> u32
 {
     let wish = meter::wish(law, last, entered, held);
     meter::release(wish, cap)
+}
+
+// The last release of each listed cell.
+pub fn last_releases(
+    ramps: usize,
+    cell: &[usize; 64],
+    releases: &[u32; 64],
+    release: &mut [u32; 64],
+)
+    requires { ⌜ (ramps ≤ mostCells) × ((j : ℕ) → j < ramps → at (now cell) j < mostCells) ⌝ }
+    ensures { λ _. ⌜ now (release .exit) ≡ fillOf (λ j. at (now (releases .entry)) (at (now (cell .entry)) j)) ramps (now (release .entry)) ⌝ }
+{
+    let mut j = 0;
+    while j < ramps {
+        release[j] = releases[cell[j]];
+        j += 1;
+    }
+}
+
+// What had come into each of the first n cells before the last step, with its last release: held + F less what entered in that step.
+pub fn came_before<'a>(
+    n: usize,
+    held: &'a [u32; 64],
+    cumulative: &'a [u32; 64],
+    entries: &'a [u32; 64],
+    came: &mut [u32; 64],
+)
+    requires { ⌜ CameAsks n (now held) (now cumulative) (now entries) ⌝ }
+    ensures { λ _. ⌜ now (came .exit) ≡ fillOf (cameIn (now (held .entry)) (now (cumulative .entry)) (now (entries .entry))) n (now (came .entry)) ⌝ }
+{
+    let mut i = 0;
+    while i < n {
+        came[i] = held[i] + cumulative[i] - entries[i];
+        i += 1;
+    }
 }
 
 // Grants the releases of the listed cells in the step whose row starts at `start`, and puts them into the bytes. `room` has the supplies

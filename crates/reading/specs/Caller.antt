@@ -75,20 +75,20 @@ module _ (s : List ℕ) where
       pub accepted-reads : readingOf s .number ≡ 0
       accepted-reads = sym (ap (λ (a : ReadAnswer). a .number) within-accepted) ∙ h
 
-      abbrev Kept : ReadAnswer → Type 0
-      Kept x = x .number ≡ 0 → (cellsOf s ≤ cells) × (length s ≤ most)
+      abbrev WithinLimits : ReadAnswer → Type 0
+      WithinLimits x = x .number ≡ 0 → (cellsOf s ≤ cells) × (length s ≤ most)
 
       pub accepted-kept : (cellsOf s ≤ cells) × (length s ≤ most)
       unfolding readingBy
       accepted-kept =
-          unless-elim Kept (lengthFits s) (λ _ z. absurd (omega arith)) (λ _.
-          unless-elim Kept (versionKnown s) (λ _ z. absurd (omega arith)) (λ _.
-          unless-elim Kept (countsFit s) (λ _ z. absurd (omega arith)) (λ _.
-          unless-elim Kept (secondsFit s) (λ _ z. absurd (omega arith)) (λ _.
-          unless-elim Kept (sizeFits s) (λ _ z. absurd (omega arith)) (λ _.
-          unless-elim Kept (callerTakes s cells most) (λ _ z. absurd (omega arith)) (λ k _. caller-facts k)))))) h
+          unless-elim WithinLimits (lengthFits s) (λ _ z. absurd (omega arith)) (λ _.
+          unless-elim WithinLimits (versionKnown s) (λ _ z. absurd (omega arith)) (λ _.
+          unless-elim WithinLimits (countsFit s) (λ _ z. absurd (omega arith)) (λ _.
+          unless-elim WithinLimits (secondsFit s) (λ _ z. absurd (omega arith)) (λ _.
+          unless-elim WithinLimits (sizeFits s) (λ _ z. absurd (omega arith)) (λ _.
+          unless-elim WithinLimits (callerTakes s cells most) (λ _ z. absurd (omega arith)) (λ k _. caller-facts k)))))) h
 
-  -- reading itself, which takes 64 cells and 65,536 bytes, never meets 26
+  -- reading itself, which takes 64 cells and 65,536 bytes, is never refused with 26
   pub read-never : readingOf s .number ≡ 26 → ⊥
   read-never h = go (refused-beyond mostCells mostBytes h)
     where
@@ -111,7 +111,7 @@ module _ (s : List ℕ) where
       larger b (inl l) = z (number (record { header = b .header; above = inl (omega (arith, h, l)) }))
       larger b (inr l) = z (number (record { header = b .header; above = inr (omega (arith, k, l)) }))
 
-  -- limits above 64 and 65,536 are as good as these
+  -- limits above 64 and 65,536 count as these
   pub within-capped : (cells most : ℕ) → readingWithin cells most s ≡ readingWithin (min cells mostCells) (min most mostBytes) s
   within-capped cells most = go (eqb (readingWithin (min cells mostCells) (min most mostBytes) s .number) 26) refl
     where

@@ -34,7 +34,7 @@ row-number s n start k l = list-at (λ k. numberOf s (start + numberSize * k) nu
 abbrev pub mostRow : ℕ
 mostRow = rowSize mostCells
 
--- what raising the greatest bytes to `count` parts of s asks, of `size` bytes each, one after the other from `start` on
+-- what raising the greatest bytes to `count` parts of s requires, of `size` bytes each, one after the other from `start` on
 pub record Raisable (s : List ℕ) (start size count : ℕ) (greatest : List ℕ) : Type 0 where
   pub parts : start + count * size ≤ length s
   pub small : size ≤ mostRow
@@ -108,7 +108,7 @@ module _ {s : List ℕ} {start size : ℕ} {before : List ℕ} where
   pub parts-end : {k count : ℕ} {now : List ℕ} → AboveParts s start size k before now → count ≤ k → AboveParts s start size count before now
   parts-end h l = record { same = h .same; kept = h .kept; above = λ q m. h .above q (omega arith) }
 
--- T rows in blocks, each of as many rows side by side as the longest row has room for; the rows after the blocks stand alone
+-- T rows in blocks, each of as many rows side by side as the longest row has room for; the rows after the blocks are single
 pub record Blocks (n beside blocks T : ℕ) : Type 0 where
   pub some : 0 < beside
   pub span : beside * rowSize n ≤ mostRow
@@ -123,7 +123,7 @@ in-blocks n T h =
       rows = div-mul-le-self T (mostRow / rowSize n);
     }
 
--- what each of the three raises asks: over the blocks, over the rows of the greatest block, and over the rows after the blocks
+-- what each of the three raises requires: over the blocks, over the rows of the greatest block, and over the rows after the blocks
 module _ {s : List ℕ} {n T beside blocks : ℕ} (held : Steps s n T) (plan : Blocks n beside blocks T) where
   pub blocks-there : rowStart (versionOf s) n (blocks * beside) ≤ length s
   blocks-there = omega (arith, mul-le-mul-right (rowSize n) (plan .rows), held .held)

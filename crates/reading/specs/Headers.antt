@@ -1,4 +1,4 @@
--- What the inner functions of reading ask of a record. Assumes nothing.
+-- What the inner functions of reading require of a record. Assumes nothing.
 use mathlib.Core.Path.{_≡_}
 use mathlib.Core.Bool.{true}
 use mathlib.Core.List.{List}

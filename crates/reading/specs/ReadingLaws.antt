@@ -19,7 +19,7 @@ use Rattle.model.specs.Reading.{cellsOf, stepsOf, sizeOf, bothVersions, lengthO
 use Rattle.model.specs.Reading.{acceptedOf, readingBy, readingWithin, readingOf}
 use Rattle.fields.specs.HeaderLaws.{Counts, length-facts, counts-facts, caller-passes}
 
--- what the header asks is what the cells and the rows ask
+-- what the header requires is what the cells and the rows require
 module _ {s : List ℕ} {n T : ℕ} (h : Header s n T) where
   header-counts : Counts n T
   header-counts = counts-facts n T (h .counts)

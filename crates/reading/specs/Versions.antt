@@ -1,4 +1,4 @@
--- The theorems of the two versions: what the first reader, who knows version 1 alone, says beside reading, and what reading gives of each. Assumes nothing.
+-- The theorems of the two versions: what the first reader, which knows only version 1, answers beside reading, and what reading gives of each. Assumes nothing.
 use mathlib.Core.List.{List, [], _∷_}
 use Prim.Native.Nat.{ℕ, _+_, _-_, _*_, _≤_}
 use mathlib.Core.Path.{_≡_, refl, sym, ap, _∙_}

@@ -1,35 +1,36 @@
 -- The arrays of the passes, on the road of a study's step and before its first. Assumes nothing.
-use mathlib.Core.Path.{sym, subst, _∙_}
+use mathlib.Core.Path.{_≡_, sym, ap, subst, _∙_}
 use mathlib.Core.List.{List}
-use Prim.Native.Nat.{ℕ}
+use Prim.Native.Nat.{ℕ, _≤_}
 use native.Mathlib.Omega.{arith}
-use lib.ListN.{replicate, length-replicate}
-use Rattle.model.specs.Numbers.{at}
-use Rattle.numbers.specs.Zeros.{zero-at}
+use lib.ListN.{length, replicate, length-replicate}
+use Rattle.model.specs.Numbers.{at, fillOf}
+use Rattle.numbers.specs.RowsLaws.{fill-at, length-fill}
 use Rattle.model.specs.declared.Road.{Road}
 use Rattle.model.specs.Schedules.{Study}
 use Rattle.theory.specs.OpenRoad.{OnRoad}
 use Rattle.theory.specs.RunsLaws.{StudyOk}
-use Rattle.passes.specs.Rest.{rest-start}
+use Rattle.passes.specs.Rest.{restIn}
 use Rattle.passes.specs.Supplies.{NoRamp}
 use Rattle.passes.specs.RampList.{Listed}
 use Rattle.passes.specs.Step.{Arrays}
 
--- before step 0 nothing was sent, and b × F leaves nothing
-pub arrays-none : {a : Study} {ramps : ℕ} {cell : List ℕ} → StudyOk a → Listed (NoRamp (a .road .ramp)) (a .road .n) ramps cell
-    → Arrays (a .road) ramps cell (a .start .cumulative) (replicate 64 0) (replicate 65 0) (replicate 64 0) (replicate 64 0) (replicate 64 0)
-arrays-none {a} ok listed =
+-- before the first step: the rests of b × F are worked out
+pub arrays-start : {a : Study} {ramps : ℕ} {cell rest : List ℕ} → StudyOk a → Listed (NoRamp (a .road .ramp)) (a .road .n) ramps cell
+    → rest ≡ fillOf (restIn (a .road .share) (a .start .cumulative)) (a .road .n) (replicate 64 0)
+    → Arrays (a .road) ramps cell (a .start .cumulative) rest (replicate 65 0) (replicate 64 0) (replicate 64 0) (replicate 64 0)
+arrays-start {a} {rest = rest} ok listed e =
     let cells = ok .road .cells in
+    let f = restIn (a .road .share) (a .start .cumulative) in
+    let long : a .road .n ≤ length (replicate {A = ℕ} 64 0) = omega (arith, length-replicate {A = ℕ} 64 0) in
     record {
       listed = listed;
-      rests = λ i l.
-          zero-at 64 i
-          ∙ sym (rest-start (at (a .road .share) i) (at (a .start .cumulative) i) (omega (arith, ok .start .cumulative i l, ok .zero)));
-      longRest = omega (arith, length-replicate {A = ℕ} 64 0);
+      rests = λ i l. ap (λ (x : List ℕ). at x i) e ∙ fill-at f (a .road .n) (replicate 64 0) i l long;
+      longRest = omega (arith, ap length e, length-fill f (a .road .n) (replicate 64 0), long);
       longRoom = omega (arith, length-replicate {A = ℕ} 65 0);
-      longRelease = omega (arith, length-replicate {A = ℕ} 64 0);
-      longWaiting = omega (arith, length-replicate {A = ℕ} 64 0);
-      longDemand = omega (arith, length-replicate {A = ℕ} 64 0);
+      longRelease = long;
+      longWaiting = long;
+      longDemand = long;
     }
 
 module _ {a : Study} {q : Road} (on : OnRoad a q) {ramps : ℕ} {cell cumulative rest room release waiting demand : List ℕ} where

@@ -16,16 +16,16 @@ use Rattle.model.specs.Running.{tableOf}
 use Rattle.theory.specs.SchedulesLaws.{runTable}
 use Rattle.theory.specs.TableLaws.{length-table, table-none, table-more}
 use Rattle.theory.specs.Readable.{Readable}
-use Rattle.running.specs.Steps.{Ran, RanTurn, ran-none, ran-more, steps-all, steps-fault, row-is}
+use Rattle.running.specs.Steps.{FaultlessSteps, RanTurn, ran-none, ran-more, steps-all, steps-fault, row-is}
 
--- what running step by step asks: a record that reads, and a list long enough
+-- what running step by step requires: a record that reads, and a list long enough
 pub record Runnable (bytes : List ℕ) (a : Study) (list : List ℕ) : Type 0 where
   pub readable : Readable bytes a
   pub long : tableSize a ≤ length list
 
--- when k steps are made: their rows stand in the list, and the next goes to `to`
-pub record Made (a : Study) (list out : List ℕ) (u : State) (k to : ℕ) : Type 0 where
-  pub ran : Ran a u k
+-- when k steps are made: their rows are in the list, and the next goes to `to`
+pub record RowsInList (a : Study) (list out : List ℕ) (u : State) (k to : ℕ) : Type 0 where
+  pub ran : FaultlessSteps a u k
   pub place : to ≡ k * places a
   pub table : out ≡ tableOf a list k
 
@@ -38,10 +38,10 @@ part-back list from w e =
     ∙ take-append-drop from list
 
 module _ {a : Study} {list : List ℕ} where
-  pub made-none : Made a list list (a .start) 0 0
+  pub made-none : RowsInList a list list (a .start) 0 0
   made-none = record { ran = ran-none; place = omega arith; table = sym (table-none a list) }
 
-  module _ {out : List ℕ} {u : State} {k to : ℕ} (h : Made a list out u k to) where
+  module _ {out : List ℕ} {u : State} {k to : ℕ} (h : RowsInList a list out u k to) where
     -- the list keeps its length
     pub same-length : StudyOk a → tableSize a ≤ length list → length out ≡ length list
     same-length ok long = ap length (h .table) ∙ length-table a ok list k (h .ran .faultless .within) long
@@ -64,7 +64,7 @@ module _ {a : Study} {list : List ℕ} where
 
       -- without one, one step more is made
       pub made-more : f .number ≡ 0 → {v : State} {part : List ℕ} → v ≡ nextOf q u row (outflowsOf q u row) → part ≡ outflowsOf q u row
-          → Made a list (take to out ++ (part ++ drop (to + places a - to) (drop to out))) v (k + 1) (to + places a)
+          → RowsInList a list (take to out ++ (part ++ drop (to + places a - to) (drop to out))) v (k + 1) (to + places a)
       made-more z {v} {part} ev ep = record {
         ran = ran-more t e z ev;
         place = omega (arith, h .place, mul-more k (places a));

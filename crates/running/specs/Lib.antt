@@ -2,4 +2,5 @@ pub mod Steps
 pub mod LentList
 pub mod WeightedTotal
 pub mod Promise
+pub mod PromiseOn
 pub mod Arrays

@@ -12,7 +12,7 @@ use Rattle.theory.specs.Opening.{opened-taken, opened-reads}
 use Rattle.theory.specs.RunEnds.{runs-unopened, writes-unopened, runs-short, writes-short, runs-long, writes-long}
 use Rattle.model.specs.Demand.{Taken, Promised, WeightedDemand}
 use Rattle.theory.specs.DemandWhole.{promised}
-use Rattle.model.specs.Weights.{weighingOf}
+use Rattle.model.specs.Weights.{weightedTotalOfRun}
 use Rattle.theory.specs.DemandByWeights.{weighted-demand, weighs-unopened, weighs-short, weighs-long}
 use Rattle.model.specs.Longest.{Queues, longestRun}
 use Rattle.counts.specs.Longest.{noQueues}
@@ -33,7 +33,7 @@ pub same-run : (bytes lanes list : List ℕ) (e f : EndAnswer) (out left : List 
     → (e ≡ f) × (out ≡ left)
 same-run bytes lanes list e f out left p q = (p .0 ∙ sym (q .0), p .1 .0 ∙ sym (q .1 .0))
 
--- a promise of three parts, with what is said of the weighted total and of the longest queues
+-- a promise of three parts, with the promises of the weighted total and of the longest queues
 pub with-tallies : {A B C D E : Type 0} → A × (B × C) → D → E → A × (B × (C × (D × E)))
 with-tallies p h q = (p .0, (p .1 .0, (p .1 .1, (h, q))))
 
@@ -49,8 +49,8 @@ module _ (bytes lanes list : List ℕ) {x : ReadAnswer} (ex : x ≡ openingOf by
       let n : openingOf bytes lanes .number ≡ 0 → ⊥ = rw ex at h in
       promise bytes lanes list e list (rw ex at ee ∙ sym (runs-unopened bytes lanes n list)) (sym (writes-unopened bytes lanes n list))
 
-  -- and its weighted total, where weights are asked for
-  pub weighed-unopened : (weighs : Bool) (w u : ℕ → ℕ) {t : ℕ} → (x .number ≡ 0 → ⊥) → t ≡ 0 → t ≡ cond weighs (weighingOf w u bytes lanes list) 0
+  -- and its weighted total, where weights are wanted
+  pub weighed-unopened : (weighs : Bool) (w u : ℕ → ℕ) {t : ℕ} → (x .number ≡ 0 → ⊥) → t ≡ 0 → t ≡ cond weighs (weightedTotalOfRun w u bytes lanes list) 0
   weighed-unopened weighs w u h e = e ∙ none weighs (weighs-unopened w u bytes lanes list (rw ex at h))
 
   -- and its longest queues
@@ -89,17 +89,17 @@ module _ (bytes lanes list : List ℕ) {x : ReadAnswer} (ex : x ≡ openingOf by
 
     module _ (weighs : Bool) (w u : ℕ → ℕ) {t : ℕ} where
       pub weighed-short : length list < tableSize (studyBy bytes lanes (x .road) (x .state) (x .steps)) → t ≡ 0
-          → t ≡ cond weighs (weighingOf w u bytes lanes list) 0
+          → t ≡ cond weighs (weightedTotalOfRun w u bytes lanes list) 0
       weighed-short l e = e ∙ none weighs (weighs-short w u bytes lanes list taken (rw reads at l))
 
       pub weighed-long : tableSize (studyBy bytes lanes (x .road) (x .state) (x .steps)) ≤ length list
-          → t ≡ weighedEnd weighs w u (studyBy bytes lanes (x .road) (x .state) (x .steps)) → t ≡ cond weighs (weighingOf w u bytes lanes list) 0
+          → t ≡ weighedEnd weighs w u (studyBy bytes lanes (x .road) (x .state) (x .steps)) → t ≡ cond weighs (weightedTotalOfRun w u bytes lanes list) 0
       weighed-long l e = rw reads at e ∙ ap (λ (k : ℕ). cond weighs k 0) (sym (weighs-long w u bytes lanes list taken (rw reads at l)))
 
 -- a weighted run's whole promise
 pub all-weighted : (bytes lanes list : List ℕ) (w u : ℕ → ℕ) {e : EndAnswer} {out : List ℕ} {t : ℕ} → e ≡ runningOf bytes lanes list
-    → out ≡ listAfter bytes lanes list → (Taken bytes lanes → Promised bytes lanes out e) → t ≡ weighingOf w u bytes lanes list
-    → (e ≡ runningOf bytes lanes list) × ((out ≡ listAfter bytes lanes list) × ((t ≡ weighingOf w u bytes lanes list)
+    → out ≡ listAfter bytes lanes list → (Taken bytes lanes → Promised bytes lanes out e) → t ≡ weightedTotalOfRun w u bytes lanes list
+    → (e ≡ runningOf bytes lanes list) × ((out ≡ listAfter bytes lanes list) × ((t ≡ weightedTotalOfRun w u bytes lanes list)
     × ((Taken bytes lanes → Promised bytes lanes out e) × (Taken bytes lanes → WeightedDemand bytes lanes w u out e t))))
 all-weighted bytes lanes list w u ee eo promise et =
     (ee, (eo, (et, (promise, λ taken. rw (ee, eo, et) (weighted-demand bytes lanes taken list w u)))))

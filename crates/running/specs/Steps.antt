@@ -21,29 +21,29 @@ use Rattle.model.specs.Running.{runSays, firstStep, EndAnswer, ended, runEnd}
 use Rattle.theory.specs.SchedulesLaws.{ends-at, ends-all, run-reached}
 
 -- k steps are made without a fault, and u is the state after them
-pub record Ran (a : Study) (u : State) (k : ℕ) : Type 0 where
+pub record FaultlessSteps (a : Study) (u : State) (k : ℕ) : Type 0 where
   pub state : u ≡ engineAfter a k
   pub faultless : Faultless (λ j. runSays a j .number) (a .steps) k
 
 -- a turn of the loop: q is the step's road, and the code holds the row of step k
 pub record RanTurn (a : Study) (u : State) (k : ℕ) (q : Road) (row : List ℕ) : Type 0 where
   pub ok : StudyOk a
-  pub ran : Ran a u k
+  pub ran : FaultlessSteps a u k
   pub left : k < a .steps
   pub road : q ≡ roadAt a k
   pub numbers : row ≡ a .rows k
 
 module _ {a : Study} where
   -- within the limits
-  pub ran-reached : {u : State} {k : ℕ} → StudyOk a → Ran a u k → Reached a u k
+  pub ran-reached : {u : State} {k : ℕ} → StudyOk a → FaultlessSteps a u k → Reached a u k
   ran-reached {k = k} ok h = rw (h .state) (run-reached a ok k (h .faultless .within) (h .faultless .before))
 
-  pub ran-none : Ran a (a .start) 0
+  pub ran-none : FaultlessSteps a (a .start) 0
   unfolding engineAfter
   ran-none = record { state = refl; faultless = faultless-none }
 
   -- all steps are made
-  module _ {u : State} {k : ℕ} (h : Ran a u k) (end : a .steps ≤ k) where
+  module _ {u : State} {k : ℕ} (h : FaultlessSteps a u k) (end : a .steps ≤ k) where
     pub all-ran : k ≡ a .steps
     all-ran = omega (arith, h .faultless .within)
 
@@ -83,14 +83,14 @@ module _ {a : Study} where
       steps-fault n = faultless-stop (t .ran .faultless) (t .left) (number-of says) n
 
       -- without one, one step more is made
-      pub ran-more : f .number ≡ 0 → {v : State} → v ≡ nextOf q u row (outflowsOf q u row) → Ran a v (k + 1)
+      pub ran-more : f .number ≡ 0 → {v : State} → v ≡ nextOf q u row (outflowsOf q u row) → FaultlessSteps a v (k + 1)
       unfolding engineAfter
       ran-more z ev = record {
         state = rw (ev, t .road, t .ran .state, t .numbers, add-one k);
         faultless = faultless-more (t .ran .faultless) (t .left) (number-of says) z;
       }
 
--- the passes of a turn ask for no more than the arrays and a row
+-- the passes of a turn need no more than the arrays and a row
 pub passes-ask : {a : Study} {u : State} {k : ℕ} {q : Road} {bytes : List ℕ} {ramps : ℕ} {cell rest room release waiting demand y : List ℕ}
     → RanTurn a u k q (recordRow bytes (q .n) k) → HoldsRow bytes (q .n) k → Arrays q ramps cell (u .cumulative) rest room release waiting demand
     → length y ≡ q .n + 1 → StepAsks bytes k q u ramps cell rest room release waiting demand y

@@ -7,13 +7,13 @@ use native.Mathlib.Omega.{arith}
 use Rattle.model.specs.declared.State.{State}
 use Rattle.model.specs.Road.{mostSteps}
 use Rattle.model.specs.Schedules.{Study, engineAfter}
-use Rattle.model.specs.Weights.{weightedOf, weightedTotal}
+use Rattle.model.specs.Weights.{weightedPresent, weightedTotal}
 use Rattle.theory.specs.WeightsLaws.{weighted-total-none, weighted-total-more}
 use Rattle.counts.specs.WeightBounds.{mostWeighted, mostWeightedTotal}
 use Rattle.model.specs.Running.{runSays, firstStep}
-use Rattle.running.specs.Steps.{Ran}
+use Rattle.running.specs.Steps.{FaultlessSteps}
 
--- the weighted total of a run step by step up to its end, where weights are asked for
+-- the weighted total of a run step by step up to its end, where weights are wanted
 abbrev pub weighedEnd : Bool → (ℕ → ℕ) → (ℕ → ℕ) → Study → ℕ
 weighedEnd weighs w u a = cond weighs (weightedTotal w u (a .road .n) (engineAfter a) (firstStep (runSays a) (a .steps))) 0
 
@@ -34,17 +34,17 @@ module _ (weighs : Bool) (w u : ℕ → ℕ) (a : Study) where
     pub totalled-fits : k ≤ mostSteps → total ≤ mostWeightedTotal
     totalled-fits l = omega (arith, h .small)
 
-    pub totalled-more : {v : State} {x : ℕ} → Ran a v (k + 1) → x ≡ total + cond weighs (weightedOf w u (a .road .n) v) 0 → x ≤ total + mostWeighted
+    pub totalled-more : {v : State} {x : ℕ} → FaultlessSteps a v (k + 1) → x ≡ total + cond weighs (weightedPresent w u (a .road .n) v) 0 → x ≤ total + mostWeighted
         → Totalled weighs w u a x (k + 1)
     totalled-more {v} ran e l = record {
-      sum = rw (add-one k) (e ∙ ap (λ (t : ℕ). t + cond weighs (weightedOf w u (a .road .n) v) 0) (h .sum) ∙ go weighs);
+      sum = rw (add-one k) (e ∙ ap (λ (t : ℕ). t + cond weighs (weightedPresent w u (a .road .n) v) 0) (h .sum) ∙ go weighs);
       small = omega (arith, h .small);
     }
       where
         after : v ≡ engineAfter a (suc k)
         after = rw (add-one k) at (ran .state)
 
-        go : (b : Bool) → cond b (weightedTotal w u (a .road .n) (engineAfter a) k) 0 + cond b (weightedOf w u (a .road .n) v) 0
+        go : (b : Bool) → cond b (weightedTotal w u (a .road .n) (engineAfter a) k) 0 + cond b (weightedPresent w u (a .road .n) v) 0
             ≡ cond b (weightedTotal w u (a .road .n) (engineAfter a) (suc k)) 0
         go true = rw after (sym (weighted-total-more w u (a .road .n) (engineAfter a) k))
         go false = omega arith

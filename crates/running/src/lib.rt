@@ -5,6 +5,7 @@ use model::Longest;
 use model::Refusal;
 use model::Road;
 use model::State;
+use model::Tallied;
 use model::Weighed;
 use model::Weights;
 use outflows::Ledger;
@@ -13,20 +14,26 @@ ghost use mathlib.Core.Bool.{true, cond};
 ghost use Rattle.model.specs.Numbers.{at};
 ghost use Rattle.model.specs.Road.{withoutState};
 ghost use Rattle.counts.specs.Longest.{noQueues};
-ghost use Rattle.model.specs.Longest.{longestQueues, longestRun};
+ghost use Rattle.model.specs.Longest.{queuesOf, longestQueues, longestRun};
 ghost use Rattle.counts.specs.LongestRun.{longestEnd};
 ghost use Rattle.model.specs.Reading.{studyBy};
 ghost use Rattle.model.specs.Running.{endAnswer, runEnd, runningOf, listAfter};
 ghost use Rattle.theory.specs.SchedulesLaws.{runTable};
 ghost use Rattle.model.specs.Demand.{Taken, Promised, WeightedDemand};
-ghost use Rattle.model.specs.Weights.{weighingOf};
+ghost use Rattle.model.specs.Weights.{weightedTotalOfRun};
+ghost use Rattle.model.specs.GoingOn.{runningOn, listOn, weightedTotalOn, longestOn};
 ghost use Rattle.running.specs.LentList.{Runnable};
 ghost use Rattle.running.specs.WeightedTotal.{weighedEnd};
 
-// What a run can give beside its list: its answer with its longest queues, and its weighted total.
-pub struct Tallied {
-    pub longest: Longest,
-    pub weighted: u64,
+// A run's end with its longest queues and its weighted total.
+fn tallied(ended: Ended, gate: AtGate, ramps: [u32; 64], weighted: u64) -> Tallied
+    ensures { λ e. ⌜ (e .longest .ended ≡ ended) × ((longestQueues (e .longest) ≡ queuesOf (gate .gate) (gate .waiting) ramps) × (e .weighted ≡ weighted)) ⌝ }
+{
+    let longest = counts::longest(ended, gate, ramps);
+    Tallied {
+        longest: longest,
+        weighted: weighted,
+    }
 }
 
 // Writes the rows of the steps before the first fault, 9 or 10.
@@ -58,6 +65,7 @@ fn run_rows(
     let mut cumulative = s.cumulative;
     let mut l = Ledger::of(s);
     let mut rest = [0u32; 64];
+    passes::remainders(n, &road.share, &cumulative, &mut rest);
     let mut room = [0u32; 65];
     let mut release = [0u32; 64];
     let mut waiting = [0u32; 64];
@@ -104,16 +112,7 @@ fn run_rows(
         if refusal.number() != 0 {
             let state = l.state(held, queue, cumulative);
             let ended = Ended::at_step(refusal, k, fault.place, r, state);
-            let longest = Longest {
-                ended: ended,
-                gate: gate.gate,
-                waiting: gate.waiting,
-                ramps: most,
-            };
-            return Tallied {
-                longest: longest,
-                weighted: weighted,
-            };
+            return tallied(ended, gate, most, weighted);
         }
         let next = step.ledger;
         weighted = counts::added(
@@ -134,16 +133,7 @@ fn run_rows(
         k += 1;
     }
     let ended = Ended::complete(r, l.state(held, queue, cumulative));
-    let longest = Longest {
-        ended: ended,
-        gate: gate.gate,
-        waiting: gate.waiting,
-        ramps: most,
-    };
-    Tallied {
-        longest: longest,
-        weighted: weighted,
-    }
+    tallied(ended, gate, most, weighted)
 }
 
 // A refusal that names no state, with no step done.
@@ -157,7 +147,7 @@ fn unbegun(refusal: Refusal, place: usize) -> Tallied
     }
 }
 
-// Runs a record under a table of lanes, with weights and with its longest queues where they are asked for.
+// Runs a record under a table of lanes, with weights and with its longest queues where they are wanted.
 fn run_opened(
     bytes: &[u8],
     table: &[u8],
@@ -171,7 +161,7 @@ fn run_opened(
     ensures demand { λ e. ⌜ (Taken (now (bytes .entry)) (now (table .entry))
         → Promised (now (bytes .entry)) (now (table .entry)) (now (out .exit)) (endAnswer (e .longest .ended))) ⌝ }
     ensures weighted { λ e. ⌜ e .weighted
-        ≡ cond weighs (weighingOf (at (weights .places)) (at (weights .ramps)) (now (bytes .entry)) (now (table .entry)) (now (out .entry))) 0 ⌝ }
+        ≡ cond weighs (weightedTotalOfRun (at (weights .places)) (at (weights .ramps)) (now (bytes .entry)) (now (table .entry)) (now (out .entry))) 0 ⌝ }
     ensures longest { λ e. ⌜ (longs ≡ true → longestQueues (e .longest) ≡ longestRun (now (bytes .entry)) (now (table .entry)) (now (out .entry))) ⌝ }
 {
     let a = opening::opened(bytes, table);
@@ -198,6 +188,29 @@ fn run_opened(
     )
 }
 
+// Goes on from a state over the rows of a further record, with its longest queues and its weighted total: the refusals of reading, 17, 18, 7, 8, 11,
+// then 9 or 10 with its step, counted in these rows, and cell.
+pub fn run_on(bytes: &[u8], table: &[u8], weights: Weights, from: State, out: &mut [u32]) -> Tallied
+    ensures answer { λ e. ⌜ endAnswer (e .longest .ended) ≡ runningOn (now (bytes .entry)) (now (table .entry)) from (now (out .entry)) ⌝ }
+    ensures list { λ e. ⌜ now (out .exit) ≡ listOn (now (bytes .entry)) (now (table .entry)) from (now (out .entry)) ⌝ }
+    ensures weighted { λ e. ⌜ e .weighted
+        ≡ weightedTotalOn (at (weights .places)) (at (weights .ramps)) (now (bytes .entry)) (now (table .entry)) from (now (out .entry)) ⌝ }
+    ensures longest { λ e. ⌜ longestQueues (e .longest) ≡ longestOn (now (bytes .entry)) (now (table .entry)) from (now (out .entry)) ⌝ }
+{
+    let a = opening::started(bytes, table, from);
+    let refusal = a.refusal;
+    if refusal.number() != 0 {
+        return unbegun(refusal, a.place);
+    }
+    let road = a.road;
+    let state = a.state;
+    let steps = a.steps;
+    if out.len() < steps * (road.n + 1) {
+        return unbegun(Refusal::ListLength, 0);
+    }
+    run_rows(bytes, table, road, state, steps, weights, true, true, out)
+}
+
 // Runs a record under a table of lanes: the refusals of reading, 17, 18, 11, then 9 or 10 with its step and cell.
 pub fn run(bytes: &[u8], table: &[u8], out: &mut [u32]) -> Ended
     ensures answer { λ e. ⌜ endAnswer e ≡ runningOf (now (bytes .entry)) (now (table .entry)) (now (out .entry)) ⌝ }
@@ -216,7 +229,7 @@ pub fn run(bytes: &[u8], table: &[u8], out: &mut [u32]) -> Ended
 pub fn run_weighted(bytes: &[u8], table: &[u8], weights: Weights, out: &mut [u32]) -> Weighed
     ensures answer { λ e. ⌜ endAnswer (e .ended) ≡ runningOf (now (bytes .entry)) (now (table .entry)) (now (out .entry)) ⌝ }
     ensures list { λ e. ⌜ now (out .exit) ≡ listAfter (now (bytes .entry)) (now (table .entry)) (now (out .entry)) ⌝ }
-    ensures weighted { λ e. ⌜ e .weighted ≡ weighingOf (at (weights .places)) (at (weights .ramps)) (now (bytes .entry)) (now (table .entry)) (now (out .entry)) ⌝ }
+    ensures weighted { λ e. ⌜ e .weighted ≡ weightedTotalOfRun (at (weights .places)) (at (weights .ramps)) (now (bytes .entry)) (now (table .entry)) (now (out .entry)) ⌝ }
     ensures demand { λ e. ⌜ (Taken (now (bytes .entry)) (now (table .entry))
         → Promised (now (bytes .entry)) (now (table .entry)) (now (out .exit)) (endAnswer (e .ended))) ⌝ }
     ensures weights { λ e. ⌜ (Taken (now (bytes .entry)) (now (table .entry))

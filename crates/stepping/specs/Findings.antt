@@ -39,13 +39,13 @@ pub sized : (r : Road) (s : State) → r .n ≤ mostCells → length (s .held) �
     → Sized r s
 sized r s n h q c = record { held = omega arith; queue = omega arith; cumulative = omega arith }
 
--- what a step on its road asks: its input is within the limits, and the state's arrays have an entry for each cell
+-- what a step on its road requires: its input is within the limits, and the state's arrays have an entry for each cell
 pub record Stepping (r : Road) (s : State) (row : List ℕ) : Type 0 where
   pub input : InputOk r s row
   pub sized : Sized r s
 
 -- 8 does not apply, and the code has looked through the releases: what it found, and its number
-pub record Looked (r : Road) (s : State) (row : List ℕ) (q : Fault) (m : ℕ) : Type 0 where
+pub record ReleaseFinding (r : Road) (s : State) (row : List ℕ) (q : Fault) (m : ℕ) : Type 0 where
   pub input : Stepping r s row
   pub left : s .done ≡ mostSteps → ⊥
   pub found : faultAnswer q ≡ releasesOf r s row
@@ -56,7 +56,7 @@ module _ {r : Road} {s : State} {row : List ℕ} where
   pub answer-done : Stepping r s row → s .done ≡ mostSteps → answer (fault 8 0) s ≡ stepOn r s row
   answer-done k h = sym (on-done r s row h)
 
-  module _ {q : Fault} {m : ℕ} (k : Looked r s row q m) where
+  module _ {q : Fault} {m : ℕ} (k : ReleaseFinding r s row q m) where
     number-found : m ≡ releasesOf r s row .number
     number-found = k .number ∙ ap (λ (x : FaultAnswer). x .number) (k .found)
 

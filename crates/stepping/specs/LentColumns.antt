@@ -1,4 +1,4 @@
--- What a step on lent columns asks, and what the loop that moves them knows. Assumes nothing.
+-- What a step on lent columns requires, and what the loop that moves them knows. Assumes nothing.
 use mathlib.Core.Path.{_≡_, ap, _∙_}
 use mathlib.Core.List.{List}
 use Prim.Native.Nat.{ℕ, _+_, _-_, _≤_, _<_}
@@ -17,12 +17,12 @@ use Rattle.theory.specs.MoveLaws.{counted-is, counted-present}
 use Rattle.theory.specs.LimitsKept.{present-bound}
 use Rattle.model.specs.Schedules.{outflowsOf}
 use Rattle.theory.specs.RulesLaws.{Sized}
-use Rattle.stepping.specs.StepNeeds.{Movable, Countable, Moved, moved-cell, moved-end}
+use Rattle.stepping.specs.StepNeeds.{Movable, Countable, MovedCells, moved-cell, moved-end}
 use Rattle.outflows.specs.declared.Ledger.{Ledger}
 use Rattle.outflows.specs.Columns.{sharing, stateOf}
 use native.Mathlib.Omega.{arith}
 
--- advancing asks that the row may be moved by on some road with these shares, and that steps are left
+-- advancing requires that the row may be moved by on some road with these shares, and that steps are left
 pub record Advances (n : ℕ) (share : List ℕ) (l : Ledger) (held queue cumulative row y : List ℕ) : Type 0 where
   pub road : Road
   pub movable : Movable (sharing road n share) (stateOf l held queue cumulative) row y
@@ -32,7 +32,7 @@ pub record Advances (n : ℕ) (share : List ℕ) (l : Ledger) (held queue cumula
 abbrev pub engineNext : Road → State → List ℕ → State
 engineNext r s row = nextOf r s row (outflowsOf r s row)
 
-module _ {r : Road} {s : State} {row y : List ℕ} {t : State} {entering i : ℕ} (h : Moved r s row y t entering i) where
+module _ {r : Road} {s : State} {row y : List ℕ} {t : State} {entering i : ℕ} (h : MovedCells r s row y t entering i) where
   -- the cell at i is not yet moved
   pub held-there : at (t .held) i ≡ at (s .held) i
   unfolding movedTo
@@ -56,7 +56,7 @@ module _ {r : Road} {s : State} {row y : List ℕ} {t : State} {entering i : ℕ
 
   -- so it is moved in place
   pub moved-there : {next : ℕ} → i < r .n → next ≡ enteringOf (at (r .share) i) (at (t .cumulative) i) (at y (i + 1))
-      → Moved r s row y (record {
+      → MovedCells r s row y (record {
         done = t .done;
         «gate_time» = t .«gate_time»;
         «road_time» = t .«road_time»;
@@ -89,7 +89,7 @@ module _ {r : Road} {s : State} {row y : List ℕ} {t : State} {entering i : ℕ
       counted-is r t eg (er .is ∙ ap (λ (k : ℕ). sumOf (take k (t .held))) e) (eq .is ∙ ap (λ (k : ℕ). sumOf (take k (t .queue))) e)
       ∙ ap (countedOf r) (moved-end h l)
 
--- counting after a move asks nothing more
+-- counting after a move needs nothing more
 pub countable : {r : Road} {s : State} {row y : List ℕ} {t : State} → Movable r s row y → s .done < mostSteps → t ≡ movedOf r s row y → Countable r t
 unfolding movedTo
 countable {r} {s} {row} {y} {t} m d e = rw e (record {

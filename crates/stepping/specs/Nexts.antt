@@ -1,4 +1,4 @@
--- What a step of the engine on lent columns asks. Assumes nothing.
+-- What a step of the engine on lent columns requires. Assumes nothing.
 use mathlib.Core.Path.{_≡_}
 use mathlib.Core.List.{List}
 use Prim.Native.Nat.{ℕ, _+_}

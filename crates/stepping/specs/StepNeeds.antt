@@ -1,4 +1,4 @@
--- What the inner functions of a step ask. Assumes nothing.
+-- What the inner functions of a step require. Assumes nothing.
 use mathlib.Core.Path.{_≡_, refl, sym, ap, _∙_}
 use mathlib.Core.List.{List}
 use Prim.Native.Nat.{ℕ, suc, _+_, _-_, _*_, _^_, _≤_, _<_}
@@ -40,13 +40,13 @@ pub record Countable (r : Road) (s : State) : Type 0 where
   pub present : presentOf r s < 2 ^ 63
 
 -- what holds when the loop over the cells has moved the first i of them
-pub record Moved (r : Road) (s : State) (row y : List ℕ) (t : State) (entering i : ℕ) : Type 0 where
+pub record MovedCells (r : Road) (s : State) (row y : List ℕ) (t : State) (entering i : ℕ) : Type 0 where
   pub within : i ≤ r .n
   pub enters : entering ≡ enteringAt r s y i
   pub moved : t ≡ movedTo r s row y i
 
 pub moved-none : {r : Road} {s : State} {row y : List ℕ} {entering : ℕ} → entering ≡ enteringOf whole (s .«gate_cumulative») (at y 0)
-    → Moved r s row y (record {
+    → MovedCells r s row y (record {
       done = s .done;
       «gate_time» = s .«gate_time»;
       «road_time» = s .«road_time»;
@@ -60,9 +60,9 @@ pub moved-none : {r : Road} {s : State} {row y : List ℕ} {entering : ℕ} → 
 unfolding shareAt cumulativeAt movedTo fillOf
 moved-none e = record { within = omega arith; enters = e; moved = refl }
 
-pub moved-cell : {r : Road} {s : State} {row y : List ℕ} {t : State} {entering i next : ℕ} → Moved r s row y t entering i → i < r .n
+pub moved-cell : {r : Road} {s : State} {row y : List ℕ} {t : State} {entering i next : ℕ} → MovedCells r s row y t entering i → i < r .n
     → next ≡ enteringOf (at (r .share) i) (at (s .cumulative) i) (at y (i + 1))
-    → Moved r s row y (record {
+    → MovedCells r s row y (record {
       done = t .done;
       «gate_time» = t .«gate_time»;
       «road_time» = t .«road_time»;
@@ -79,7 +79,7 @@ moved-cell {r} {s} {row} {y} {t} {entering} {i} h l e = record {
   moved = moved-more r s row y i t entering (h .moved) (h .enters);
 }
 
-pub moved-end : {r : Road} {s : State} {row y : List ℕ} {t : State} {entering i : ℕ} → Moved r s row y t entering i → r .n ≤ i
+pub moved-end : {r : Road} {s : State} {row y : List ℕ} {t : State} {entering i : ℕ} → MovedCells r s row y t entering i → r .n ≤ i
     → t ≡ movedOf r s row y
 moved-end {r} {s} {row} {y} {i = i} h l = let e : i ≡ r .n = omega (arith, h .within) in h .moved ∙ ap (movedTo r s row y) e
 
@@ -97,7 +97,7 @@ pub record Turn (r : Road) (s : State) (row y : List ℕ) (i entering : ℕ) : T
   pub waits : releaseAt row i ≤ at (s .queue) i + arrivalsAt row i
   pub leaves : at y (i + 1) ≤ at (s .held) i
 
-pub turn : {r : Road} {s : State} {row y : List ℕ} {t : State} {entering i : ℕ} → Movable r s row y → Moved r s row y t entering i → i < r .n
+pub turn : {r : Road} {s : State} {row y : List ℕ} {t : State} {entering i : ℕ} → Movable r s row y → MovedCells r s row y t entering i → i < r .n
     → Turn r s row y i entering
 unfolding capacityAt
 turn {r} {s} {row} {y} {i = i} m h l =

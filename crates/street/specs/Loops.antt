@@ -7,7 +7,7 @@ use native.Mathlib.Omega.{arith}
 use lib.ListN.{length, set, drop-of-length-le}
 use Rattle.model.specs.Numbers.{sumOf, fillOf, listOf, at}
 use Rattle.numbers.specs.RowsLaws.{fill-more, fill-list, length-fill, sum-list-none, sum-list-more}
-use Rattle.model.specs.Street.{Asked, sureOf, restBefore, moreOf, grantAt, grantsOf}
+use Rattle.model.specs.Street.{GrantRequest, sureOf, restBefore, moreOf, grantAt, grantsOf}
 use Rattle.street.specs.StreetLaws.{sure-fits}
 
 -- what is left after what is sure of i ramps
@@ -27,11 +27,11 @@ module _ {limit : ℕ} {guarantees wishes : List ℕ} where
   left-none = record { within = omega arith; sure = omega (arith, sum-list-none (sureOf guarantees wishes)) }
 
   module _ {left i : ℕ} (h : Left limit guarantees wishes left i) where
-    pub left-fits : Asked limit guarantees wishes → i < length guarantees → {sure : ℕ} → sure ≡ sureOf guarantees wishes i → sure ≤ left
+    pub left-fits : GrantRequest limit guarantees wishes → i < length guarantees → {sure : ℕ} → sure ≡ sureOf guarantees wishes i → sure ≤ left
     left-fits q l e =
         omega (arith, h .sure, sure-fits limit guarantees wishes q (suc i) l, sum-list-more (sureOf guarantees wishes) i)
 
-    pub left-more : Asked limit guarantees wishes → i < length guarantees → {sure : ℕ} → sure ≡ sureOf guarantees wishes i
+    pub left-more : GrantRequest limit guarantees wishes → i < length guarantees → {sure : ℕ} → sure ≡ sureOf guarantees wishes i
         → Left limit guarantees wishes (left - sure) (i + 1)
     left-more q l e = record {
       within = omega arith;

@@ -17,14 +17,14 @@ use Rattle.model.specs.Road.{mostRate, mostRamps}
 use Rattle.numbers.specs.Tests.{and-true, both-true, le-head, eq-head, le-then, eq-then}
 use Rattle.model.specs.Limits.{allWithin}
 use Rattle.limits.specs.AllWithin.{within-at, within-true}
-use Rattle.model.specs.Street.{Asked, frameOk, askedOk, sureOf, restBefore, grantAt, grantsOf, grantingOf, grantsAfter}
+use Rattle.model.specs.Street.{GrantRequest, streetFrameOk, streetOk, sureOf, restBefore, grantAt, grantsOf, grantingOf, grantsAfter}
 
 module _ (limit : ℕ) (guarantees wishes : List ℕ) where
   -- 24's conditions, exactly
-  pub asked-limits : (places : ℕ) → askedOk limit guarantees wishes places ≡ true → Asked limit guarantees wishes × (places ≡ length guarantees)
-  unfolding askedOk
+  pub asked-limits : (places : ℕ) → streetOk limit guarantees wishes places ≡ true → GrantRequest limit guarantees wishes × (places ≡ length guarantees)
+  unfolding streetOk
   asked-limits places h =
-      let both = and-true (frameOk limit (length guarantees) (length wishes) places) _ h in
+      let both = and-true (streetFrameOk limit (length guarantees) (length wishes) places) _ h in
       let some = le-head _ _ _ (both .0) in
       let most = le-head _ _ _ (some .1) in
       let same = eq-head _ _ _ (most .1) in
@@ -43,38 +43,38 @@ module _ (limit : ℕ) (guarantees wishes : List ℕ) where
         place .0,
       )
 
-  pub limits-asked : (places : ℕ) → Asked limit guarantees wishes → places ≡ length guarantees → askedOk limit guarantees wishes places ≡ true
-  unfolding askedOk
+  pub limits-asked : (places : ℕ) → GrantRequest limit guarantees wishes → places ≡ length guarantees → streetOk limit guarantees wishes places ≡ true
+  unfolding streetOk
   limits-asked places h e =
-      both-true (frameOk limit (length guarantees) (length wishes) places) _
+      both-true (streetFrameOk limit (length guarantees) (length wishes) places) _
       (le-then _ _ _ (h .some) (le-then _ _ _ (h .most) (eq-then _ _ _ (h .same) (eq-then _ _ _ e (le-leb _ _ (h .limits))))))
       (both-true (allWithin guarantees mostRate) _ (sym (within-true guarantees mostRate (h .guaranteed)))
       (both-true (allWithin wishes mostRate) _ (sym (within-true wishes mostRate (h .wished))) (le-leb _ _ (h .together))))
 
   -- the test's parts, in its order
   module _ (places : ℕ) where
-    pub asked-frame : frameOk limit (length guarantees) (length wishes) places ≡ false → false ≡ askedOk limit guarantees wishes places
-    unfolding askedOk
+    pub asked-frame : streetFrameOk limit (length guarantees) (length wishes) places ≡ false → false ≡ streetOk limit guarantees wishes places
+    unfolding streetOk
     asked-frame n = rw n
 
-    module _ (f : frameOk limit (length guarantees) (length wishes) places ≡ true) where
+    module _ (f : streetFrameOk limit (length guarantees) (length wishes) places ≡ true) where
       pub frame-ramps : length guarantees ≤ mostRamps
       frame-ramps =
           let some = le-head 1 (length guarantees) _ f in
           let most = le-head (length guarantees) mostRamps _ (some .1) in
           most .0
 
-      pub asked-guarantees : allWithin guarantees mostRate ≡ false → false ≡ askedOk limit guarantees wishes places
-      unfolding askedOk
+      pub asked-guarantees : allWithin guarantees mostRate ≡ false → false ≡ streetOk limit guarantees wishes places
+      unfolding streetOk
       asked-guarantees n = rw (f, n)
 
       module _ (g : allWithin guarantees mostRate ≡ true) where
-        pub asked-wishes : allWithin wishes mostRate ≡ false → false ≡ askedOk limit guarantees wishes places
-        unfolding askedOk
+        pub asked-wishes : allWithin wishes mostRate ≡ false → false ≡ streetOk limit guarantees wishes places
+        unfolding streetOk
         asked-wishes n = rw (f, g, n)
 
-        pub asked-sum : allWithin wishes mostRate ≡ true → {sum : ℕ} → sum ≡ sumOf guarantees → leb sum limit ≡ askedOk limit guarantees wishes places
-        unfolding askedOk
+        pub asked-sum : allWithin wishes mostRate ≡ true → {sum : ℕ} → sum ≡ sumOf guarantees → leb sum limit ≡ streetOk limit guarantees wishes places
+        unfolding streetOk
         asked-sum w e = rw (f, g, w, e)
 
   -- the sums up to ramp i: of what is sure, of the grants and of the wishes
@@ -89,11 +89,11 @@ module _ (limit : ℕ) (guarantees wishes : List ℕ) where
   sure-least (suc i) l =
       omega (arith, sum-list-more (sureOf guarantees wishes) i, sum-more i guarantees l, sure-least i (omega arith))
 
-  pub sure-fits : Asked limit guarantees wishes → (i : ℕ) → i ≤ length guarantees → sureSum i ≤ limit
+  pub sure-fits : GrantRequest limit guarantees wishes → (i : ℕ) → i ≤ length guarantees → sureSum i ≤ limit
   sure-fits h i l = omega (arith, sure-least i l, sum-halves i guarantees, h .together)
 
   -- what was granted and what remains make up the limit, but for what is sure of the ramps that follow
-  balance : Asked limit guarantees wishes → (i : ℕ) → i ≤ length guarantees
+  balance : GrantRequest limit guarantees wishes → (i : ℕ) → i ≤ length guarantees
       → grantSum i + restBefore limit guarantees wishes i + sureSum (length guarantees) ≡ limit + sureSum i
   unfolding restBefore
   balance h zero l =
@@ -110,7 +110,7 @@ module _ (limit : ℕ) (guarantees wishes : List ℕ) where
   grants-at i l = list-at (grantAt limit guarantees wishes) (length guarantees) i l
 
   -- the limit is never passed
-  pub grants-limit : Asked limit guarantees wishes → sumOf (grantsOf limit guarantees wishes) ≤ limit
+  pub grants-limit : GrantRequest limit guarantees wishes → sumOf (grantsOf limit guarantees wishes) ≤ limit
   unfolding grantsOf
   grants-limit h = omega (arith, balance h (length guarantees) (le-refl _))
 
@@ -154,7 +154,7 @@ module _ (limit : ℕ) (guarantees wishes : List ℕ) where
   grants-below (suc i) l =
       omega (arith, grants-below i (omega arith), sum-list-more (grantAt limit guarantees wishes) i, sum-more i wishes l)
 
-  pub grants-whole : Asked limit guarantees wishes → sumOf (grantsOf limit guarantees wishes) ≡ min limit (sumOf wishes)
+  pub grants-whole : GrantRequest limit guarantees wishes → sumOf (grantsOf limit guarantees wishes) ≡ min limit (sumOf wishes)
   unfolding grantsOf
   grants-whole h =
       let n = length guarantees in
@@ -170,7 +170,7 @@ module _ (limit : ℕ) (guarantees wishes : List ℕ) where
 
   -- both ends
   module _ (grants : List ℕ) where
-    module _ (e : askedOk limit guarantees wishes (length grants) ≡ false) where
+    module _ (e : streetOk limit guarantees wishes (length grants) ≡ false) where
       pub refused-answer : grantingOf limit guarantees wishes (length grants) ≡ 24
       unfolding grantingOf
       refused-answer = rw e
@@ -179,7 +179,7 @@ module _ (limit : ℕ) (guarantees wishes : List ℕ) where
       unfolding grantsAfter
       refused-grants = rw e
 
-    module _ (e : askedOk limit guarantees wishes (length grants) ≡ true) where
+    module _ (e : streetOk limit guarantees wishes (length grants) ≡ true) where
       pub granted-answer : grantingOf limit guarantees wishes (length grants) ≡ 0
       unfolding grantingOf
       granted-answer = rw e

@@ -11,11 +11,11 @@ use lib.Seq.{ext-getD, take-all}
 use Rattle.model.specs.Numbers.{at, unless, sumOf}
 use Rattle.numbers.specs.Tests.{never}
 use Rattle.numbers.specs.SumLaws.{sum-start, sum-more}
-use Rattle.model.specs.Street.{Asked, askedOk, grantsOf, grantingOf, grantsAfter, Fair, Ends}
+use Rattle.model.specs.Street.{GrantRequest, streetOk, grantsOf, grantingOf, grantsAfter, Fair, GrantEnds}
 use Rattle.street.specs.StreetLaws.{asked-limits, limits-asked, grants-length, grants-limit, grants-sure, grants-wish, grants-order, grants-whole}
 
 -- 1: the grants are so
-pub fair : (limit : ℕ) (guarantees wishes : List ℕ) → Asked limit guarantees wishes → Fair limit guarantees wishes (grantsOf limit guarantees wishes)
+pub fair : (limit : ℕ) (guarantees wishes : List ℕ) → GrantRequest limit guarantees wishes → Fair limit guarantees wishes (grantsOf limit guarantees wishes)
 fair limit guarantees wishes h = record {
   ramps = grants-length limit guarantees wishes;
   limited = grants-limit limit guarantees wishes h;
@@ -70,47 +70,47 @@ module _ {limit : ℕ} {guarantees wishes : List ℕ} where
       (λ (m : k < i). agree f g i (omega arith) k m)
       (eq-or-lt-of-le (le-of-suc-le-suc a))
 
-  pub fair-unique : Asked limit guarantees wishes → (x : List ℕ) → Fair limit guarantees wishes x → x ≡ grantsOf limit guarantees wishes
+  pub fair-unique : GrantRequest limit guarantees wishes → (x : List ℕ) → Fair limit guarantees wishes x → x ≡ grantsOf limit guarantees wishes
   fair-unique h x f =
       let g = fair limit guarantees wishes h in
       ext-getD 0 x _ (f .ramps ∙ sym (g .ramps)) (λ k l. agree f g (length guarantees) (le-refl _) k (omega (arith, f .ramps)))
 
 -- 4: every answer is one of them
 module _ (limit : ℕ) (guarantees wishes grants : List ℕ) where
-  pub ends : Ends limit guarantees wishes grants (grantingOf limit guarantees wishes (length grants)) (grantsAfter limit guarantees wishes grants)
+  pub ends : GrantEnds limit guarantees wishes grants (grantingOf limit guarantees wishes (length grants)) (grantsAfter limit guarantees wishes grants)
   unfolding grantingOf grantsAfter
-  ends = go (askedOk limit guarantees wishes (length grants)) refl
+  ends = go (streetOk limit guarantees wishes (length grants)) refl
     where
-      go : (a : Bool) → askedOk limit guarantees wishes (length grants) ≡ a
-          → Ends limit guarantees wishes grants (unless a 24 0) (unless a grants (grantsOf limit guarantees wishes))
+      go : (a : Bool) → streetOk limit guarantees wishes (length grants) ≡ a
+          → GrantEnds limit guarantees wishes grants (unless a 24 0) (unless a grants (grantsOf limit guarantees wishes))
       go true e =
           let asked = asked-limits limit guarantees wishes (length grants) e in
-          Ends.granted (asked .0) (asked .1) (fair limit guarantees wishes (asked .0))
-      go false e = Ends.refused (λ asked same. never (limits-asked limit guarantees wishes (length grants) asked same) e)
+          GrantEnds.granted (asked .0) (asked .1) (fair limit guarantees wishes (asked .0))
+      go false e = GrantEnds.refused (λ asked same. never (limits-asked limit guarantees wishes (length grants) asked same) e)
 
 -- an answer and grants that are those of the definitions are one of them; so a contract may promise all three
 pub ended : (limit : ℕ) (guarantees wishes grants : List ℕ) {number : ℕ} {left : List ℕ}
     → number ≡ grantingOf limit guarantees wishes (length grants) → left ≡ grantsAfter limit guarantees wishes grants
     → (number ≡ grantingOf limit guarantees wishes (length grants)) × ((left ≡ grantsAfter limit guarantees wishes grants)
-    × Ends limit guarantees wishes grants number left)
+    × GrantEnds limit guarantees wishes grants number left)
 ended limit guarantees wishes grants e f = (e, (f, rw (e, f) (ends limit guarantees wishes grants)))
 
 -- 5: 24 exactly where a limit is passed; it leaves the lent grants unchanged
 module _ {limit : ℕ} {guarantees wishes grants : List ℕ} where
-  refused-not : {number : ℕ} {left : List ℕ} → Ends limit guarantees wishes grants number left → number ≡ 24
-      → Asked limit guarantees wishes → length grants ≡ length guarantees → ⊥
-  refused-not (Ends.refused h) e asked same = h asked same
-  refused-not (Ends.granted q s f) e asked same = omega arith
+  refused-not : {number : ℕ} {left : List ℕ} → GrantEnds limit guarantees wishes grants number left → number ≡ 24
+      → GrantRequest limit guarantees wishes → length grants ≡ length guarantees → ⊥
+  refused-not (GrantEnds.refused h) e asked same = h asked same
+  refused-not (GrantEnds.granted q s f) e asked same = omega arith
 
-  not-refused : {number : ℕ} {left : List ℕ} → Ends limit guarantees wishes grants number left
-      → (Asked limit guarantees wishes → length grants ≡ length guarantees → ⊥) → (number ≡ 24) × (left ≡ grants)
-  not-refused (Ends.refused h) n = (refl, refl)
-  not-refused (Ends.granted q s f) n = absurd (n q s)
+  not-refused : {number : ℕ} {left : List ℕ} → GrantEnds limit guarantees wishes grants number left
+      → (GrantRequest limit guarantees wishes → length grants ≡ length guarantees → ⊥) → (number ≡ 24) × (left ≡ grants)
+  not-refused (GrantEnds.refused h) n = (refl, refl)
+  not-refused (GrantEnds.granted q s f) n = absurd (n q s)
 
 module _ (limit : ℕ) (guarantees wishes grants : List ℕ) where
-  pub refused-only : grantingOf limit guarantees wishes (length grants) ≡ 24 → Asked limit guarantees wishes → length grants ≡ length guarantees → ⊥
+  pub refused-only : grantingOf limit guarantees wishes (length grants) ≡ 24 → GrantRequest limit guarantees wishes → length grants ≡ length guarantees → ⊥
   refused-only = refused-not (ends limit guarantees wishes grants)
 
-  pub refused-if : (Asked limit guarantees wishes → length grants ≡ length guarantees → ⊥)
+  pub refused-if : (GrantRequest limit guarantees wishes → length grants ≡ length guarantees → ⊥)
       → (grantingOf limit guarantees wishes (length grants) ≡ 24) × (grantsAfter limit guarantees wishes grants ≡ grants)
   refused-if = not-refused (ends limit guarantees wishes grants)

@@ -5,7 +5,7 @@ ghost use mathlib.Core.Path.{_≡_};
 ghost use Prim.Native.Nat.{min};
 ghost use lib.ListN.{length};
 ghost use Rattle.model.specs.Refusals.{refusalNumber};
-ghost use Rattle.model.specs.Street.{Asked, frameOk, askedOk, restBefore, grantsOf, grantingOf, grantsAfter, Ends};
+ghost use Rattle.model.specs.Street.{GrantRequest, streetFrameOk, streetOk, restBefore, grantsOf, grantingOf, grantsAfter, GrantEnds};
 
 fn smaller(a: u32, b: u32) -> u32
     ensures { λ r. ⌜ r ≡ min a b ⌝ }
@@ -15,7 +15,7 @@ fn smaller(a: u32, b: u32) -> u32
 
 // The counts of 24, and its limit.
 fn frame_within(limit: u32, ramps: usize, wishes: usize, places: usize) -> bool
-    ensures { λ r. ⌜ r ≡ frameOk limit ramps wishes places ⌝ }
+    ensures { λ r. ⌜ r ≡ streetFrameOk limit ramps wishes places ⌝ }
 {
     (1 <= ramps)
         & ((ramps <= Road::RAMPS)
@@ -24,7 +24,7 @@ fn frame_within(limit: u32, ramps: usize, wishes: usize, places: usize) -> bool
 
 // Whether all limits of 24 are kept.
 fn asked_within(limit: u32, guarantees: &[u32], wishes: &[u32], places: usize) -> bool
-    ensures { λ r. ⌜ r ≡ askedOk limit (now (guarantees .entry)) (now (wishes .entry)) places ⌝ }
+    ensures { λ r. ⌜ r ≡ streetOk limit (now (guarantees .entry)) (now (wishes .entry)) places ⌝ }
 {
     if !frame_within(limit, guarantees.len(), wishes.len(), places) {
         return false;
@@ -40,7 +40,7 @@ fn asked_within(limit: u32, guarantees: &[u32], wishes: &[u32], places: usize) -
 
 // What the smaller of wish and guarantee of every ramp leaves of the limit.
 fn rest(limit: u32, guarantees: &[u32], wishes: &[u32]) -> u32
-    requires { ⌜ Asked limit (now guarantees) (now wishes) ⌝ }
+    requires { ⌜ GrantRequest limit (now guarantees) (now wishes) ⌝ }
     ensures { λ r. ⌜ r ≡ restBefore limit (now (guarantees .entry)) (now (wishes .entry)) 0 ⌝ }
 {
     let mut left = limit;
@@ -54,7 +54,7 @@ fn rest(limit: u32, guarantees: &[u32], wishes: &[u32]) -> u32
 
 // Gives each ramp the smaller of its wish and its guarantee, and what remains in ramp order.
 fn share(limit: u32, guarantees: &[u32], wishes: &[u32], grants: &mut [u32])
-    requires { ⌜ (Asked limit (now guarantees) (now wishes)) × (length (now grants) ≡ length (now guarantees)) ⌝ }
+    requires { ⌜ (GrantRequest limit (now guarantees) (now wishes)) × (length (now grants) ≡ length (now guarantees)) ⌝ }
     ensures { λ _. ⌜ now (grants .exit) ≡ grantsOf limit (now (guarantees .entry)) (now (wishes .entry)) ⌝ }
 {
     let mut left = rest(limit, guarantees, wishes);
@@ -73,7 +73,7 @@ fn share(limit: u32, guarantees: &[u32], wishes: &[u32], grants: &mut [u32])
 pub fn grant(limit: u32, guarantees: &[u32], wishes: &[u32], grants: &mut [u32]) -> Refusal
     ensures answer { λ r. ⌜ refusalNumber r ≡ grantingOf limit (now (guarantees .entry)) (now (wishes .entry)) (length (now (grants .entry))) ⌝ }
     ensures grants { λ r. ⌜ now (grants .exit) ≡ grantsAfter limit (now (guarantees .entry)) (now (wishes .entry)) (now (grants .entry)) ⌝ }
-    ensures ends { λ r. ⌜ Ends limit (now (guarantees .entry)) (now (wishes .entry)) (now (grants .entry)) (refusalNumber r) (now (grants .exit)) ⌝ }
+    ensures ends { λ r. ⌜ GrantEnds limit (now (guarantees .entry)) (now (wishes .entry)) (now (grants .entry)) (refusalNumber r) (now (grants .exit)) ⌝ }
 {
     if !asked_within(limit, guarantees, wishes, grants.len()) {
         return Refusal::StreetInput;

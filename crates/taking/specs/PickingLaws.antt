@@ -58,7 +58,7 @@ module _ (s : List ℕ) (n t : ℕ) where
       go true = length-fill (numberAt s n t) (rowNumbers n) noNumbers ∙ length-replicate {A = ℕ} (rowNumbers mostCells) 0
       go false = length-replicate {A = ℕ} (rowNumbers mostCells) 0
 
--- the loop over a row's numbers: the first k stand in l
+-- the loop over a row's numbers: l holds the first k
 pub record RowTaken (s : List ℕ) (n t : ℕ) (l : List ℕ) (k : ℕ) : Type 0 where
   pub within : k ≤ rowNumbers n
   pub numbers : l ≡ fillOf (numberAt s n t) k noNumbers

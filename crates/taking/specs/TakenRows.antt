@@ -1,4 +1,4 @@
--- docs/MODEL.md, 'The numbers of a row': what taking the rows of a record that reads promises. They are the record's rows, what stands beyond
+-- docs/MODEL.md, 'The numbers of a row': what taking the rows of a record that reads promises. They are the record's rows, what is beyond
 -- them in the list is kept, and writing them with what was read gives the record's bytes again. Assumes nothing.
 use mathlib.Core.Path.{_≡_, refl, ap, _∙_}
 use mathlib.Core.List.{List}
@@ -42,7 +42,7 @@ module _ (s : List ℕ) (reads : readingOf s .number ≡ 0) (list : List ℕ)
   pub list-row : (t : ℕ) → t < T → rowAt (takenList s n T list) (rowNumbers n) t ≡ recordRow s n t
   list-row t l = taken-row s n T list within t l ∙ record-row t l
 
-  -- what stands beyond the rows is kept
+  -- what is beyond the rows is kept
   pub list-beyond : drop (T * rowNumbers n) (takenList s n T list) ≡ drop (T * rowNumbers n) list
   list-beyond = taken-past s n T list within
 

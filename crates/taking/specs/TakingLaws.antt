@@ -82,7 +82,7 @@ module _ (bytes : List ℕ) (n T : ℕ) (list : List ℕ) (r : Roomy n T (length
   taken-row t l =
       ap (λ (x : List ℕ). rowAt x (rowNumbers n) t) list-front ∙ front-row (takenRow bytes n) (rowNumbers n) size list T t l
 
-  -- what stands beyond the rows is kept
+  -- what is beyond the rows is kept
   pub taken-past : drop (T * rowNumbers n) (takenList bytes n T list) ≡ drop (T * rowNumbers n) list
   taken-past = ap (drop (T * rowNumbers n)) list-front ∙ front-past (takenRow bytes n) (rowNumbers n) size list T
 
@@ -93,7 +93,7 @@ module _ (bytes : List ℕ) (n T : ℕ) (list : List ℕ) (r : Roomy n T (length
       ∙ ap (take (T * rowNumbers n)) list-front
       ∙ front-rows (takenRow bytes n) (rowNumbers n) size list T
 
--- the loop over a row's numbers: the first k stand in the part
+-- the loop over a row's numbers: the part holds the first k
 pub record CopiedRow (row start part : List ℕ) (k : ℕ) : Type 0 where
   pub within : k ≤ length start
   pub numbers : part ≡ fillOf (at row) k start
@@ -122,7 +122,7 @@ module _ {row start : List ℕ} where
         let i-in : i < length start = omega (arith, length-fill (at row) (length start) start) in
         fill-at (at row) (length start) start i i-in (omega arith) ∙ sym (getD-take (length start) row i 0 i-in))
 
--- the loop over the steps: the rows of the first t stand in the list, and the next begins at `from`
+-- the loop over the steps: the rows of the first t are in the list, and the next begins at `from`
 pub record Listed (bytes : List ℕ) (n T : ℕ) (list out : List ℕ) (from t : ℕ) : Type 0 where
   pub within : t ≤ T
   pub place : from ≡ t * rowNumbers n
@@ -160,7 +160,7 @@ module _ {bytes : List ℕ} {n T : ℕ} {list : List ℕ} where
           rows = front-more (takenRow bytes n) (rowNumbers n) (size bytes n T list r) list t out part from (h .rows) e (h .place);
         }
 
-    -- all rows stand in the list
+    -- all rows are in the list
     pub listed-end : T ≤ t → (from ≡ takenCount n T (length list)) × (out ≡ takenList bytes n T list)
     listed-end m =
         let e : t ≡ T = omega (arith, h .within) in (

@@ -20,7 +20,7 @@ use Rattle.theory.specs.Roads.{Alike, share-alike}
 use Rattle.theory.specs.Finer.{timesOf, reachOf, thousandsOf}
 use Rattle.theory.specs.FinerRules.{place-most, place-least}
 use Rattle.theory.specs.FinerLaws.{FinerRoad, finer-alike, finer-onward, reach-on, reach-pos, reach-le, reach-alike}
-use Rattle.theory.specs.Coupled.{Coupled, sized-finer}
+use Rattle.theory.specs.Coupling.{Coupling, sized-finer}
 use Rattle.theory.specs.StepRules.{Decided, demand-most, demand-least, room-most, room-least}
 
 -- F and onward total of t are beyond K times those of s by U thousands at most: F times the product R of the shares from its place on, the onward
@@ -65,7 +65,7 @@ widen x y U T P W l h = omega (arith, mul-le-mul-left P l)
 widen-one : (x y U T W : ℕ) → W ≤ T → x < y + U * T + W → x ≤ y + (U + 1) * T
 widen-one x y U T W l h = omega arith
 
--- the laws of a place's step, with the product P of shares and their thousands D told by equations
+-- the laws of a place's step, with the product P of shares and their thousands D given by equations
 module _ (K b W T P D Z G G′ M M′ N N′ : ℕ) (k : 0 < K) (some : W ≤ T) (v : P ≡ b * W) (d : D ≡ whole * T) where
   most-at : G′ * P ≤ K * G * P + Z * D → M′ * W ≤ K * M * W + Z * T → N′ ≤ G′ → onwardOf b N′ ≤ M′ → (N ≡ G) ⊎ (onwardOf b N ≡ M)
       → (N′ * P ≤ K * N * P + (Z + K) * D) × (onwardOf b N′ * W ≤ K * onwardOf b N * W + (Z + K) * T)
@@ -80,7 +80,7 @@ module _ (K b W T P D Z G G′ M M′ N N′ : ℕ) (k : 0 < K) (some : W ≤ T)
       rw (v, d) (place-least K b W T Z G G′ M M′ N N′ k some g′ m l o e)
 
 module _ (K : ℕ) (q q′ : Road) (s t : State) (row y z : List ℕ) (k : 0 < K) (road : RoadOk q) (f : FinerRoad K q q′)
-    (own : Obeys q s row y) (fine : Obeys q′ t (timesOf K row) z) (c : Coupled K q s t) where
+    (own : Obeys q s row y) (fine : Obeys q′ t (timesOf K row) z) (c : Coupling K q s t) where
   abbrev S′ : State
   S′ = nextOf q s row y
 

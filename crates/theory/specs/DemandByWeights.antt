@@ -10,9 +10,10 @@ use borrow.Author.Tests.{ne-eqb}
 use Rattle.numbers.specs.Tests.{order}
 use Rattle.model.specs.Schedules.{Study, tableSize, scheduleAfter, engineAfter, proposedAt, scheduledAt}
 use Rattle.theory.specs.RunsLaws.{Fitting, StudyOk, rivals-self, run-weighted}
-use Rattle.model.specs.Weights.{weightedTotal, Falling, weighingOf, weighedIn}
+use Rattle.model.specs.Weights.{weightedTotal, Falling, weightedTotalOfRun, weightedTotalOfSchedule}
 use Rattle.theory.specs.WeightsLaws.{weighted-total-same, weighted-total-none}
 use Rattle.model.specs.Reading.{readingOf, studyOf}
+use Rattle.reading.specs.Numbers.{read-numbers}
 use Rattle.model.specs.Running.{runSays, firstStep, stepsMade, openingOf, runningOf, tableOf, listAfter}
 use Rattle.model.specs.Judging.{judgeSays, judgingOf}
 use Rattle.theory.specs.SchedulesLaws.{step-before, end-made, run-fits}
@@ -29,6 +30,10 @@ module _ (bytes lanes : List ℕ) (taken : Taken bytes lanes) (list : List ℕ) 
 
   ok : StudyOk (studyOf bytes lanes)
   ok = readable bytes lanes (readingOf bytes) refl (taken .reads) (taken .opens) .ok
+
+  -- no step is done at a record's start
+  zero : studyOf bytes lanes .start .done ≡ 0
+  zero = read-numbers bytes (readingOf bytes) refl (taken .reads) .done
 
   abbrev K : ℕ
   K = firstStep (runSays a) (a .steps)
@@ -59,13 +64,13 @@ module _ (bytes lanes : List ℕ) (taken : Taken bytes lanes) (list : List ℕ) 
   -- as many steps are made as the state returned has done, by running and by judging, and a schedule reaches those that are judged
   run-made : stepsMade (studyOf bytes lanes) (runningOf bytes lanes list) ≡ runningOf bytes lanes list .state .done
   run-made = ⊎-elim
-      (λ (l : tableSize a ≤ length list). rw (runs-long bytes lanes taken list l) (end-made a (runSays a) (engineAfter a) ∙ sym (run-done a ok)))
+      (λ (l : tableSize a ≤ length list). rw (runs-long bytes lanes taken list l) (omega (arith, end-made a (runSays a) (engineAfter a), run-done a ok, zero)))
       (λ (l : length list < tableSize a). rw (runs-short bytes lanes taken list l) refl)
       (order (tableSize a) (length list))
 
   judge-made : (zs : List ℕ) → stepsMade (studyOf bytes lanes) (judgingOf bytes lanes zs) ≡ judgingOf bytes lanes zs .state .done
   judge-made zs = ⊎-elim
-      (λ (l : length zs ≡ tableSize a). rw (judges-ends bytes lanes taken zs l) (end-made a (judgeSays a zs) (scheduledAt a zs) ∙ sym (judge-done a ok zs)))
+      (λ (l : length zs ≡ tableSize a). rw (judges-ends bytes lanes taken zs l) (omega (arith, end-made a (judgeSays a zs) (scheduledAt a zs), judge-done a ok zs, zero)))
       (λ (n : length zs ≡ tableSize a → ⊥). rw (judges-length bytes lanes taken zs n) refl)
       (sized bytes lanes taken zs)
 
@@ -78,18 +83,19 @@ module _ (bytes lanes : List ℕ) (taken : Taken bytes lanes) (list : List ℕ) 
 
   module _ (w u : ℕ → ℕ) where
     own : (k : ℕ) → k ≤ stepsMade (studyOf bytes lanes) (runningOf bytes lanes list)
-        → weighedIn w u (studyOf bytes lanes) (listAfter bytes lanes list) k ≡ weightedTotal w u (studyOf bytes lanes .road .n) (engineAfter (studyOf bytes lanes)) k
+        → weightedTotalOfSchedule w u (studyOf bytes lanes) (listAfter bytes lanes list) k
+        ≡ weightedTotal w u (studyOf bytes lanes .road .n) (engineAfter (studyOf bytes lanes)) k
     own k l = weighted-total-same w u (a .road .n) (scheduledAt a (listAfter bytes lanes list)) (engineAfter a) k (λ j m. states (suc j) (omega arith))
 
     best : Falling w (studyOf bytes lanes .road .n) → (zs : List ℕ) (k : ℕ) → k ≤ stepsMade (studyOf bytes lanes) (runningOf bytes lanes list)
         → Reaches (studyOf bytes lanes) zs k
-        → weighedIn w u (studyOf bytes lanes) (listAfter bytes lanes list) k ≤ weighedIn w u (studyOf bytes lanes) zs k
+        → weightedTotalOfSchedule w u (studyOf bytes lanes) (listAfter bytes lanes list) k ≤ weightedTotalOfSchedule w u (studyOf bytes lanes) zs k
     best falling zs k l reach =
         rw (own k l)
         (run-weighted a a (proposedAt a zs) k (rivals-self a ok k) (λ j m. fits j (omega (arith, made))) (reach .obeys) (ok .road) w u falling)
 
-    pub weighted-demand : WeightedDemand bytes lanes w u (listAfter bytes lanes list) (runningOf bytes lanes list) (weighingOf w u bytes lanes list)
-    unfolding weighingOf
+    pub weighted-demand : WeightedDemand bytes lanes w u (listAfter bytes lanes list) (runningOf bytes lanes list) (weightedTotalOfRun w u bytes lanes list)
+    unfolding weightedTotalOfRun
     weighted-demand =
         let m = stepsMade a (runningOf bytes lanes list) in
         record {
@@ -102,23 +108,23 @@ module _ (bytes lanes : List ℕ) (taken : Taken bytes lanes) (list : List ℕ) 
 
 -- how the number ends: 0 where the run did not begin, else that of the steps before the first fault
 module _ (w u : ℕ → ℕ) (bytes lanes list : List ℕ) where
-  weighed-none : stepsMade (studyOf bytes lanes) (runningOf bytes lanes list) ≡ 0 → weighingOf w u bytes lanes list ≡ 0
-  unfolding weighingOf
+  weighed-none : stepsMade (studyOf bytes lanes) (runningOf bytes lanes list) ≡ 0 → weightedTotalOfRun w u bytes lanes list ≡ 0
+  unfolding weightedTotalOfRun
   weighed-none e =
       ap (weightedTotal w u (studyOf bytes lanes .road .n) (engineAfter (studyOf bytes lanes))) e
       ∙ weighted-total-none w u (studyOf bytes lanes .road .n) (engineAfter (studyOf bytes lanes))
 
-  pub weighs-unopened : (openingOf bytes lanes .number ≡ 0 → ⊥) → weighingOf w u bytes lanes list ≡ 0
+  pub weighs-unopened : (openingOf bytes lanes .number ≡ 0 → ⊥) → weightedTotalOfRun w u bytes lanes list ≡ 0
   weighs-unopened h = weighed-none (rw (runs-unopened bytes lanes h list, ne-eqb (openingOf bytes lanes .number) 0 h) refl)
 
   module _ (taken : Taken bytes lanes) where
-    pub weighs-short : length list < tableSize (studyOf bytes lanes) → weighingOf w u bytes lanes list ≡ 0
+    pub weighs-short : length list < tableSize (studyOf bytes lanes) → weightedTotalOfRun w u bytes lanes list ≡ 0
     weighs-short l = weighed-none (rw (runs-short bytes lanes taken list l) refl)
 
     pub weighs-long : tableSize (studyOf bytes lanes) ≤ length list
-        → weighingOf w u bytes lanes list
+        → weightedTotalOfRun w u bytes lanes list
         ≡ weightedTotal w u (studyOf bytes lanes .road .n) (engineAfter (studyOf bytes lanes)) (firstStep (runSays (studyOf bytes lanes)) (studyOf bytes lanes .steps))
-    unfolding weighingOf
+    unfolding weightedTotalOfRun
     weighs-long l =
         let a = studyOf bytes lanes in
         ap (weightedTotal w u (a .road .n) (engineAfter a)) (ap (stepsMade a) (runs-long bytes lanes taken list l) ∙ end-made a (runSays a) (engineAfter a))

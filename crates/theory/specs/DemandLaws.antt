@@ -1,7 +1,7 @@
 -- The comparison of the engine's run with any schedule of a study. Assumes nothing.
 use mathlib.Core.Path.{_≡_, refl, sym, ap, _∙_}
 use mathlib.Core.List.{List}
-use Prim.Native.Nat.{ℕ, zero, suc, _≤_, _<_}
+use Prim.Native.Nat.{ℕ, _+_, zero, suc, _≤_, _<_}
 use native.Mathlib.Nat.{le-refl}
 use native.Mathlib.Omega.{arith}
 use Rattle.model.specs.declared.Road.{Road}
@@ -70,18 +70,18 @@ module _ (a : Study) (ok : StudyOk a) where
         ∙ sym (end-all a (runSays a) (engineAfter a) e)
 
   -- the states that are returned: those after the steps made
-  pub run-done : runEnd a .state .done ≡ K
+  pub run-done : runEnd a .state .done ≡ a .start .done + K
   run-done =
       ap (λ (u : State). u .done) (end-state a (runSays a) (engineAfter a))
       ∙ run-reached a ok K (step-within (runSays a) (a .steps)) (step-before (runSays a) (a .steps)) .done
 
-  pub judge-done : (zs : List ℕ) → judgeEnd a zs .state .done ≡ J zs
+  pub judge-done : (zs : List ℕ) → judgeEnd a zs .state .done ≡ a .start .done + J zs
   judge-done zs =
       ap (λ (u : State). u .done) (end-state a (judgeSays a zs) (scheduledAt a zs))
       ∙ judge-reached a ok zs (J zs) (step-within (judgeSays a zs) (a .steps)) (step-before (judgeSays a zs) (a .steps)) .done
 
   pub returned-ahead : (zs : List ℕ) → runEnd a .state .done ≡ judgeEnd a zs .state .done → Ahead (a .road) (runEnd a .state) (judgeEnd a zs .state)
   returned-ahead zs e =
-      let k : K ≡ J zs = sym run-done ∙ e ∙ judge-done zs in
+      let k : K ≡ J zs = omega (arith, run-done, e, judge-done zs) in
       rw (end-state a (runSays a) (engineAfter a), end-state a (judgeSays a zs) (scheduledAt a zs), ← k)
       (engine-best zs K (le-refl K) (λ j l. faults-obeys a ok zs j (omega (arith, k))))

@@ -76,13 +76,13 @@ module _ (bytes lanes : List ℕ) (taken : Taken bytes lanes) where
   run-fresh : runEnd a .state .done ≡ 0 → Fresh (a .road) (runEnd a .state)
   unfolding engineAfter
   run-fresh h =
-      let z : K ≡ 0 = sym (run-done a ok) ∙ h in
+      let z : K ≡ 0 = omega (arith, run-done a ok, h) in
       subst⁻¹ (Fresh (a .road)) (end-state a (runSays a) (engineAfter a) ∙ ap (engineAfter a) z) fresh-start
 
   judge-fresh : (zs : List ℕ) → judgeEnd a zs .state .done ≡ 0 → Fresh (a .road) (judgeEnd a zs .state)
   unfolding scheduleAfter
   judge-fresh zs h =
-      let z : J zs ≡ 0 = sym (judge-done a ok zs) ∙ h in
+      let z : J zs ≡ 0 = omega (arith, judge-done a ok zs, h) in
       subst⁻¹ (Fresh (a .road)) (end-state a (judgeSays a zs) (scheduledAt a zs) ∙ ap (scheduledAt a zs) z) fresh-start
 
   -- a schedule of the right length, or not

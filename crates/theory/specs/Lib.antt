@@ -19,6 +19,7 @@ pub mod SchedulesLaws
 pub mod TableLaws
 pub mod Readable
 pub mod Opening
+pub mod Started
 pub mod RunEnds
 pub mod DemandLaws
 pub mod DemandWhole
@@ -38,7 +39,7 @@ pub mod Finer
 pub mod Worked
 pub mod FinerRules
 pub mod FinerLaws
-pub mod Coupled
+pub mod Coupling
 pub mod StepRules
 pub mod WholeShares
 pub mod AnyShares
@@ -47,3 +48,4 @@ pub mod NearRuns
 pub mod Present
 pub mod Rounding
 pub mod Totals
+pub mod GoingOn

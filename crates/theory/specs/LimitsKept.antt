@@ -1,4 +1,4 @@
--- The limits of 7 are kept by every step that obeys the rules, so a run never meets 7, nor 8 before step 1,440. Assumes nothing.
+-- The limits of 7 are kept by every step that obeys the rules, so a run is never refused with 7, nor with 8 before step 1,440. Assumes nothing.
 use mathlib.Core.Path.{_≡_}
 use mathlib.Core.Bool.{true}
 use mathlib.Core.List.{List}
@@ -78,7 +78,7 @@ module _ (r : Road) (s : State) (row y : List ℕ) (ok : InputOk r s row) (z : S
       cumulative = rw (next-done r s row y) (λ i l. cumulative-kept (suc i) l (ok .state .cumulative i l));
     }
 
--- after a step on its road q that is not refused, the next one meets no 7 with a row within its limits, and no 8 before step 1,440
+-- after a step on its road q that is not refused, the next one is not refused with 7 if its row is within the limits, nor with 8 before step 1,440
 module _ (r q : Road) (h : StepRoad r q) (s : State) (row : List ℕ) (z : Sized q s) (in-limits : inputOk r s row ≡ true) (d : s .done < mostSteps)
     (ok : Released q s row) where
   abbrev N : State

@@ -86,7 +86,7 @@ module _ (r : Road) (s : State) (row y : List ℕ) where
       cumulative = omega (arith, length-fill (cumulativeOf s y) (r .n) (s .cumulative), z .cumulative);
     }
 
--- counting a step changes neither what is present nor where it stands
+-- counting a step changes neither what is present nor where it is
 pub counted-present : (r : Road) (s : State) → presentOf r (countedOf r s) ≡ presentOf r s
 unfolding countedOf
 counted-present r s = refl

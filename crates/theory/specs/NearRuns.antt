@@ -16,7 +16,7 @@ use Rattle.theory.specs.Roads.{Alike, step-alike, alike-back, share-alik
 use Rattle.theory.specs.RunsLaws.{Fitting, StudyOk, engine-schedule}
 use Rattle.theory.specs.Finer.{timesOf, scaledState, scaled, reachOf}
 use Rattle.theory.specs.FinerLaws.{FinerRoad, finer-alike}
-use Rattle.theory.specs.Coupled.{Coupled, coupled-on, coupled-back, coupled-start, coupled-step, scaled-nothing, onward-nothing}
+use Rattle.theory.specs.Coupling.{Coupling, coupled-on, coupled-back, coupled-start, coupled-step, scaled-nothing, onward-nothing}
 use Rattle.theory.specs.StepRules.{Decided, greatest-decided}
 use Rattle.theory.specs.WholeShares.{AllOn, all-on-alike, whole-most, whole-least}
 use Rattle.theory.specs.AnyShares.{Most, Least, most-alike, least-alike, most-step, least-step}
@@ -25,10 +25,12 @@ use Rattle.theory.specs.AnyShares.{Most, Least, most-alike, least-alike,
 abbrev pub Deciding : Study → (ℕ → List ℕ) → ℕ → Type 0
 Deciding a ys k = (j : ℕ) → j < k → Decided (roadAt a j) (scheduleAfter a ys j) (a .rows j) (ys j)
 
--- what the theorems ask of a study and of K
+-- what the theorems require of a study and of K
 pub record Countable (K : ℕ) (a : Study) : Type 0 where
   pub some : 0 < K
   pub ok : StudyOk a
+  -- no step is done at the start
+  pub zero : a .start .done ≡ 0
   pub roads : (j : ℕ) → FinerRoad K (roadAt a j) (roadAt (scaled K a) j)
 
 module _ {K : ℕ} {a : Study} (h : Countable K a) where
@@ -38,8 +40,8 @@ module _ {K : ℕ} {a : Study} (h : Countable K a) where
   -- before step 0 nothing has left
   pub nothing : (p : ℕ) → p ≤ a .road .n → cumulativeAt (a .start) p ≡ 0
   unfolding cumulativeAt
-  nothing zero l = omega (arith, h .ok .start .gateCumulative, h .ok .zero)
-  nothing (suc i) l = omega (arith, h .ok .start .cumulative i l, h .ok .zero)
+  nothing zero l = omega (arith, h .ok .start .gateCumulative, h .zero)
+  nothing (suc i) l = omega (arith, h .ok .start .cumulative i l, h .zero)
 
   step-on : (j : ℕ) → Alike (a .road) (roadAt a j)
   step-on j = step-alike (h .ok .roads j)
@@ -74,7 +76,7 @@ module _ {K : ℕ} {a : Study} (h : Countable K a) where
     abbrev T : ℕ → State
     T = scheduleAfter (scaled K a) zs
 
-    pub coupled : (k : ℕ) → Obeying a ys k → Obeying (scaled K a) zs k → Coupled K (a .road) (scheduleAfter a ys k) (scheduleAfter (scaled K a) zs k)
+    pub coupled : (k : ℕ) → Obeying a ys k → Obeying (scaled K a) zs k → Coupling K (a .road) (scheduleAfter a ys k) (scheduleAfter (scaled K a) zs k)
     unfolding scheduleAfter
     coupled zero own fine = coupled-start K r (a .start) (h .ok .road) nothing (h .ok .sized) (h .ok .start .held)
     coupled (suc k) own fine =

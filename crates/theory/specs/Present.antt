@@ -17,12 +17,12 @@ use Rattle.theory.specs.MoveLaws.{next-total, next-gate-time, next-ramp-
 use Rattle.theory.specs.Roads.{Alike, step-alike, alike-then, present-alike, queue-alike}
 use Rattle.theory.specs.Finer.{scaled}
 use Rattle.theory.specs.FinerLaws.{finer-alike}
-use Rattle.theory.specs.Coupled.{Coupled}
+use Rattle.theory.specs.Coupling.{Coupling}
 use Rattle.theory.specs.WholeShares.{AllOn, onward-all}
 use Rattle.theory.specs.NearRuns.{Deciding, Countable, coupled, whole-most-after, whole-least-after}
 
 -- ramp queues are K times as long, whatever the shares
-pub queues-finer : (K : ℕ) (r : Road) (s t : State) → Coupled K r s t → (k : ℕ) → k ≤ r .n → sumOf (take k (t .queue)) ≡ K * sumOf (take k (s .queue))
+pub queues-finer : (K : ℕ) (r : Road) (s t : State) → Coupling K r s t → (k : ℕ) → k ≤ r .n → sumOf (take k (t .queue)) ≡ K * sumOf (take k (s .queue))
 queues-finer K r s t c zero l = omega (arith, sum-start (t .queue), ap (λ (x : ℕ). K * x) (sum-start (s .queue)))
 queues-finer K r s t c (suc k) l =
     omega (
@@ -33,7 +33,7 @@ queues-finer K r s t c (suc k) l =
       ap (λ (x : ℕ). K * x) (sum-more k (s .queue) (omega (arith, c .sizedS .queue))),
     )
 
-module _ (K : ℕ) (r : Road) (on : AllOn r) (s t : State) (c : Coupled K r s t) where
+module _ (K : ℕ) (r : Road) (on : AllOn r) (s t : State) (c : Coupling K r s t) where
   -- the gate and the first k cells, with what has left the last of them
   prefix : (k : ℕ) → k ≤ r .n
       → t .«gate_queue» + sumOf (take k (t .held)) + cumulativeAt t k ≡ K * (s .«gate_queue» + sumOf (take k (s .held)) + cumulativeAt s k)

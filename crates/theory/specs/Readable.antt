@@ -43,8 +43,7 @@ readable bytes lanes x e h f =
           queue = omega (arith, w .road .cells, m .queue);
           cumulative = omega (arith, w .road .cells, m .cumulative);
         };
-        zero = read-numbers bytes x e h .done;
-        steps = w .steps;
+        steps = omega (arith, w .steps, read-numbers bytes x e h .done);
         row = w .row;
       };
       row = read-row bytes x e h;

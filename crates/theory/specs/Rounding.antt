@@ -134,6 +134,7 @@ countable bytes lanes taken K some within =
     record {
       some = some;
       ok = x;
+      zero = read-numbers bytes (readingOf bytes) refl (taken .reads) .done;
       roads = ⊎-elim
           (λ (e : length lanes ≡ 0). roads-open K (studyOf bytes lanes) some e)
           (λ (m : K ≤ mostFiner). roads-closed K (studyOf bytes lanes) some m (omega (arith, x .road .cells, c)) x)

@@ -28,21 +28,20 @@ unfoldable pub arrivalsTo : Study → ℕ → ℕ
 arrivalsTo a zero = 0
 arrivalsTo a (suc k) = arrivalsTo a k + arrivalsOf (a .road) (a .rows k)
 
--- the limits of a study: of its road in every step, of the state before step 0 and of its T rows
+-- the limits of a study: of its road in every step, of its start, which may have steps done, and of its T rows
 pub record StudyOk (a : Study) : Type 0 where
   pub road : RoadOk (a .road)
   pub roads : (k : ℕ) → StepRoad (a .road) (roadAt a k)
   pub start : StateOk (a .road) (a .start)
   pub sized : Sized (a .road) (a .start)
-  pub zero : a .start .done ≡ 0
-  pub steps : a .steps ≤ mostSteps
+  pub steps : a .start .done + a .steps ≤ mostSteps
   pub row : (k : ℕ) → k < a .steps → RowOk (a .road) (a .rows k)
 
 -- a state after k steps that obeyed the rules is within the limits
 pub record Reached (a : Study) (u : State) (k : ℕ) : Type 0 where
   pub state : StateOk (a .road) u
   pub sized : Sized (a .road) u
-  pub done : u .done ≡ k
+  pub done : u .done ≡ a .start .done + k
 
 -- one step of a study: q is its road, u the state before it and row its numbers
 pub record StepOf (a : Study) (q : Road) (u : State) (row : List ℕ) (k : ℕ) : Type 0 where
@@ -87,7 +86,7 @@ module _ (a : Study) (ys : ℕ → List ℕ) (ok : StudyOk a) where
 
   pub reached : (k : ℕ) → k ≤ a .steps → Obeying a ys k → Reached a (scheduleAfter a ys k) k
   unfolding scheduleAfter
-  reached zero l h = record { state = ok .start; sized = ok .sized; done = ok .zero }
+  reached zero l h = record { state = ok .start; sized = ok .sized; done = omega arith }
   reached (suc k) l h =
       let p = reached k (omega arith) (λ j m. h j (omega arith)) in
       let u = scheduleAfter a ys k in

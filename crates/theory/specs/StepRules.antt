@@ -19,7 +19,7 @@ use Rattle.model.specs.Schedules.{Released, Greatest}
 use Rattle.theory.specs.Finer.{timesOf}
 use Rattle.theory.specs.FinerRules.{thousandths-most, thousandths-least, capped-most, capped-least}
 use Rattle.theory.specs.FinerLaws.{FinerRoad, finer-speed, finer-wave, finer-jam, times-at}
-use Rattle.theory.specs.Coupled.{Coupled}
+use Rattle.theory.specs.Coupling.{Coupling}
 
 -- as in the papers' rules: at each place the demand decides, or exactly the room enters; where nothing goes on, the demand
 pub record Decided (r : Road) (s : State) (row y : List ℕ) : Type 0 where
@@ -53,7 +53,7 @@ greatest-decided r s row y shares g = record {
       (order (demandAt r s p) (at y p));
 }
 
-module _ (K W X : ℕ) (q q′ : Road) (s t : State) (k : 0 < K) (w : 0 < W) (road : RoadOk q) (f : FinerRoad K q q′) (c : Coupled K q s t) where
+module _ (K W X : ℕ) (q q′ : Road) (s t : State) (k : 0 < K) (w : 0 < W) (road : RoadOk q) (f : FinerRoad K q q′) (c : Coupling K q s t) where
   -- what is left in a cell, on both sides
   space : (i : ℕ) → i < q .n
       → K * at (q .jam) i - at (t .held) i + onwardAt q t i + K * cumulativeAt s (suc i)

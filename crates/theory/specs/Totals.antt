@@ -21,7 +21,7 @@ use Rattle.model.specs.Demand.{Reaches}
 use Rattle.theory.specs.Finer.{scaled, reachOf, thousandsOf}
 use Rattle.theory.specs.FinerRules.{onward-floor, onward-above}
 use Rattle.theory.specs.FinerLaws.{reach-on, reach-le}
-use Rattle.theory.specs.Coupled.{Coupled}
+use Rattle.theory.specs.Coupling.{Coupling}
 use Rattle.theory.specs.AnyShares.{Most, Least}
 use Rattle.theory.specs.NearRuns.{Deciding, Countable, coupled, most-after, least-after, engine-decides, finer-decides}
 use Rattle.theory.specs.Present.{queues-finer, own-total, fine-total, own-gate-time, fine-gate-time, start-times, ramp-time-finer}
@@ -137,7 +137,7 @@ module _ (r : Road) (ok : RoadOk r) (on : SomeOn r) (x y u : ℕ) where
   from-gate zero l h = h
   from-gate (suc p) l h = from-gate p (omega arith) (before p l h)
 
-module _ (K Z : ℕ) (r : Road) (s t : State) (ok : RoadOk r) (on : SomeOn r) (c : Coupled K r s t) where
+module _ (K Z : ℕ) (r : Road) (s t : State) (ok : RoadOk r) (on : SomeOn r) (c : Coupling K r s t) where
   abbrev R : ℕ
   R = reachOf r 0
 

@@ -15,7 +15,7 @@ use Rattle.limits.specs.LimitsLaws.{RoadOk}
 use Rattle.model.specs.Places.{shareAt, cumulativeAt}
 use Rattle.theory.specs.RulesLaws.{onwardAt, Sized, share-gate, share-le, onward-last}
 use Rattle.model.specs.Move.{queueSum, presentOf}
-use Rattle.model.specs.Weights.{weighedSum, weightedOf, weightedTotal, Falling}
+use Rattle.model.specs.Weights.{weightedSum, weightedPresent, weightedTotal, Falling}
 use Rattle.theory.specs.WeightsLaws.{ones, weighted-ones}
 use Rattle.theory.specs.Roads.{Alike, onward-alike, sized-alike}
 
@@ -84,8 +84,8 @@ module _ (r : Road) (s t : State) (road : RoadOk r) (h : Level r s t) where
   module _ (w u : ℕ → ℕ) (falling : Falling w (r .n)) where
     -- the gate and the first k cells, with what has gone on from them at the weight of the last
     prefix : (k : ℕ) → k ≤ r .n
-        → w 0 * s .«gate_queue» + weighedSum (λ i. w (suc i)) (at (s .held)) k + w k * onwardAt r s k
-        ≤ w 0 * t .«gate_queue» + weighedSum (λ i. w (suc i)) (at (t .held)) k + w k * onwardAt r t k
+        → w 0 * s .«gate_queue» + weightedSum (λ i. w (suc i)) (at (s .held)) k + w k * onwardAt r s k
+        ≤ w 0 * t .«gate_queue» + weightedSum (λ i. w (suc i)) (at (t .held)) k + w k * onwardAt r t k
     prefix zero l =
         rw (share-gate r, onward-whole (cumulativeAt s 0), onward-whole (cumulativeAt t 0))
         (omega (
@@ -105,11 +105,11 @@ module _ (r : Road) (s t : State) (road : RoadOk r) (h : Level r s t) where
         )
 
     -- ramp queues are equal, so their weights may be any
-    same-ramps : weighedSum u (at (s .queue)) (r .n) ≡ weighedSum u (at (t .queue)) (r .n)
+    same-ramps : weightedSum u (at (s .queue)) (r .n) ≡ weightedSum u (at (t .queue)) (r .n)
     same-ramps = sum-list-same (λ i. u i * at (s .queue) i) (λ i. u i * at (t .queue) i) (r .n) (λ i l. ap (λ (x : ℕ). u i * x) (h .queues i l))
 
-    pub weighted-le : weightedOf w u (r .n) s ≤ weightedOf w u (r .n) t
-    unfolding weightedOf
+    pub weighted-le : weightedPresent w u (r .n) s ≤ weightedPresent w u (r .n) t
+    unfolding weightedPresent
     weighted-le =
         let e : (x : State) → w (r .n) * onwardAt r x (r .n) ≡ 0 = λ x. rw (onward-last r road x) (omega arith) in
         omega (arith, prefix (r .n) (le-refl (r .n)), same-ramps, e s, e t)
@@ -144,5 +144,5 @@ pub weighted-total-le : (w u : ℕ → ℕ) (r : Road) (f g : ℕ → State) (k 
     → ((j : ℕ) → j < k → Level r (f (suc j)) (g (suc j))) → weightedTotal w u (r .n) f k ≤ weightedTotal w u (r .n) g k
 unfolding weightedTotal
 weighted-total-le w u r f g k road falling h =
-    sum-list-le (λ j. weightedOf w u (r .n) (f (suc j))) (λ j. weightedOf w u (r .n) (g (suc j))) k
+    sum-list-le (λ j. weightedPresent w u (r .n) (f (suc j))) (λ j. weightedPresent w u (r .n) (g (suc j))) k
     (λ j l. weighted-le r (f (suc j)) (g (suc j)) road (h j l) w u falling)

@@ -11,7 +11,7 @@ use Rattle.model.specs.Schedules.{Study, proposedAt, scheduledAt}
 use Rattle.model.specs.Move.{heldSum, queueSum, presentOf}
 use Rattle.theory.specs.RulesLaws.{Sized}
 use Rattle.theory.specs.RunsLaws.{schedule-sized}
-use Rattle.model.specs.Weights.{weightedOf, weightedTotal, weighedIn}
+use Rattle.model.specs.Weights.{weightedPresent, weightedTotal, weightedTotalOfSchedule}
 use Rattle.theory.specs.WeightsLaws.{ones, none, gateAlone, cellsAlone, weighted-ones, weighted-gate, weighted-cells, weighted-ramps}
 use Rattle.model.specs.Reading.{readingOf, studyOf}
 use Rattle.theory.specs.Readable.{readable}
@@ -26,19 +26,19 @@ module _ (bytes lanes zs : List ℕ) (taken : Taken bytes lanes) (k : ℕ) (reac
   at-step : (j : ℕ) → Sized (a .road) (scheduledAt a zs (suc j))
   at-step j = schedule-sized a (proposedAt a zs) (readable bytes lanes (readingOf bytes) refl (taken .reads) (taken .opens) .ok) (suc j)
 
-  module _ (w u : ℕ → ℕ) (count : State → ℕ) (h : (s : State) → Sized (a .road) s → weightedOf w u (a .road .n) s ≡ count s) where
-    counts : weighedIn w u (studyOf bytes lanes) zs k ≡ sumOf (listOf (λ j. count (scheduledAt (studyOf bytes lanes) zs (suc j))) k)
+  module _ (w u : ℕ → ℕ) (count : State → ℕ) (h : (s : State) → Sized (a .road) s → weightedPresent w u (a .road .n) s ≡ count s) where
+    counts : weightedTotalOfSchedule w u (studyOf bytes lanes) zs k ≡ sumOf (listOf (λ j. count (scheduledAt (studyOf bytes lanes) zs (suc j))) k)
     unfolding weightedTotal
     counts = sum-list-same _ _ k (λ j l. h (scheduledAt a zs (suc j)) (at-step j))
 
-  pub ones-total : weighedIn ones ones (studyOf bytes lanes) zs k ≡ totalOf (scheduledAt (studyOf bytes lanes) zs k)
+  pub ones-total : weightedTotalOfSchedule ones ones (studyOf bytes lanes) zs k ≡ totalOf (scheduledAt (studyOf bytes lanes) zs k)
   ones-total = counts ones ones (presentOf (a .road)) (weighted-ones (a .road)) ∙ sym (accounts bytes lanes zs taken k reach .total)
 
-  pub gate-time : weighedIn gateAlone none (studyOf bytes lanes) zs k ≡ scheduledAt (studyOf bytes lanes) zs k .«gate_time»
+  pub gate-time : weightedTotalOfSchedule gateAlone none (studyOf bytes lanes) zs k ≡ scheduledAt (studyOf bytes lanes) zs k .«gate_time»
   gate-time = counts gateAlone none (λ s. s .«gate_queue») (weighted-gate (a .road)) ∙ sym (accounts bytes lanes zs taken k reach .gateTime)
 
-  pub road-time : weighedIn cellsAlone none (studyOf bytes lanes) zs k ≡ scheduledAt (studyOf bytes lanes) zs k .«road_time»
+  pub road-time : weightedTotalOfSchedule cellsAlone none (studyOf bytes lanes) zs k ≡ scheduledAt (studyOf bytes lanes) zs k .«road_time»
   road-time = counts cellsAlone none (heldSum (a .road)) (weighted-cells (a .road)) ∙ sym (accounts bytes lanes zs taken k reach .roadTime)
 
-  pub ramp-time : weighedIn none ones (studyOf bytes lanes) zs k ≡ scheduledAt (studyOf bytes lanes) zs k .«ramp_time»
+  pub ramp-time : weightedTotalOfSchedule none ones (studyOf bytes lanes) zs k ≡ scheduledAt (studyOf bytes lanes) zs k .«ramp_time»
   ramp-time = counts none ones (queueSum (a .road)) (weighted-ramps (a .road)) ∙ sym (accounts bytes lanes zs taken k reach .rampTime)

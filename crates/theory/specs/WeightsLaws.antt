@@ -8,7 +8,7 @@ use Rattle.model.specs.declared.Road.{Road}
 use Rattle.model.specs.declared.State.{State}
 use Rattle.model.specs.Move.{heldSum, queueSum, presentOf}
 use Rattle.theory.specs.RulesLaws.{Sized}
-use Rattle.model.specs.Weights.{weighedSum, weightedOf, weightedTotal}
+use Rattle.model.specs.Weights.{weightedSum, weightedPresent, weightedTotal}
 
 -- weight 1 everywhere and nowhere; of places at the gate alone, and at the cells alone
 abbrev pub ones : ℕ → ℕ
@@ -25,39 +25,39 @@ unfoldable pub cellsAlone : ℕ → ℕ
 cellsAlone zero = 0
 cellsAlone (suc i) = 1
 
-weighs-none : (count : ℕ → ℕ) (n : ℕ) → weighedSum none count n ≡ 0
+weighs-none : (count : ℕ → ℕ) (n : ℕ) → weightedSum none count n ≡ 0
 weighs-none count n =
     let e : min n 0 ≡ 0 = omega arith in
     let h = rw e at (sum-list-min (λ i. 0 * count i) 0 n (λ i l. omega arith)) in
     omega (arith, h, sum-list-none (λ i. 0 * count i))
 
 module _ (r : Road) (s : State) (z : Sized r s) where
-  weighs-held : weighedSum ones (at (s .held)) (r .n) ≡ heldSum r s
+  weighs-held : weightedSum ones (at (s .held)) (r .n) ≡ heldSum r s
   weighs-held = sum-list-take (λ i. 1 * at (s .held) i) (s .held) (r .n) (z .held) (λ i l. omega arith)
 
-  weighs-queues : weighedSum ones (at (s .queue)) (r .n) ≡ queueSum r s
+  weighs-queues : weightedSum ones (at (s .queue)) (r .n) ≡ queueSum r s
   weighs-queues = sum-list-take (λ i. 1 * at (s .queue) i) (s .queue) (r .n) (z .queue) (λ i l. omega arith)
 
   -- all weights 1 give present
-  pub weighted-ones : weightedOf ones ones (r .n) s ≡ presentOf r s
-  unfolding weightedOf
+  pub weighted-ones : weightedPresent ones ones (r .n) s ≡ presentOf r s
+  unfolding weightedPresent
   weighted-ones = omega (arith, weighs-held, weighs-queues)
 
   -- the gate alone gives the gate queue, the cells alone all held counts, the ramps alone all ramp queues
-  pub weighted-gate : weightedOf gateAlone none (r .n) s ≡ s .«gate_queue»
-  unfolding weightedOf gateAlone
+  pub weighted-gate : weightedPresent gateAlone none (r .n) s ≡ s .«gate_queue»
+  unfolding weightedPresent gateAlone
   weighted-gate =
-      let road : weighedSum (λ i. gateAlone (suc i)) (at (s .held)) (r .n) ≡ 0 = weighs-none (at (s .held)) (r .n) in
+      let road : weightedSum (λ i. gateAlone (suc i)) (at (s .held)) (r .n) ≡ 0 = weighs-none (at (s .held)) (r .n) in
       omega (arith, road, weighs-none (at (s .queue)) (r .n))
 
-  pub weighted-cells : weightedOf cellsAlone none (r .n) s ≡ heldSum r s
-  unfolding weightedOf cellsAlone
+  pub weighted-cells : weightedPresent cellsAlone none (r .n) s ≡ heldSum r s
+  unfolding weightedPresent cellsAlone
   weighted-cells =
-      let road : weighedSum (λ i. cellsAlone (suc i)) (at (s .held)) (r .n) ≡ heldSum r s = weighs-held in
+      let road : weightedSum (λ i. cellsAlone (suc i)) (at (s .held)) (r .n) ≡ heldSum r s = weighs-held in
       omega (arith, road, weighs-none (at (s .queue)) (r .n))
 
-  pub weighted-ramps : weightedOf none ones (r .n) s ≡ queueSum r s
-  unfolding weightedOf
+  pub weighted-ramps : weightedPresent none ones (r .n) s ≡ queueSum r s
+  unfolding weightedPresent
   weighted-ramps = omega (arith, weighs-none (at (s .held)) (r .n), weighs-queues)
 
 -- of the states only those after the k steps matter; one step more adds the weighted present after it
@@ -65,20 +65,20 @@ module _ (w u : ℕ → ℕ) (n : ℕ) where
   pub weighted-total-same : (f g : ℕ → State) (k : ℕ) → ((j : ℕ) → j < k → f (suc j) ≡ g (suc j)) → weightedTotal w u n f k ≡ weightedTotal w u n g k
   unfolding weightedTotal
   weighted-total-same f g k h =
-      sum-list-same (λ j. weightedOf w u n (f (suc j))) (λ j. weightedOf w u n (g (suc j))) k (λ j l. ap (weightedOf w u n) (h j l))
+      sum-list-same (λ j. weightedPresent w u n (f (suc j))) (λ j. weightedPresent w u n (g (suc j))) k (λ j l. ap (weightedPresent w u n) (h j l))
 
   pub weighted-total-none : (f : ℕ → State) → weightedTotal w u n f 0 ≡ 0
   unfolding weightedTotal
-  weighted-total-none f = sum-list-none (λ j. weightedOf w u n (f (suc j)))
+  weighted-total-none f = sum-list-none (λ j. weightedPresent w u n (f (suc j)))
 
-  pub weighted-total-more : (f : ℕ → State) (k : ℕ) → weightedTotal w u n f (suc k) ≡ weightedTotal w u n f k + weightedOf w u n (f (suc k))
+  pub weighted-total-more : (f : ℕ → State) (k : ℕ) → weightedTotal w u n f (suc k) ≡ weightedTotal w u n f k + weightedPresent w u n (f (suc k))
   unfolding weightedTotal
-  weighted-total-more f k = sum-list-more (λ j. weightedOf w u n (f (suc j))) k
+  weighted-total-more f k = sum-list-more (λ j. weightedPresent w u n (f (suc j))) k
 
 -- weights past cell n are not looked at
 module _ (w v u x : ℕ → ℕ) (n : ℕ) (places : (p : ℕ) → p ≤ n → w p ≡ v p) (ramps : (i : ℕ) → i < n → u i ≡ x i) where
-  pub weights-unread : (s : State) → weightedOf w u n s ≡ weightedOf v x n s
-  unfolding weightedOf
+  pub weights-unread : (s : State) → weightedPresent w u n s ≡ weightedPresent v x n s
+  unfolding weightedPresent
   weights-unread s =
       omega (
         arith,
@@ -90,4 +90,4 @@ module _ (w v u x : ℕ → ℕ) (n : ℕ) (places : (p : ℕ) → p ≤ n → w
   pub total-unread : (f : ℕ → State) (k : ℕ) → weightedTotal w u n f k ≡ weightedTotal v x n f k
   unfolding weightedTotal
   total-unread f k =
-      sum-list-same (λ j. weightedOf w u n (f (suc j))) (λ j. weightedOf v x n (f (suc j))) k (λ j l. weights-unread (f (suc j)))
+      sum-list-same (λ j. weightedPresent w u n (f (suc j))) (λ j. weightedPresent v x n (f (suc j))) k (λ j l. weights-unread (f (suc j)))

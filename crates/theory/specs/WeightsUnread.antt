@@ -7,15 +7,15 @@ use Rattle.model.specs.Schedules.{engineAfter, scheduledAt}
 use Rattle.theory.specs.WeightsLaws.{total-unread}
 use Rattle.model.specs.Reading.{studyOf}
 use Rattle.model.specs.Running.{stepsMade, runningOf}
-use Rattle.model.specs.Weights.{weighingOf, weighedIn}
+use Rattle.model.specs.Weights.{weightedTotalOfRun, weightedTotalOfSchedule}
 
 module _ (bytes lanes : List ℕ) (w v u x : ℕ → ℕ) (places : (p : ℕ) → p ≤ studyOf bytes lanes .road .n → w p ≡ v p)
     (ramps : (i : ℕ) → i < studyOf bytes lanes .road .n → u i ≡ x i) where
-  pub run-unread : (list : List ℕ) → weighingOf w u bytes lanes list ≡ weighingOf v x bytes lanes list
-  unfolding weighingOf
+  pub run-unread : (list : List ℕ) → weightedTotalOfRun w u bytes lanes list ≡ weightedTotalOfRun v x bytes lanes list
+  unfolding weightedTotalOfRun
   run-unread list =
       total-unread w v u x (studyOf bytes lanes .road .n) places ramps (engineAfter (studyOf bytes lanes))
       (stepsMade (studyOf bytes lanes) (runningOf bytes lanes list))
 
-  pub schedule-unread : (zs : List ℕ) (k : ℕ) → weighedIn w u (studyOf bytes lanes) zs k ≡ weighedIn v x (studyOf bytes lanes) zs k
+  pub schedule-unread : (zs : List ℕ) (k : ℕ) → weightedTotalOfSchedule w u (studyOf bytes lanes) zs k ≡ weightedTotalOfSchedule v x (studyOf bytes lanes) zs k
   schedule-unread zs k = total-unread w v u x (studyOf bytes lanes .road .n) places ramps (scheduledAt (studyOf bytes lanes) zs) k

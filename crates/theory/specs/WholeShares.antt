@@ -20,7 +20,7 @@ use Rattle.theory.specs.MoveLaws.{next-cumulative, next-onward}
 use Rattle.theory.specs.Roads.{Alike, share-alike}
 use Rattle.theory.specs.Finer.{timesOf}
 use Rattle.theory.specs.FinerLaws.{FinerRoad, finer-alike, finer-onward}
-use Rattle.theory.specs.Coupled.{Coupled, sized-finer}
+use Rattle.theory.specs.Coupling.{Coupling, sized-finer}
 use Rattle.theory.specs.StepRules.{Decided, demand-most, demand-least, room-most, room-least}
 
 -- all that leaves a place before the last enters the next cell
@@ -35,7 +35,7 @@ pub onward-all : (r : Road) → AllOn r → (u : State) (p : ℕ) → p < r .n �
 onward-all r on u p l = ap (λ (b : ℕ). onwardOf b (cumulativeAt u p)) (on p l) ∙ onward-whole (cumulativeAt u p)
 
 module _ (K U : ℕ) (q q′ : Road) (s t : State) (row y z : List ℕ) (k : 0 < K) (road : RoadOk q) (f : FinerRoad K q q′) (on : AllOn q)
-    (own : Obeys q s row y) (fine : Obeys q′ t (timesOf K row) z) (c : Coupled K q s t) where
+    (own : Obeys q s row y) (fine : Obeys q′ t (timesOf K row) z) (c : Coupling K q s t) where
   abbrev S′ : State
   S′ = nextOf q s row y
 

@@ -1,4 +1,4 @@
--- What judging one row asks, and what its loop finds. Assumes nothing.
+-- What judging one row requires, and what its loop finds. Assumes nothing.
 use mathlib.Core.Path.{_≡_, refl, sym, ap, _∙_}
 use mathlib.Core.List.{List}
 use Prim.Native.Nat.{ℕ, _+_, _*_, _≤_, _<_}
@@ -50,12 +50,12 @@ module _ {r : Road} {s : State} (row y : List ℕ) {share cumulative demand i : 
         lowest-end _ _ 0 (faultless-more h (omega (arith, at-last)) refl (ap (outflowFaultAt r s row y) at-last ∙ f)) (omega (arith, at-last))
 
 -- the code has looked through the releases: what it found, and its number
-pub record Looked (r : Road) (s : State) (row : List ℕ) (q : FaultAnswer) (m : ℕ) : Type 0 where
+pub record ReleaseFinding (r : Road) (s : State) (row : List ℕ) (q : FaultAnswer) (m : ℕ) : Type 0 where
   pub found : q ≡ releasesOf r s row
   pub number : m ≡ q .number
 
 -- the verdict on y
-module _ {r : Road} {s : State} {row : List ℕ} {q : FaultAnswer} {m : ℕ} (y : List ℕ) (k : Looked r s row q m) where
+module _ {r : Road} {s : State} {row : List ℕ} {q : FaultAnswer} {m : ℕ} (y : List ℕ) (k : ReleaseFinding r s row q m) where
   number-found : m ≡ releasesOf r s row .number
   number-found = k .number ∙ number-of (k .found)
 

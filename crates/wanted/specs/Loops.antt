@@ -16,7 +16,8 @@ use Rattle.model.specs.Numbers.{at}
 use Rattle.model.specs.Road.{mostStart, mostRate}
 use Rattle.numbers.specs.FirstLaws.{Passed, passed-none, passed-more, passed-fails, passed-all}
 use Rattle.model.specs.Limits.{allWithin}
-use Rattle.model.specs.Wanted.{Comes, Limits, frameOk, askedOk, lowestQueue, possibleOf, inflowOf, leastAt, releaseOf, tableOf, WantedAnswer, answer, wantedOf, tableAfter}
+use Rattle.model.specs.Wanted.{Comes, Limits, wantedFrameOk, wantedOk, lowestQueue, possibleOf, inflowOf}
+use Rattle.model.specs.Wanted.{leastAt, leastRelease, leastTable, WantedAnswer, searchAnswer, wantedOf, tableAfter}
 use Rattle.wanted.specs.WantedLaws.{inflow-none, inflow-more, inflow-most, least-last, least-more, least-grows}
 
 -- after k steps of releasing as much as each may
@@ -31,12 +32,12 @@ pub record Added (start : ℕ) (arrivals : List ℕ) (total k : ℕ) : Type 0 wh
   pub sum : total ≡ inflowOf start arrivals k
 
 -- where the table is filled after step k
-pub record Filled (start ceiling rate : ℕ) (arrivals : List ℕ) (total after k : ℕ) (table : List ℕ) : Type 0 where
+pub record TableFilled (start ceiling rate : ℕ) (arrivals : List ℕ) (total after k : ℕ) (table : List ℕ) : Type 0 where
   pub within : k < length arrivals
   pub inflow : total ≡ inflowOf start arrivals (suc k)
   pub least : after ≡ leastAt start ceiling rate arrivals k
   pub same : length table ≡ length arrivals
-  pub later : (j : ℕ) → k < j → j < length arrivals → at table j ≡ releaseOf start ceiling rate arrivals j
+  pub later : (j : ℕ) → k < j → j < length arrivals → at table j ≡ leastRelease start ceiling rate arrivals j
 
 -- the larger of two numbers that were found
 pub larger-is : {larger a b x y : ℕ} → larger ≡ max a b → a ≡ x → b ≡ y → larger ≡ max x y
@@ -93,7 +94,7 @@ module _ {start ceiling rate : ℕ} {arrivals : List ℕ} where
   -- filling starts at the last step
   pub filled-none : {total after k : ℕ} {table : List ℕ} → Limits start ceiling rate arrivals → length table ≡ length arrivals
       → total ≡ inflowOf start arrivals (length arrivals) → after ≡ total - ceiling → k ≡ length arrivals - 1
-      → Filled start ceiling rate arrivals total after k table
+      → TableFilled start ceiling rate arrivals total after k table
   filled-none {total} {after} {k} p s e f g =
       let n : suc k ≡ length arrivals = omega (arith, p .some) in
       record {
@@ -104,7 +105,7 @@ module _ {start ceiling rate : ℕ} {arrivals : List ℕ} where
         later = λ j a b. absurd (omega arith);
       }
 
-  module _ {total after k : ℕ} {table : List ℕ} (h : Filled start ceiling rate arrivals total after k table) where
+  module _ {total after k : ℕ} {table : List ℕ} (h : TableFilled start ceiling rate arrivals total after k table) where
     pub arrival-fits : at arrivals k ≤ total
     arrival-fits = omega (arith, h .inflow, inflow-more start arrivals k (h .within))
 
@@ -124,17 +125,17 @@ module _ {start ceiling rate : ℕ} {arrivals : List ℕ} where
       before-fits =
           omega (arith, before-least, h .least, ap (leastAt start ceiling rate arrivals) e, least-grows start ceiling rate arrivals m inside)
 
-      released : after - before ≡ releaseOf start ceiling rate arrivals k
-      unfolding releaseOf
+      released : after - before ≡ leastRelease start ceiling rate arrivals k
+      unfolding leastRelease
       released = rw (e, before-least) (omega (arith, h .least, ap (leastAt start ceiling rate arrivals) e))
 
-      filled-at : (j : ℕ) → m < j → j < length arrivals → at (set table k (after - before)) j ≡ releaseOf start ceiling rate arrivals j
+      filled-at : (j : ℕ) → m < j → j < length arrivals → at (set table k (after - before)) j ≡ leastRelease start ceiling rate arrivals j
       filled-at j a b = ⊎-elim
           (λ (q : k ≡ j). rw (← q) (getD-set-same table k (after - before) 0 (omega (arith, h .same, h .within)) ∙ released))
           (λ (q : k < j). getD-set-other table k j (after - before) 0 (λ r. omega arith) ∙ h .later j q b)
           (eq-or-lt-of-le (omega arith))
 
-      pub filled-more : Filled start ceiling rate arrivals lower before m (set table k (after - before))
+      pub filled-more : TableFilled start ceiling rate arrivals lower before m (set table k (after - before))
       filled-more = record {
         within = omega (arith, inside);
         inflow = lower-inflow;
@@ -144,38 +145,38 @@ module _ {start ceiling rate : ℕ} {arrivals : List ℕ} where
       }
 
     -- at step 0 the table is whole
-    pub filled-end : k ≡ 0 → set table 0 after ≡ tableOf start ceiling rate arrivals
-    unfolding tableOf releaseOf
+    pub filled-end : k ≡ 0 → set table 0 after ≡ leastTable start ceiling rate arrivals
+    unfolding leastTable leastRelease
     filled-end z =
-        let f = releaseOf start ceiling rate arrivals in
+        let f = leastRelease start ceiling rate arrivals in
         let e : length (set table 0 after) ≡ length arrivals = rw length-set (h .same) in
         ext-getD 0 (set table 0 after) _ (e ∙ sym (length-list f (length arrivals)))
         (λ j l. each j (omega arith) ∙ sym (list-at f (length arrivals) j (omega arith)))
       where
-        each : (j : ℕ) → j < length arrivals → at (set table 0 after) j ≡ releaseOf start ceiling rate arrivals j
+        each : (j : ℕ) → j < length arrivals → at (set table 0 after) j ≡ leastRelease start ceiling rate arrivals j
         each zero l = getD-set-same table 0 after 0 (omega (arith, h .same)) ∙ h .least ∙ ap (leastAt start ceiling rate arrivals) z
         each (suc j) l = getD-set-other table 0 (suc j) after 0 (λ r. omega arith) ∙ h .later (suc j) (omega arith) l
 
 -- how the search ends
 module _ (start ceiling rate : ℕ) (arrivals table : List ℕ) where
   -- a test of 23 fails
-  refused : askedOk start ceiling rate arrivals (length table) ≡ false → Left start ceiling rate arrivals table (answer 23 false false) table
+  refused : wantedOk start ceiling rate arrivals (length table) ≡ false → Left start ceiling rate arrivals table (searchAnswer 23 false false) table
   unfolding wantedOf tableAfter
   refused n = record { says = rw n; leaves = rw n }
 
-  pub ends-frame : frameOk start ceiling rate (length arrivals) (length table) ≡ false → Left start ceiling rate arrivals table (answer 23 false false) table
+  pub ends-frame : wantedFrameOk start ceiling rate (length arrivals) (length table) ≡ false → Left start ceiling rate arrivals table (searchAnswer 23 false false) table
   ends-frame n = refused (rw n)
 
-  module _ (f : frameOk start ceiling rate (length arrivals) (length table) ≡ true) where
-    pub ends-arrivals : allWithin arrivals mostRate ≡ false → Left start ceiling rate arrivals table (answer 23 false false) table
+  module _ (f : wantedFrameOk start ceiling rate (length arrivals) (length table) ≡ true) where
+    pub ends-arrivals : allWithin arrivals mostRate ≡ false → Left start ceiling rate arrivals table (searchAnswer 23 false false) table
     ends-arrivals n = refused (rw (f, n))
 
     module _ (w : allWithin arrivals mostRate ≡ true) where
-      pub ends-none : possibleOf start ceiling rate arrivals ≡ false → Left start ceiling rate arrivals table (answer 0 true false) table
+      pub ends-none : possibleOf start ceiling rate arrivals ≡ false → Left start ceiling rate arrivals table (searchAnswer 0 true false) table
       unfolding wantedOf tableAfter
       ends-none n = record { says = rw (f, w, n); leaves = rw (f, w, n) }
 
       pub ends-found : possibleOf start ceiling rate arrivals ≡ true
-          → Left start ceiling rate arrivals table (answer 0 true true) (tableOf start ceiling rate arrivals)
+          → Left start ceiling rate arrivals table (searchAnswer 0 true true) (leastTable start ceiling rate arrivals)
       unfolding wantedOf tableAfter
       ends-found n = record { says = rw (f, w, n); leaves = rw (f, w, n) }

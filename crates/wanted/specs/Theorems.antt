@@ -10,7 +10,7 @@ use lib.Seq.{ext-getD}
 use Rattle.model.specs.Numbers.{at}
 use Rattle.numbers.specs.Tests.{unless-elim, never}
 use Rattle.numbers.specs.SumLaws.{sum-more}
-use Rattle.model.specs.Wanted.{Asked, Obeys, runningSum, askedOk, possibleOf, tableOf, WantedAnswer, answer, wantedOf, tableAfter, Least, Ends}
+use Rattle.model.specs.Wanted.{WantedRequest, TableObeys, runningSum, wantedOk, possibleOf, leastTable, WantedAnswer, searchAnswer, wantedOf, tableAfter, Least, WantedEnds}
 use Rattle.wanted.specs.WantedLaws.{asked-limits, limits-asked, obeyed-possible, table-obeys, table-least}
 
 -- 1: there is only one such table
@@ -37,60 +37,60 @@ module _ (start ceiling rate : ℕ) (arrivals : List ℕ) {one other : List ℕ}
 module _ (start ceiling rate : ℕ) (arrivals table : List ℕ) where
   -- an answer, with the table that it leaves
   abbrev End : WantedAnswer → Type 0
-  End x = Ends start ceiling rate arrivals table x (cond (x .found) (tableOf start ceiling rate arrivals) table)
+  End x = WantedEnds start ceiling rate arrivals table x (cond (x .found) (leastTable start ceiling rate arrivals) table)
 
-  pub ends : Ends start ceiling rate arrivals table (wantedOf start ceiling rate arrivals (length table)) (tableAfter start ceiling rate arrivals table)
+  pub ends : WantedEnds start ceiling rate arrivals table (wantedOf start ceiling rate arrivals (length table)) (tableAfter start ceiling rate arrivals table)
   unfolding wantedOf tableAfter
   ends =
-      unless-elim End (askedOk start ceiling rate arrivals (length table))
-      (λ e. Ends.refused (λ asked. never (limits-asked start ceiling rate arrivals (length table) asked) e)) (λ e.
+      unless-elim End (wantedOk start ceiling rate arrivals (length table))
+      (λ e. WantedEnds.refused (λ asked. never (limits-asked start ceiling rate arrivals (length table) asked) e)) (λ e.
       let asked = asked-limits start ceiling rate arrivals (length table) e in
-      unless-elim End (possibleOf start ceiling rate arrivals) (λ f. Ends.none asked (λ other o. never (obeyed-possible start ceiling rate arrivals other o) f)) (λ f.
-      Ends.found asked (record { obeys = table-obeys start ceiling rate arrivals f; least = table-least start ceiling rate arrivals })))
+      unless-elim End (possibleOf start ceiling rate arrivals) (λ f. WantedEnds.none asked (λ other o. never (obeyed-possible start ceiling rate arrivals other o) f)) (λ f.
+      WantedEnds.found asked (record { obeys = table-obeys start ceiling rate arrivals f; least = table-least start ceiling rate arrivals })))
 
 -- an answer and a table that are those of the definitions are one of them; so a contract may promise all three
 pub ended : (start ceiling rate : ℕ) (arrivals table : List ℕ) {a : WantedAnswer} {left : List ℕ}
     → a ≡ wantedOf start ceiling rate arrivals (length table) → left ≡ tableAfter start ceiling rate arrivals table
     → (a ≡ wantedOf start ceiling rate arrivals (length table)) × ((left ≡ tableAfter start ceiling rate arrivals table)
-    × Ends start ceiling rate arrivals table a left)
+    × WantedEnds start ceiling rate arrivals table a left)
 ended start ceiling rate arrivals table e f = (e, (f, rw (e, f) (ends start ceiling rate arrivals table)))
 
 -- so each comes exactly where it should
 module _ {start ceiling rate : ℕ} {arrivals table : List ℕ} where
-  refused-not : {a : WantedAnswer} {left : List ℕ} → Ends start ceiling rate arrivals table a left → a .number ≡ 23
-      → Asked start ceiling rate arrivals (length table) → ⊥
-  refused-not (Ends.refused h) e asked = h asked
-  refused-not (Ends.none q h) e asked = omega arith
-  refused-not (Ends.found q h) e asked = omega arith
+  refused-not : {a : WantedAnswer} {left : List ℕ} → WantedEnds start ceiling rate arrivals table a left → a .number ≡ 23
+      → WantedRequest start ceiling rate arrivals (length table) → ⊥
+  refused-not (WantedEnds.refused h) e asked = h asked
+  refused-not (WantedEnds.none q h) e asked = omega arith
+  refused-not (WantedEnds.found q h) e asked = omega arith
 
-  not-refused : {a : WantedAnswer} {left : List ℕ} → Ends start ceiling rate arrivals table a left
-      → (Asked start ceiling rate arrivals (length table) → ⊥) → (a ≡ answer 23 false false) × (left ≡ table)
-  not-refused (Ends.refused h) n = (refl, refl)
-  not-refused (Ends.none q h) n = absurd (n q)
-  not-refused (Ends.found q h) n = absurd (n q)
+  not-refused : {a : WantedAnswer} {left : List ℕ} → WantedEnds start ceiling rate arrivals table a left
+      → (WantedRequest start ceiling rate arrivals (length table) → ⊥) → (a ≡ searchAnswer 23 false false) × (left ≡ table)
+  not-refused (WantedEnds.refused h) n = (refl, refl)
+  not-refused (WantedEnds.none q h) n = absurd (n q)
+  not-refused (WantedEnds.found q h) n = absurd (n q)
 
-  none-not : {a : WantedAnswer} {left : List ℕ} → Ends start ceiling rate arrivals table a left → a ≡ answer 0 true false
-      → (other : List ℕ) → Obeys start ceiling rate arrivals other → ⊥
-  none-not (Ends.refused h) e other o = let z = ap (λ (x : WantedAnswer). x .number) e in omega arith
-  none-not (Ends.none q h) e other o = h other o
-  none-not (Ends.found q h) e other o = never {t = true} refl (ap (λ (x : WantedAnswer). x .found) e)
+  none-not : {a : WantedAnswer} {left : List ℕ} → WantedEnds start ceiling rate arrivals table a left → a ≡ searchAnswer 0 true false
+      → (other : List ℕ) → TableObeys start ceiling rate arrivals other → ⊥
+  none-not (WantedEnds.refused h) e other o = let z = ap (λ (x : WantedAnswer). x .number) e in omega arith
+  none-not (WantedEnds.none q h) e other o = h other o
+  none-not (WantedEnds.found q h) e other o = never {t = true} refl (ap (λ (x : WantedAnswer). x .found) e)
 
-  not-none : {a : WantedAnswer} {left : List ℕ} → Ends start ceiling rate arrivals table a left → Asked start ceiling rate arrivals (length table)
-      → ((other : List ℕ) → Obeys start ceiling rate arrivals other → ⊥) → (a ≡ answer 0 true false) × (left ≡ table)
-  not-none (Ends.refused h) q n = absurd (h q)
-  not-none (Ends.none p h) q n = (refl, refl)
-  not-none (Ends.found p h) q n = absurd (n _ (h .obeys))
+  not-none : {a : WantedAnswer} {left : List ℕ} → WantedEnds start ceiling rate arrivals table a left → WantedRequest start ceiling rate arrivals (length table)
+      → ((other : List ℕ) → TableObeys start ceiling rate arrivals other → ⊥) → (a ≡ searchAnswer 0 true false) × (left ≡ table)
+  not-none (WantedEnds.refused h) q n = absurd (h q)
+  not-none (WantedEnds.none p h) q n = (refl, refl)
+  not-none (WantedEnds.found p h) q n = absurd (n _ (h .obeys))
 
-  found-is : {a : WantedAnswer} {left : List ℕ} → Ends start ceiling rate arrivals table a left → a .found ≡ true → Least start ceiling rate arrivals left
-  found-is (Ends.refused h) e = absurd (never e refl)
-  found-is (Ends.none q h) e = absurd (never e refl)
-  found-is (Ends.found q h) e = h
+  found-is : {a : WantedAnswer} {left : List ℕ} → WantedEnds start ceiling rate arrivals table a left → a .found ≡ true → Least start ceiling rate arrivals left
+  found-is (WantedEnds.refused h) e = absurd (never e refl)
+  found-is (WantedEnds.none q h) e = absurd (never e refl)
+  found-is (WantedEnds.found q h) e = h
 
-  found-in : {a : WantedAnswer} {left : List ℕ} → Ends start ceiling rate arrivals table a left → a .found ≡ true
-      → Asked start ceiling rate arrivals (length table)
-  found-in (Ends.refused h) e = absurd (never e refl)
-  found-in (Ends.none q h) e = absurd (never e refl)
-  found-in (Ends.found q h) e = q
+  found-in : {a : WantedAnswer} {left : List ℕ} → WantedEnds start ceiling rate arrivals table a left → a .found ≡ true
+      → WantedRequest start ceiling rate arrivals (length table)
+  found-in (WantedEnds.refused h) e = absurd (never e refl)
+  found-in (WantedEnds.none q h) e = absurd (never e refl)
+  found-in (WantedEnds.found q h) e = q
 
 module _ (start ceiling rate : ℕ) (arrivals table : List ℕ) where
   abbrev says : WantedAnswer
@@ -103,21 +103,21 @@ module _ (start ceiling rate : ℕ) (arrivals table : List ℕ) where
   pub found-least : says .found ≡ true → Least start ceiling rate arrivals left
   found-least = found-is (ends start ceiling rate arrivals table)
 
-  -- and all that was asked is within 23's limits
-  pub found-asked : says .found ≡ true → Asked start ceiling rate arrivals (length table)
+  -- and all arguments are within 23's limits
+  pub found-asked : says .found ≡ true → WantedRequest start ceiling rate arrivals (length table)
   found-asked = found-in (ends start ceiling rate arrivals table)
 
   -- 4: none exactly where, within the limits, no table obeys; the lent table is unchanged
-  pub none-only : says ≡ answer 0 true false → (other : List ℕ) → Obeys start ceiling rate arrivals other → ⊥
+  pub none-only : says ≡ searchAnswer 0 true false → (other : List ℕ) → TableObeys start ceiling rate arrivals other → ⊥
   none-only = none-not (ends start ceiling rate arrivals table)
 
-  pub none-if : Asked start ceiling rate arrivals (length table) → ((other : List ℕ) → Obeys start ceiling rate arrivals other → ⊥)
-      → (says ≡ answer 0 true false) × (left ≡ table)
+  pub none-if : WantedRequest start ceiling rate arrivals (length table) → ((other : List ℕ) → TableObeys start ceiling rate arrivals other → ⊥)
+      → (says ≡ searchAnswer 0 true false) × (left ≡ table)
   none-if = not-none (ends start ceiling rate arrivals table)
 
   -- 5: 23 exactly where a limit is passed; the lent table is unchanged
-  pub refused-only : says .number ≡ 23 → Asked start ceiling rate arrivals (length table) → ⊥
+  pub refused-only : says .number ≡ 23 → WantedRequest start ceiling rate arrivals (length table) → ⊥
   refused-only = refused-not (ends start ceiling rate arrivals table)
 
-  pub refused-if : (Asked start ceiling rate arrivals (length table) → ⊥) → (says ≡ answer 23 false false) × (left ≡ table)
+  pub refused-if : (WantedRequest start ceiling rate arrivals (length table) → ⊥) → (says ≡ searchAnswer 23 false false) × (left ≡ table)
   refused-if = not-refused (ends start ceiling rate arrivals table)

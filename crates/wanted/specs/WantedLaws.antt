@@ -15,7 +15,8 @@ use Rattle.numbers.specs.FirstLaws.{all-at, all-true}
 use Rattle.numbers.specs.Tests.{and-true, both-true, le-head, eq-head, le-then, eq-then}
 use Rattle.model.specs.Limits.{allWithin}
 use Rattle.limits.specs.AllWithin.{within-at, within-true}
-use Rattle.model.specs.Wanted.{Comes, Asked, queueAfter, Obeys, runningSum, frameOk, askedOk, lowestQueue, possibleOf, inflowOf, leastFrom, leastAt, releaseOf, tableOf}
+use Rattle.model.specs.Wanted.{Comes, WantedRequest, rampQueueAfter, TableObeys, runningSum, wantedFrameOk, wantedOk}
+use Rattle.model.specs.Wanted.{lowestQueue, possibleOf, inflowOf, leastFrom, leastAt, leastRelease, leastTable}
 
 -- the inflow
 module _ (start : ℕ) (arrivals : List ℕ) where
@@ -33,10 +34,10 @@ module _ (start : ℕ) (arrivals : List ℕ) where
 
 module _ (start ceiling rate : ℕ) (arrivals : List ℕ) where
   -- 23's conditions, exactly
-  pub asked-limits : (places : ℕ) → askedOk start ceiling rate arrivals places ≡ true
-      → Asked start ceiling rate arrivals places
+  pub asked-limits : (places : ℕ) → wantedOk start ceiling rate arrivals places ≡ true
+      → WantedRequest start ceiling rate arrivals places
   asked-limits places h =
-      let both = and-true (frameOk start ceiling rate (length arrivals) places) (allWithin arrivals mostRate) h in
+      let both = and-true (wantedFrameOk start ceiling rate (length arrivals) places) (allWithin arrivals mostRate) h in
       let some = le-head _ _ _ (both .0) in
       let most = le-head _ _ _ (some .1) in
       let same = eq-head _ _ _ (most .1) in
@@ -52,23 +53,23 @@ module _ (start ceiling rate : ℕ) (arrivals : List ℕ) where
         same = same .0;
       }
 
-  pub limits-asked : (places : ℕ) → Asked start ceiling rate arrivals places → askedOk start ceiling rate arrivals places ≡ true
+  pub limits-asked : (places : ℕ) → WantedRequest start ceiling rate arrivals places → wantedOk start ceiling rate arrivals places ≡ true
   limits-asked places q =
       let h = q .limits in
-      both-true (frameOk start ceiling rate (length arrivals) places) (allWithin arrivals mostRate)
+      both-true (wantedFrameOk start ceiling rate (length arrivals) places) (allWithin arrivals mostRate)
       (le-then _ _ _ (h .some) (le-then _ _ _ (h .comes .most) (eq-then _ _ _ (q .same) (le-then _ _ _ (h .rates) (le-then _ _ _ (h .comes .starts) (le-leb _ _ (h .ceilings)))))))
       (sym (within-true arrivals mostRate (h .comes .each)))
 
   -- whatever the table: the queue and what was released are what came
   module _ (table : List ℕ) (same : length table ≡ length arrivals) where
-    balance : ((k : ℕ) → k < length arrivals → at table k ≤ queueAfter start arrivals table k + at arrivals k)
-        → (k : ℕ) → k ≤ length arrivals → queueAfter start arrivals table k + runningSum table k ≡ inflowOf start arrivals k
-    unfolding queueAfter
+    balance : ((k : ℕ) → k < length arrivals → at table k ≤ rampQueueAfter start arrivals table k + at arrivals k)
+        → (k : ℕ) → k ≤ length arrivals → rampQueueAfter start arrivals table k + runningSum table k ≡ inflowOf start arrivals k
+    unfolding rampQueueAfter
     balance there zero l = omega (arith, sum-start table, inflow-none start arrivals)
     balance there (suc k) l =
         omega (arith, there k l, sum-more k table (omega arith), inflow-more start arrivals k l, balance there k (omega arith))
 
-  module _ (table : List ℕ) (o : Obeys start ceiling rate arrivals table) where
+  module _ (table : List ℕ) (o : TableObeys start ceiling rate arrivals table) where
     -- a table that obeys has released the least after step k, where n steps follow it
     sum-least : (n k : ℕ) → suc k + n ≡ length arrivals → leastFrom start ceiling rate arrivals k n ≤ runningSum table (suc k)
     unfolding leastFrom
@@ -88,8 +89,8 @@ module _ (start ceiling rate : ℕ) (arrivals : List ℕ) where
     least-sum k l = sum-least (length arrivals - suc k) k (omega arith)
 
     -- and its queue is no lower than the lowest
-    pub lowest-queue : (k : ℕ) → k ≤ length arrivals → lowestQueue start rate arrivals k ≤ queueAfter start arrivals table k
-    unfolding lowestQueue queueAfter
+    pub lowest-queue : (k : ℕ) → k ≤ length arrivals → lowestQueue start rate arrivals k ≤ rampQueueAfter start arrivals table k
+    unfolding lowestQueue rampQueueAfter
     lowest-queue zero l = le-refl start
     lowest-queue (suc k) l = omega (arith, lowest-queue k (omega arith), o .slow k l)
 
@@ -105,12 +106,12 @@ module _ (start ceiling rate : ℕ) (arrivals : List ℕ) where
   abbrev fastestTable : List ℕ
   fastestTable = listOf fastest (length arrivals)
 
-  fast-queue : (k : ℕ) → k ≤ length arrivals → queueAfter start arrivals fastestTable k ≡ lowestQueue start rate arrivals k
-  unfolding queueAfter lowestQueue
+  fast-queue : (k : ℕ) → k ≤ length arrivals → rampQueueAfter start arrivals fastestTable k ≡ lowestQueue start rate arrivals k
+  unfolding rampQueueAfter lowestQueue
   fast-queue zero l = refl
   fast-queue (suc k) l = omega (arith, fast-queue k (omega arith), list-at fastest (length arrivals) k l)
 
-  fast-obeys : possibleOf start ceiling rate arrivals ≡ true → Obeys start ceiling rate arrivals fastestTable
+  fast-obeys : possibleOf start ceiling rate arrivals ≡ true → TableObeys start ceiling rate arrivals fastestTable
   unfolding possibleOf
   fast-obeys p = record {
     steps = length-list fastest (length arrivals);
@@ -139,14 +140,14 @@ module _ (start ceiling rate : ℕ) (arrivals : List ℕ) where
       omega (arith, least-more k l, least-over (suc k) (length arrivals - suc (suc k)), inflow-more start arrivals (suc k) l)
 
   -- the running sums of the table are the least
-  pub sums : (k : ℕ) → k < length arrivals → runningSum (tableOf start ceiling rate arrivals) (suc k) ≡ leastAt start ceiling rate arrivals k
-  unfolding tableOf releaseOf
+  pub sums : (k : ℕ) → k < length arrivals → runningSum (leastTable start ceiling rate arrivals) (suc k) ≡ leastAt start ceiling rate arrivals k
+  unfolding leastTable leastRelease
   sums zero l =
-      let f = releaseOf start ceiling rate arrivals in
+      let f = leastRelease start ceiling rate arrivals in
       let table = listOf f (length arrivals) in
       omega (arith, sum-start table, sum-more 0 table (omega (arith, length-list f (length arrivals))), list-at f (length arrivals) 0 l)
   sums (suc k) l =
-      let f = releaseOf start ceiling rate arrivals in
+      let f = leastRelease start ceiling rate arrivals in
       let table = listOf f (length arrivals) in
       omega (arith, sums k (omega arith), sum-more (suc k) table (omega (arith, length-list f (length arrivals))), list-at f (length arrivals) (suc k) l, least-grows k l)
 
@@ -157,36 +158,36 @@ module _ (start ceiling rate : ℕ) (arrivals : List ℕ) where
         let o = fast-obeys p in
         omega (arith, least-sum fastestTable o k l, balance fastestTable (o .steps) (o .there) (suc k) l)
 
-    release-slow : (k : ℕ) → k < length arrivals → releaseOf start ceiling rate arrivals k ≤ rate
-    unfolding releaseOf
+    release-slow : (k : ℕ) → k < length arrivals → leastRelease start ceiling rate arrivals k ≤ rate
+    unfolding leastRelease
     release-slow zero l =
         let o = fast-obeys p in
         omega (arith, least-sum fastestTable o 0 l, o .slow 0 l, sum-start fastestTable, sum-more 0 fastestTable (omega (arith, o .steps)))
     release-slow (suc k) l = omega (arith, least-more k l)
 
-    table-length : length (tableOf start ceiling rate arrivals) ≡ length arrivals
-    unfolding tableOf
-    table-length = length-list (releaseOf start ceiling rate arrivals) (length arrivals)
+    table-length : length (leastTable start ceiling rate arrivals) ≡ length arrivals
+    unfolding leastTable
+    table-length = length-list (leastRelease start ceiling rate arrivals) (length arrivals)
 
-    table-at : (k : ℕ) → k < length arrivals → at (tableOf start ceiling rate arrivals) k ≡ releaseOf start ceiling rate arrivals k
-    unfolding tableOf
-    table-at k l = list-at (releaseOf start ceiling rate arrivals) (length arrivals) k l
+    table-at : (k : ℕ) → k < length arrivals → at (leastTable start ceiling rate arrivals) k ≡ leastRelease start ceiling rate arrivals k
+    unfolding leastTable
+    table-at k l = list-at (leastRelease start ceiling rate arrivals) (length arrivals) k l
 
     table-balance : (k : ℕ) → k ≤ length arrivals
-        → queueAfter start arrivals (tableOf start ceiling rate arrivals) k + runningSum (tableOf start ceiling rate arrivals) k ≡ inflowOf start arrivals k
-    unfolding queueAfter
-    table-balance zero l = omega (arith, sum-start (tableOf start ceiling rate arrivals), inflow-none start arrivals)
+        → rampQueueAfter start arrivals (leastTable start ceiling rate arrivals) k + runningSum (leastTable start ceiling rate arrivals) k ≡ inflowOf start arrivals k
+    unfolding rampQueueAfter
+    table-balance zero l = omega (arith, sum-start (leastTable start ceiling rate arrivals), inflow-none start arrivals)
     table-balance (suc k) l =
         omega (
           arith,
           table-balance k (omega arith),
-          sum-more k (tableOf start ceiling rate arrivals) (omega (arith, table-length)),
+          sum-more k (leastTable start ceiling rate arrivals) (omega (arith, table-length)),
           inflow-more start arrivals k l,
           sums k l,
           least-there k l,
         )
 
-    pub table-obeys : Obeys start ceiling rate arrivals (tableOf start ceiling rate arrivals)
+    pub table-obeys : TableObeys start ceiling rate arrivals (leastTable start ceiling rate arrivals)
     table-obeys = record {
       steps = table-length;
       slow = λ k l. omega (arith, table-at k l, release-slow k l);
@@ -194,7 +195,7 @@ module _ (start ceiling rate : ℕ) (arrivals : List ℕ) where
           omega (
             arith,
             table-balance k (omega arith),
-            sum-more k (tableOf start ceiling rate arrivals) (omega (arith, table-length)),
+            sum-more k (leastTable start ceiling rate arrivals) (omega (arith, table-length)),
             inflow-more start arrivals k l,
             sums k l,
             least-there k l,
@@ -203,7 +204,7 @@ module _ (start ceiling rate : ℕ) (arrivals : List ℕ) where
     }
 
   -- no table that obeys has released less after any step
-  pub table-least : (table : List ℕ) → Obeys start ceiling rate arrivals table
-      → (k : ℕ) → k ≤ length arrivals → runningSum (tableOf start ceiling rate arrivals) k ≤ runningSum table k
-  table-least table o zero l = omega (arith, sum-start (tableOf start ceiling rate arrivals))
+  pub table-least : (table : List ℕ) → TableObeys start ceiling rate arrivals table
+      → (k : ℕ) → k ≤ length arrivals → runningSum (leastTable start ceiling rate arrivals) k ≤ runningSum table k
+  table-least table o zero l = omega (arith, sum-start (leastTable start ceiling rate arrivals))
   table-least table o (suc k) l = omega (arith, sums k l, least-sum table o k l)

@@ -5,7 +5,7 @@ use model::Wanted;
 ghost use mathlib.Core.Path.{_≡_};
 ghost use Prim.Native.Nat.{_-_, max};
 ghost use lib.ListN.{length};
-ghost use Rattle.model.specs.Wanted.{Comes, Limits, frameOk, possibleOf, inflowOf, tableOf, wantedAnswer, wantedOf, tableAfter, Ends};
+ghost use Rattle.model.specs.Wanted.{Comes, Limits, wantedFrameOk, possibleOf, inflowOf, leastTable, wantedAnswer, wantedOf, tableAfter, WantedEnds};
 
 // What `most` leaves after `used`, 0 where `used` is more.
 fn less(most: u32, used: u32) -> u32
@@ -22,7 +22,7 @@ fn larger(a: u32, b: u32) -> u32
 
 // All of 23 but the arrivals.
 fn frame_within(start: u32, ceiling: u32, rate: u32, steps: usize, places: usize) -> bool
-    ensures { λ r. ⌜ r ≡ frameOk start ceiling rate steps places ⌝ }
+    ensures { λ r. ⌜ r ≡ wantedFrameOk start ceiling rate steps places ⌝ }
 {
     (1 <= steps)
         & ((steps <= Road::STEPS)
@@ -64,7 +64,7 @@ fn inflow(start: u32, arrivals: &[u32]) -> u32
 // Fills the table from its last step back: `after` is the least running sum after step k, `total` the inflow up to it.
 fn fill(start: u32, ceiling: u32, rate: u32, arrivals: &[u32], table: &mut [u32])
     requires { ⌜ (Limits start ceiling rate (now arrivals)) × (length (now table) ≡ length (now arrivals)) ⌝ }
-    ensures { λ _. ⌜ now (table .exit) ≡ tableOf start ceiling rate (now (arrivals .entry)) ⌝ }
+    ensures { λ _. ⌜ now (table .exit) ≡ leastTable start ceiling rate (now (arrivals .entry)) ⌝ }
 {
     let mut total = inflow(start, arrivals);
     let mut after = less(total, ceiling);
@@ -83,7 +83,7 @@ fn fill(start: u32, ceiling: u32, rate: u32, arrivals: &[u32], table: &mut [u32]
 pub fn wanted(start: u32, ceiling: u32, rate: u32, arrivals: &[u32], table: &mut [u32]) -> Wanted
     ensures answer { λ r. ⌜ wantedAnswer r ≡ wantedOf start ceiling rate (now (arrivals .entry)) (length (now (table .entry))) ⌝ }
     ensures table { λ r. ⌜ now (table .exit) ≡ tableAfter start ceiling rate (now (arrivals .entry)) (now (table .entry)) ⌝ }
-    ensures ends { λ r. ⌜ Ends start ceiling rate (now (arrivals .entry)) (now (table .entry)) (wantedAnswer r) (now (table .exit)) ⌝ }
+    ensures ends { λ r. ⌜ WantedEnds start ceiling rate (now (arrivals .entry)) (now (table .entry)) (wantedAnswer r) (now (table .exit)) ⌝ }
 {
     if !frame_within(start, ceiling, rate, arrivals.len(), table.len()) {
         return Wanted::Refused(Refusal::WantedInput);

@@ -1,4 +1,4 @@
--- What writing that is not refused tells of what was given. Assumes nothing.
+-- What follows of its arguments where writing is not refused. Assumes nothing.
 use mathlib.Core.Path.{_≡_, refl, sym, _∙_}
 use mathlib.Core.Bool.{Bool, true}
 use mathlib.Core.List.{List, _++_}

@@ -1,4 +1,4 @@
--- What the inner functions of writing ask, and how its tests end. Assumes nothing.
+-- What the inner functions of writing require, and how its tests end. Assumes nothing.
 use mathlib.Core.Path.{_≡_, refl, sym}
 use mathlib.Core.Bool.{true, false}
 use mathlib.Core.List.{List, []}
@@ -37,7 +37,7 @@ blank version n T = study (record {
   capacity = zeros;
 }) emptyState T (λ _. []) []
 
--- 65 cells and 1,440 steps are too many bytes as well: an unknown version meets 2, version 2 without seconds 3, with 64 cells 19, and version 1 then 1
+-- 65 cells and 1,440 steps are too many bytes as well: an unknown version is refused with 2, version 2 without seconds with 3, with 64 cells with 19, and version 1 then with 1
 on-paper : (writingBy (blank 3 65 1440) 0 0 ≡ unwritten 2 0)
     × ((writingBy (blank 2 65 1440) 0 0 ≡ unwritten 3 0)
     × ((writingBy (blank 2 64 1440) 0 0 ≡ unwritten 19 0) × (writingBy (blank 1 64 1440) 0 0 ≡ unwritten 1 0)))

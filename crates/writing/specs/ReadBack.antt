@@ -107,7 +107,7 @@ module _ (a : Study) (ok : Recordable a) where
       (at (a .road .ramp) i) (at (a .road .jam) i) (at (a .road .capacity) i) (at (a .start .held) i) (at (a .start .queue) i)
   cell i = cell-fields _ _ _ _ _ _ _ _
 
-  -- a column of a record of n cells, by what stands in each
+  -- a column of a record of n cells, by what is in each
   column : (offset w : ℕ) (l : List ℕ) → offset + w ≤ cellSize
       → ((i : ℕ) → i < a .road .n → (at l i < 256 ^ w) × Field (cellBytes (a .road) (a .start) i) offset w (at l i))
       → columnOf (recordOf a) offset w (cellsOf (recordOf a)) ≡ cutOf (a .road .n) l

@@ -1,4 +1,4 @@
--- Where each number of a study stands in its record's bytes. Assumes nothing.
+-- Where each number of a study is in its record's bytes. Assumes nothing.
 use mathlib.Core.Path.{_≡_}
 use mathlib.Core.List.{List, _++_}
 use Prim.Native.Nat.{ℕ, _+_, _-_, _*_, _≤_, _<_}

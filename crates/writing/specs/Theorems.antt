@@ -77,7 +77,7 @@ module _ (road : Road) (T : ℕ) (start : Start) (rows target : List ℕ) where
             (drop-at (recordOf a) (drop (sizeOf (road .version) (road .n) T) target) (sizeOf (road .version) (road .n) T) (length-record a));
       }
 
-  -- as an answer and the target at exit tell it
+  -- by the answer and the target at exit
   pub reads-as-given : {a : WriteAnswer} {after : List ℕ} → a ≡ writingOf road T start rows target → after ≡ targetAfter road T start rows target
       → a .number ≡ 0 → ReadsBack road T start rows (a .count) after
   reads-as-given ea et z =

@@ -4,7 +4,7 @@ use Prim.Native.Nat.{ℕ}
 use lib.ListN.{length}
 use Rattle.model.specs.Numbers.{at}
 use Rattle.model.specs.Road.{mostCells}
-use Rattle.model.specs.Weights.{weightedOf}
+use Rattle.model.specs.Weights.{weightedPresent}
 use Rattle.counts.specs.WeightSums.{weighted-min}
 use Rattle.counts.proofs.weighted.Statement.{statement}
 use Rattle.counts.proofs.weighted.Tie as tie
@@ -31,7 +31,7 @@ returns c =
     let w = at (a .t3 .places) in
     let u = at (a .t3 .ramps) in
     c .weighed-places .ensures .0 (a .t2) (record { atGate = refl; onRoad = refl; atRamps = refl })
-    ∙ ap (λ (n : ℕ). weightedOf w u n (a .t2)) (k .cells .ensures)
+    ∙ ap (λ (n : ℕ). weightedPresent w u n (a .t2)) (k .cells .ensures)
     ∙ weighted-min w u (a .r .n) (a .t2) (held (k .before)) (queue (k .before))
 
 pub weighted-spec : {M : Type 1} → statement M

@@ -7,7 +7,7 @@ use Rattle.exports.proofs.nobyaluk_wanted.Statement.{statement}
 use Rattle.exports.proofs.nobyaluk_wanted.Tie as tie
 use borrow.Author.Needs.{needs}
 
--- what the case that was met says
+-- what the matched case says
 case : {given met : Wanted} {a : WantedAnswer} → given ≡ met → wantedAnswer given ≡ a → wantedFor (wantedAnswer met) ≡ wantedFor a
 case e h = ap wantedFor (sym (ap wantedAnswer e) ∙ h)
 

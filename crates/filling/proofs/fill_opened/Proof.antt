@@ -6,6 +6,7 @@ use Rattle.model.specs.Refusals.{refusalNumber, faultAnswer}
 use Rattle.model.specs.Reading.{studyBy, readAnswer}
 use Rattle.reading.specs.Within.{read-within}
 use Rattle.model.specs.Running.{endAnswer}
+use Rattle.numbers.specs.Zeros.{zeros-at, length-zeros}
 use Rattle.theory.specs.StepLaws.{number-of}
 use Rattle.theory.specs.Readable.{Readable, readable}
 use Rattle.filling.specs.FilledPromise.{promise-refused, promise-law, promise-closed, promise-short, promise-all, with-longest, refused-longest, longs-all}
@@ -116,7 +117,15 @@ returns-4 c =
     (f .refused .ensures) (opens k) (omega arith) e) (c .unbegun4 .ensures .1)
 
 fill-rows-requires : tie.Need-fill-rows-requires
-fill-rows-requires c κs = record { readable = held (c .before .before .before); rows = λ k. refl; long = omega arith }
+fill-rows-requires c κs =
+    let k = held (c .before .before .before) in
+    let cells = k .ok .road .cells in
+    record {
+      fillable = record { readable = k; rows = λ k. refl; long = omega arith };
+      entered = λ i l. omega (arith, zeros-at i);
+      longReleases = omega (arith, length-zeros);
+      longEntries = omega (arith, length-zeros);
+    }
 
 returns-5 : tie.Need-returns-5
 returns-5 c =

@@ -1,13 +1,13 @@
 -- `filling::fill_rows` meets its contract. The invariant: k steps are filled by any laws that the columns have, their outflows are written, and the
--- road is the record's but for its capacities. Assumes nothing.
+-- road is the record's but for its capacities; this from any last step that the arrays before the first have. Assumes nothing.
 use mathlib.Core.Path.{_≡_, refl, sym, ap, subst, _∙_}
 use mathlib.Core.Bool.{true≢false}
 use mathlib.Core.Logic.{inl, inr}
 use mathlib.Core.List.{List}
 use Prim.Native.Nat.{ℕ, _+_, _-_, _≤_}
-use lib.ListN.{length, length-replicate}
-use Rattle.numbers.specs.Zeros.{zero-at}
+use lib.ListN.{length, replicate, length-replicate}
 use Rattle.numbers.specs.TablesLaws.{part-length}
+use Rattle.model.specs.declared.State.{State}
 use Rattle.model.specs.Schedules.{Study, places, withCapacity}
 use Rattle.lanes.specs.LanesLaws.{rows-within}
 use Rattle.model.specs.declared.Law.{Law}
@@ -17,43 +17,60 @@ use Rattle.outflows.specs.declared.Ledger.{Ledger}
 use Rattle.outflows.specs.Columns.{stateOf}
 use Rattle.model.specs.Reading.{studyBy}
 use Rattle.model.specs.Listing.{mostOutflows}
-use Rattle.model.specs.Ramps.{putTable}
+use Rattle.model.specs.Ramps.{putTable, Metered, metered}
 use Rattle.model.specs.Running.{ended, endAnswer, tableOf}
 use Rattle.counts.specs.declared.AtGate.{AtGate}
-use Rattle.model.specs.Longest.{queuesOf, filledAfter}
+use Rattle.model.specs.Longest.{queuesOf}
 use Rattle.counts.specs.LongestSoFar.{Raised, raised-none, raised-more, raised-end}
-use Rattle.model.specs.Filling.{meteredAfter, grantedIn, filledStudy}
-use Rattle.filling.specs.Turn.{arrays}
-use Rattle.filling.specs.FillingLoop.{Fillable, Filled, filled-none, goes-by, same-bytes, same-list, row-ends-by, row-fits, fills, filled-more, filled-bytes, all-filled}
+use Rattle.model.specs.Filling.{meteredFrom, grantedFrom, filledFrom}
+use Rattle.filling.specs.Turn.{arrays, ArraysOk}
+use Rattle.filling.specs.FillingLoop.{Fillable, FillableFrom, came-asks, kept-start, FilledSteps, filled-none, goes-by}
+use Rattle.filling.specs.FillingLoop.{same-bytes, same-list, row-ends-by, row-fits, fills, filled-more, filled-bytes, all-filled}
 use Rattle.filling.specs.FillingLoop.{filled-list, filled-state}
-use Rattle.filling.specs.LongestFill.{longestFilled}
+use Rattle.filling.specs.LongestFill.{longestFrom}
 use Rattle.filling.proofs.fill_rows.Statement.{statement}
 use Rattle.filling.proofs.fill_rows.Tie as tie
 use borrow.Author.Needs.{needs}
 use native.Mathlib.Omega.{arith}
 
 abbrev Inv-loop : tie.InvT-loop
-Inv-loop bytes₀ table _ steps longs out₀ _ _ _ columns road₀ cell ramps held₀ queue₀ sent₀ _ l₀ _ _ _ _ _ _ _ _ _
-    bytes out road held queue sent came l rest room release waiting demand gate most k to =
-    let a = studyBy bytes₀ table road₀ (stateOf l₀ held₀ queue₀ sent₀) steps in
-    OnRoad a road × ((laws : List Law) → InColumns laws (columns .kinds) (columns .numbers)
-    → Filled laws bytes₀ a out₀ bytes out (stateOf l held queue sent) ramps (arrays cell rest room release waiting came demand) k to
-    × Raised longs (a .road .n) (filledAfter laws a) (queuesOf (gate .gate) (gate .waiting) most) k)
+Inv-loop bytes₀ table _ steps longs out₀ _ _ _ columns road₀ cell ramps held₀ queue₀ sent₀ l₀ rest₀ release₀ came₀ room₀ waiting₀ demand₀ _ _ _ _
+    bytes out road held queue sent l rest release came room waiting demand gate most k to =
+    let s = stateOf l₀ held₀ queue₀ sent₀ in
+    let a = studyBy bytes₀ table road₀ s steps in
+    OnRoad a road × ((laws : List Law) → InColumns laws (columns .kinds) (columns .numbers) → (releases entries : List ℕ)
+    → ArraysOk (a .road .n) (a .road .share) (a .road .ramp) (metered s releases entries) ramps (arrays cell rest₀ room₀ release₀ waiting₀ came₀ demand₀)
+    → FilledSteps laws bytes₀ a (metered s releases entries) out₀ bytes out (stateOf l held queue sent) ramps
+    (arrays cell rest room release waiting came demand) k to
+    × Raised longs (a .road .n) (λ j. meteredFrom laws a (metered s releases entries) j .state) (queuesOf (gate .gate) (gate .waiting) most) k)
 
 abbrev μ-loop : tie.MeasureT-loop
-μ-loop bytes₀ table _ steps longs out₀ _ _ _ columns road₀ cell ramps held₀ queue₀ sent₀ _ l₀ _ _ _ _ _ _ _ _ _
-    bytes out road held queue sent came l rest room release waiting demand gate most k to =
+μ-loop bytes₀ table _ steps longs out₀ _ _ _ columns road₀ cell ramps held₀ queue₀ sent₀ l₀ rest₀ release₀ came₀ room₀ waiting₀ demand₀ _ _ _ _
+    bytes out road held queue sent l rest release came room waiting demand gate most k to =
     steps - k
 
 -- places of the code: the listing and the columns from the ledger, the arguments from the columns, and a turn's road from the places after it
 abbrev Listing : tie.After-of Inv-loop μ-loop → tie.After-ramp-cells Inv-loop μ-loop
-Listing c = c .before .before .before .before .before
+Listing c = let h = c .before .before .before in h .before .before .before .before
 
 abbrev Split : tie.After-of Inv-loop μ-loop → tie.After-columns Inv-loop μ-loop
 Split c = Listing c .before .before .before .before
 
 abbrev A : tie.After-of Inv-loop μ-loop → tie.Start Inv-loop μ-loop
 A c = Split c .before .before .before .before .before
+
+-- and the ledger from what is worked out after it: the remainders, the last releases, what had come into each cell
+abbrev Held : tie.After-remainders Inv-loop μ-loop → tie.After-of Inv-loop μ-loop
+Held c = c .before .before .before .before .before
+
+abbrev Rested : tie.After-last-releases Inv-loop μ-loop → tie.After-remainders Inv-loop μ-loop
+Rested c = c .before .before .before .before
+
+abbrev Recalled : tie.After-came-before Inv-loop μ-loop → tie.After-last-releases Inv-loop μ-loop
+Recalled c = c .before .before .before .before .before
+
+abbrev L : tie.At-loop Inv-loop μ-loop → tie.After-of Inv-loop μ-loop
+L c = Held (Rested (Recalled (c .before)))
 
 abbrev to-road : tie.After-demand Inv-loop μ-loop → tie.Joined1 Inv-loop μ-loop
 to-road c =
@@ -67,33 +84,63 @@ to-filled c = c .before .before .before .before
 abbrev to-turn : tie.After-slice-known4 Inv-loop μ-loop → tie.Joined1 Inv-loop μ-loop
 to-turn c = to-road (to-filled c .before .before)
 
--- the study, from the ledger that the loop starts with, which is the arguments'
-abbrev Of : tie.After-of Inv-loop μ-loop → Study
-Of c =
-    let a = A c .args in
-    studyBy (a .bytes .now) (a .table .now) (a .r) (stateOf (c .of .result) (a .s .held) (a .s .queue) (a .s .cumulative)) (a .steps)
+-- the state, the study and what the wishes of step 0 go by, with any ledger; the loop starts with one that is the arguments'
+abbrev S : tie.Start Inv-loop μ-loop → Ledger → State
+S c l = let s = c .args .from .state in stateOf l (s .held) (s .queue) (s .cumulative)
 
-begins : (c : tie.After-of Inv-loop μ-loop) → let a = A c .args in Of c ≡ studyBy (a .bytes .now) (a .table .now) (a .r) (a .s) (a .steps)
-begins c =
-    let a = A c .args in
-    ap (λ (l : Ledger). studyBy (a .bytes .now) (a .table .now) (a .r) (stateOf l (a .s .held) (a .s .queue) (a .s .cumulative)) (a .steps)) (c .of .ensures)
+abbrev By : tie.Start Inv-loop μ-loop → Ledger → Study
+By c l = let a = c .args in studyBy (a .bytes .now) (a .table .now) (a .r) (S c l) (a .steps)
+
+abbrev From : tie.Start Inv-loop μ-loop → Ledger → Metered
+From c l = metered (S c l) (c .args .from .releases) (c .args .from .entries)
+
+abbrev Of : tie.After-of Inv-loop μ-loop → Study
+Of c = By (A c) (c .of .result)
+
+abbrev M : tie.After-of Inv-loop μ-loop → Metered
+M c = From (A c) (c .of .result)
+
+asked : (c : tie.After-of Inv-loop μ-loop) → FillableFrom (A c .args .bytes .now) (Of c) (M c) (A c .args .out .now)
+asked c =
+    let s = A c in
+    subst (λ (l : Ledger). FillableFrom (s .args .bytes .now) (By s l) (From s l) (s .args .out .now)) (sym (c .of .ensures)) (s .pre)
 
 fillable : (c : tie.After-of Inv-loop μ-loop) → Fillable (A c .args .bytes .now) (Of c) (A c .args .out .now)
-fillable c = let s = A c in subst (λ (a : Study). Fillable (s .args .bytes .now) a (s .args .out .now)) (sym (begins c)) (s .pre)
+fillable c = asked c .fillable
+
+-- the arrays before the first step have the last one
+kept : (c : tie.After-came-before Inv-loop μ-loop) →
+    let b = Held (Rested (Recalled c)) in
+    ArraysOk (Of b .road .n) (Of b .road .share) (Of b .road .ramp) (M b) (Listing b .ramp-cells .result)
+    (arrays (Listing b .ramp-cells .last .1 .1 .0) (Rested (Recalled c) .remainders .last .1 .1 .1 .0) (replicate 65 0)
+    (Recalled c .last-releases .last .1 .1 .1 .0) (replicate 64 0) (c .came-before .last .1 .1 .1 .1 .0) (replicate 64 0))
+kept c =
+    let b = Held (Rested (Recalled c)) in
+    let k = asked b in
+    kept-start {a = Of b} (k .fillable .readable .ok .road .cells) (came-asks k) (k .longReleases) (k .longEntries) (record {
+      listed = Listing b .ramp-cells .ensures .0;
+      ramped = Listing b .ramp-cells .ensures .1 .0;
+      rest = Rested (Recalled c) .remainders .ensures;
+      release = Recalled c .last-releases .ensures;
+      came = c .came-before .ensures;
+      room = omega (arith, length-replicate {A = ℕ} 65 0);
+      waits = refl;
+      demand = refl;
+    })
 
 -- what the steps before have filled by the laws of the arguments
 so-far : (c : tie.At-loop Inv-loop μ-loop) →
-    let b = c .before in
+    let b = L c in
     let a = A b .args in
     let l = c .loop in
-    Filled (a .laws) (a .bytes .now) (Of b) (a .out .now) (l .bytes) (l .out) (stateOf (l .l) (l .held) (l .queue) (l .cumulative)) (Listing b .ramp-cells .result)
+    FilledSteps (a .laws) (a .bytes .now) (Of b) (M b) (a .out .now) (l .bytes) (l .out) (stateOf (l .l) (l .held) (l .queue) (l .cumulative)) (Listing b .ramp-cells .result)
     (arrays (Listing b .ramp-cells .last .1 .1 .0) (l .rest) (l .room) (l .release) (l .waiting) (l .came) (l .demand)) (l .k) (l .to)
-so-far c = c .loop .inv .1 (A (c .before) .args .laws) (Split (c .before) .columns .ensures) .0
+so-far c = let a = A (L c) .args in c .loop .inv .1 (a .laws) (Split (L c) .columns .ensures) (a .from .releases) (a .from .entries) (kept (c .before)) .0
 
 -- the road of the turn, with the capacities of its step or, with an empty table, as it was
 turned : (c : tie.Joined1 Inv-loop μ-loop) →
     let l = c .before .before in
-    Turned (Of (l .before)) (l .loop .road) (l .loop .k) (c .if1 .road)
+    Turned (Of (L l)) (l .loop .road) (l .loop .k) (c .if1 .road)
 turned c =
     let l = c .before .before in
     record {
@@ -105,44 +152,38 @@ turned c =
     }
 
 -- the part of the list that a turn lends
-part : (c : tie.In-loop Inv-loop μ-loop) → c .before .loop .to + places (Of (c .before .before)) ≤ length (c .before .loop .out)
-part c = row-fits (fillable (c .before .before)) (so-far (c .before)) (c .loop-test .taken)
+part : (c : tie.In-loop Inv-loop μ-loop) → c .before .loop .to + places (Of (L (c .before))) ≤ length (c .before .loop .out)
+part c = row-fits (fillable (L (c .before))) refl (so-far (c .before)) (c .loop-test .taken)
 
-small : (c : tie.In-loop Inv-loop μ-loop) → c .before .loop .to + places (Of (c .before .before)) ≤ mostOutflows
+small : (c : tie.In-loop Inv-loop μ-loop) → c .before .loop .to + places (Of (L (c .before))) ≤ mostOutflows
 small c =
-    let p = fillable (c .before .before) in
-    row-ends-by p (so-far (c .before)) mostOutflows (p .readable .outflows) (c .loop-test .taken)
+    let p = fillable (L (c .before)) in
+    row-ends-by p refl (so-far (c .before)) mostOutflows (p .readable .outflows) (c .loop-test .taken)
 
 ramp-cells-requires : tie.Need-ramp-cells-requires Inv-loop μ-loop
-ramp-cells-requires c κs = let d = c .before .before .before in (d .before .before .before .before .before .pre .readable .ok .road .cells, refl)
+ramp-cells-requires c κs = let d = c .before .before .before in (d .before .before .before .before .before .pre .fillable .readable .ok .road .cells, refl)
+
+remainders-requires : tie.Need-remainders-requires Inv-loop μ-loop
+remainders-requires c κs = fillable (c .before .before .before .before) .readable .ok .road .cells
+
+last-releases-requires : tie.Need-last-releases-requires Inv-loop μ-loop
+last-releases-requires c κs =
+    let b = Held (c .before .before .before) in
+    let cells = fillable b .readable .ok .road .cells in
+    let listed = Listing b .ramp-cells .ensures .0 in
+    (omega (arith, listed .most), λ j l. omega (arith, listed .within j l))
+
+came-before-requires : tie.Need-came-before-requires Inv-loop μ-loop
+came-before-requires c κs = came-asks (A (Held (Rested (c .before .before .before .before))) .pre)
 
 loop-holds : tie.Need-loop-holds Inv-loop μ-loop
-loop-holds c =
-    let ok = fillable c .readable .ok in
-    let cells = ok .road .cells in (
-      on-road,
-      λ laws columns. (
-        filled-none ok (record {
-          listed = Listing c .ramp-cells .ensures .0;
-          ramped = Listing c .ramp-cells .ensures .1 .0;
-          rest = zero-at 64;
-          release = zero-at 64;
-          came = refl;
-          longRest = omega (arith, length-replicate {A = ℕ} 64 0);
-          longRoom = omega (arith, length-replicate {A = ℕ} 65 0);
-          longRelease = omega (arith, length-replicate {A = ℕ} 64 0);
-          longWaits = omega (arith, length-replicate {A = ℕ} 64 0);
-          longDemand = omega (arith, length-replicate {A = ℕ} 64 0);
-        }),
-        raised-none _ _ _,
-      ),
-    )
+loop-holds c = (on-road, λ laws columns releases entries k. (filled-none refl k, raised-none _ _ _))
 
 step-capacities-requires : tie.Need-step-capacities-requires Inv-loop μ-loop
 step-capacities-requires c κs =
     let i = c .before in
-    let a = A (i .before .before) in
-    let t = a .pre .readable in (
+    let a = A (L (i .before)) in
+    let t = a .pre .fillable .readable in (
       t .ok .road .cells,
       (
         omega (arith, i .loop-test .taken, t .ok .steps),
@@ -164,27 +205,27 @@ fill-row-requires c κs =
     let j = to-road (c .before) in
     let t = j .before in
     let l = t .before in
-    let b = l .before in
+    let b = L l in
     let laws = A b .args .laws in
     let h = so-far l in
     record {
       laws = laws;
       road = j .if1 .road;
-      releases = meteredAfter laws (Of b) (l .loop .k) .releases;
-      entries = meteredAfter laws (Of b) (l .loop .k) .entries;
-      fills = fills (fillable b) h (t .loop-test .taken) (turned-road (turned j)) (goes-by (fillable b) h) (Split b .columns .ensures)
+      releases = meteredFrom laws (Of b) (M b) (l .loop .k) .releases;
+      entries = meteredFrom laws (Of b) (M b) (l .loop .k) .entries;
+      fills = fills (fillable b) refl h (t .loop-test .taken) (turned-road (turned j)) (goes-by (fillable b) refl h) (Split b .columns .ensures)
           (part-length (l .loop .out) (l .loop .to) (places (Of b)) (part t));
     }
 
 raised-requires : tie.Need-raised-requires Inv-loop μ-loop
 raised-requires c κs =
     let i = to-turn (c .before .before .before) .before in
-    A (i .before .before) .pre .readable .ok .road .cells
+    A (L (i .before)) .pre .fillable .readable .ok .road .cells
 
 add-k : tie.Need-add-k Inv-loop μ-loop
 add-k c =
     let i = to-turn (c .before) .before in
-    omega (arith, i .loop-test .taken, A (i .before .before) .pre .readable .ok .steps)
+    omega (arith, i .loop-test .taken, A (L (i .before)) .pre .fillable .readable .ok .steps)
 
 loop-less : tie.Need-loop-less Inv-loop μ-loop
 loop-less c = omega (arith, to-turn (c .before) .before .loop-test .taken)
@@ -194,17 +235,18 @@ loop-again c =
     let j = to-turn (c .before) in
     let t = j .before in
     let l = t .before in
-    let b = l .before in
+    let b = L l in
     let p = fillable b in
     let road = turned-road (turned j) in (
       turned-on (turned j),
-      λ laws columns.
-          let h = l .loop .inv .1 laws columns in
-          let by = goes-by p (h .0) in
-          let asks = fills p (h .0) (t .loop-test .taken) road by columns (part-length (l .loop .out) (l .loop .to) (places (Of b)) (part t)) in
-          let made = filled-more p (h .0) (t .loop-test .taken) road by
-          (to-filled (c .before) .fill-row .ensures laws (j .if1 .road) (meteredAfter laws (Of b) (l .loop .k) .releases)
-          (meteredAfter laws (Of b) (l .loop .k) .entries) asks) in (
+      λ laws columns releases entries k.
+          let m = metered (S (A b) (b .of .result)) releases entries in
+          let h = l .loop .inv .1 laws columns releases entries k in
+          let by = goes-by p refl (h .0) in
+          let asks = fills p refl (h .0) (t .loop-test .taken) road by columns (part-length (l .loop .out) (l .loop .to) (places (Of b)) (part t)) in
+          let made = filled-more p refl (h .0) (t .loop-test .taken) road by
+          (to-filled (c .before) .fill-row .ensures laws (j .if1 .road) (meteredFrom laws (Of b) m (l .loop .k) .releases)
+          (meteredFrom laws (Of b) m (l .loop .k) .entries) asks) in (
             made,
             raised-more _ _ _ (h .1) (p .readable .ok .road .cells) (h .0 .state) (made .state) (λ asked. elim (c .if2 .came) [
               | inl q ↦ ap (λ (g : AtGate). queuesOf (g .gate) (g .waiting) (c .if2 .most)) (q .4)
@@ -216,30 +258,33 @@ loop-again c =
     )
 
 same-length : tie.Need-same-length Inv-loop μ-loop
-same-length c = let l = c .before .before .before in same-bytes (fillable (l .before)) (so-far l)
+same-length c = let l = c .before .before .before .before in same-bytes (fillable (L l)) refl (so-far l)
 
 same-length-2 : tie.Need-same-length-2 Inv-loop μ-loop
-same-length-2 c = let l = c .before .before .before in same-list (fillable (l .before)) (so-far l)
+same-length-2 c = let l = c .before .before .before .before in same-list (fillable (L l)) refl (so-far l)
 
 returns : tie.Need-returns Inv-loop μ-loop
 returns c =
-    let l = c .before .before .before in
-    let b = l .before in
-    let a = A b .args in
+    let l = c .before .before .before .before in
+    let b = L l in
+    let s = A b in
+    let a = s .args in
     let p = fillable b in
     let h = so-far l in
-    let end = c .before .before .loop-test .left in
-    let e = begins b in
-    let all = all-filled p h end in (
-      filled-bytes p h end ∙ ap (λ (x : Study). putTable (a .bytes .now) (a .r .n) (grantedIn (a .laws) x) (a .steps)) e,
+    let end = c .before .before .before .loop-test .left in
+    let e = b .of .ensures in
+    let all = all-filled p refl h end in (
+      filled-bytes p refl h end ∙ ap (λ (x : Ledger). putTable (a .bytes .now) (a .r .n) (grantedFrom (a .laws) (By s x) (From s x)) (a .steps)) e,
       (
-        filled-list p h end ∙ ap (λ (x : Study). tableOf (filledStudy (a .laws) x) (a .out .now) (a .steps)) e,
+        filled-list p refl h end ∙ ap (λ (x : Ledger). tableOf (filledFrom (a .laws) (By s x) (From s x)) (a .out .now) (a .steps)) e,
         (
-          ap endAnswer (c .complete .ensures)
+          ap endAnswer (c .longest .ensures .0 ∙ c .before .complete .ensures)
               ∙ ap (ended 0 0 0 (a .r))
-              (filled-state p h end (c .before .state .ensures) ∙ ap (λ (x : Study). meteredAfter (a .laws) x (a .steps) .state) e),
+              (filled-state p refl h end (c .before .before .state .ensures) ∙ ap (λ (x : Ledger). meteredFrom (a .laws) (By s x) (From s x) (a .steps) .state) e),
           λ asked.
-              raised-end _ _ _ (l .loop .inv .1 (a .laws) (Split b .columns .ensures) .1) all asked ∙ ap (longestFilled (a .laws)) e,
+              c .longest .ensures .1
+              ∙ raised-end _ _ _ (l .loop .inv .1 (a .laws) (Split b .columns .ensures) (a .from .releases) (a .from .entries) (kept (l .before)) .1) all asked
+              ∙ ap (λ (x : Ledger). longestFrom (a .laws) (By s x) (From s x)) e,
         ),
       ),
     )
@@ -248,6 +293,7 @@ pub fill-rows-spec : {M : Type 1} → statement M
 fill-rows-spec =
     tie.close
     (tie.spec
-    Inv-loop μ-loop (λ c. search needs) (λ c κs. search needs) ramp-cells-requires (λ c κs. search needs) loop-holds step-capacities-requires add-end
+    Inv-loop μ-loop (λ c. search needs) (λ c κs. search needs) ramp-cells-requires (λ c κs. search needs) remainders-requires last-releases-requires
+    came-before-requires loop-holds step-capacities-requires add-end
     mul-fill-row (λ c. search needs) (λ c. search needs) part-fill-row-end fill-row-requires raised-requires add-k loop-less loop-again
-    (λ c κs. search needs) (λ c κs. search needs) same-length same-length-2 returns)
+    (λ c κs. search needs) (λ c κs. search needs) (λ c κs. search needs) same-length same-length-2 returns)

@@ -31,7 +31,7 @@ asked c = not-false (A c .args .writes) (c .before .if1 .left)
 long : (c : tie.At-loop Inv-loop μ-loop) → A c .args .from + (A c .args .n + 1) ≤ length (c .loop .list)
 long c = omega (arith, A c .pre .1 .1 (asked c), copied-length (c .loop .inv .copied))
 
--- what is asked for, and what is not
+-- what is wanted, and what is not
 abbrev Row : tie.Start Inv-loop μ-loop → List ℕ
 Row c = placed (c .args .list .now) (c .args .from) (placesOf (c .args .gate) (c .args .cells .now) (c .args .n))
 

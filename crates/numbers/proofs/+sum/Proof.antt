@@ -34,7 +34,7 @@ halves l = record {
 }
 
 module _ (t : ℕ) where
-  -- what a row of length t asks, and what the functions that it calls claim: `sum` itself of shorter rows
+  -- what a row of length t requires, and what the functions that it calls claim: `sum` itself of shorter rows
   abbrev Pre : In 1 sum-kinds.ps
   Pre = and 1 sum-kinds.ps (is 1 sum-kinds.ps μ-sum t) sum.Pre
 

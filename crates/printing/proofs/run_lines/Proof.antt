@@ -15,11 +15,11 @@ use Rattle.outflows.specs.declared.Ledger.{Ledger}
 use Rattle.outflows.specs.Columns.{stateOf}
 use Rattle.model.specs.Reading.{studyBy}
 use Rattle.passes.specs.Step.{Arrays, StepAsks}
-use Rattle.running.specs.Arrays.{arrays-none}
+use Rattle.running.specs.Arrays.{arrays-start}
 use Rattle.running.specs.Steps.{RanTurn, passes-ask, ends-fault}
 use Rattle.listing.specs.ListingLaws.{header-room}
 use Rattle.model.specs.Listing.{printedRun, Printed}
-use Rattle.printing.specs.Lines.{Printable, Lined, lined-same, lined-none, lined-more, lines-fit, line-fits, lines-end, holds-fault, holds-run}
+use Rattle.printing.specs.Lines.{Printable, LinesInBuffer, lined-same, lined-none, lined-more, lines-fit, line-fits, lines-end, holds-fault, holds-run}
 use Rattle.printing.proofs.run_lines.Statement.{statement}
 use Rattle.printing.proofs.run_lines.Tie as tie
 use borrow.Author.Needs.{needs}
@@ -28,7 +28,7 @@ use native.Mathlib.Omega.{arith}
 abbrev Inv-loop : tie.InvT-loop
 Inv-loop bytes steps buffer₀ r _ _ cell ramps held₀ queue₀ sent₀ l₀ _ _ _ _ _ end₀ _
     buffer held queue sent l rest room release waiting demand end k =
-    Lined (studyBy bytes [] r (stateOf l₀ held₀ queue₀ sent₀) steps) buffer₀ end₀ buffer (stateOf l held queue sent) end k
+    LinesInBuffer (studyBy bytes [] r (stateOf l₀ held₀ queue₀ sent₀) steps) buffer₀ end₀ buffer (stateOf l held queue sent) end k
     × Arrays r ramps cell sent rest room release waiting demand
 
 abbrev μ-loop : tie.MeasureT-loop
@@ -40,8 +40,11 @@ abbrev μ-loop : tie.MeasureT-loop
 abbrev Header : tie.At-loop Inv-loop μ-loop → tie.After-header Inv-loop μ-loop
 Header c = c .before .before .before
 
+abbrev Rested : tie.After-header Inv-loop μ-loop → tie.After-remainders Inv-loop μ-loop
+Rested c = c .before .before
+
 abbrev Opened : tie.After-header Inv-loop μ-loop → tie.After-of Inv-loop μ-loop
-Opened c = c .before .before
+Opened c = Rested c .before .before .before .before .before
 
 abbrev Listing : tie.After-of Inv-loop μ-loop → tie.After-ramp-cells Inv-loop μ-loop
 Listing c = c .before .before .before .before
@@ -111,7 +114,7 @@ turn c =
       numbers = refl;
     }
 
--- what the step asks of its row
+-- what the step requires of its row
 asked : (c : tie.In-loop Inv-loop μ-loop) {y : List ℕ} →
     let l = c .before in
     let p = l .loop in
@@ -132,13 +135,16 @@ faultless c = sym (c .before .number .ensures) ∙ c .if1 .left
 ramp-cells-requires : tie.Need-ramp-cells-requires Inv-loop μ-loop
 ramp-cells-requires c κs = let b = c .before .before .before .before .before in (b .pre .readable .ok .road .cells, refl)
 
+remainders-requires : tie.Need-remainders-requires Inv-loop μ-loop
+remainders-requires c κs = Begun (Listing (c .before .before .before .before)) .pre .readable .ok .road .cells
+
 loop-holds : tie.Need-loop-holds Inv-loop μ-loop
 loop-holds c =
     let h = c .before .before in
     let o = Opened h in
     let p = printable o in
     let z = header-room (Begun (Listing o) .args .buffer .now) 0 _ _ (h .header .ensures) in
-    (lined-none (omega (arith, z .end)) (omega (arith, z .same, p .enough)), arrays-none (p .readable .ok) (Listing o .ramp-cells .ensures .0))
+    (lined-none (omega (arith, z .end)) (omega (arith, z .same, p .enough)), arrays-start (p .readable .ok) (Listing o .ramp-cells .ensures .0) (Rested h .remainders .ensures))
 
 array-borrow-prefix-y : tie.Need-array-borrow-prefix-y Inv-loop μ-loop
 array-borrow-prefix-y c = omega (arith, A (Lent c .before) .pre .readable .ok .road .cells)
@@ -216,6 +222,6 @@ pub run-lines-spec : {M : Type 1} → statement M
 run-lines-spec =
     tie.close
     (tie.spec
-    Inv-loop μ-loop (λ c. search needs) ramp-cells-requires (λ c κs. search needs) (λ c κs. search needs) loop-holds array-borrow-prefix-y
+    Inv-loop μ-loop (λ c. search needs) ramp-cells-requires (λ c κs. search needs) remainders-requires (λ c κs. search needs) loop-holds array-borrow-prefix-y
     slice-aggregate-step-lines step-lines-requires (λ c κs. search needs) refused-requires same-length returns add-k loop-less loop-again
     (λ c κs. search needs) last-lines-requires (λ c. search needs) returns-2)

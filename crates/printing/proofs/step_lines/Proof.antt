@@ -11,12 +11,25 @@ use Rattle.printing.proofs.step_lines.Statement.{statement}
 use Rattle.printing.proofs.step_lines.Tie as tie
 use borrow.Author.Needs.{needs}
 
--- places of the code: the arguments from where the step is asked for, and the step from its test
+-- places of the code: where the step's columns are lent, from the row back to the rooms, to what the cells hold and to the arguments; the step from its
+-- test; and the test from where the lines are asked for
+abbrev Rooms : tie.After-step-arg9 → tie.After-step-arg5
+Rooms c = c .before .before .before .before
+
+abbrev Held : tie.After-step-arg5 → tie.After-step-arg
+Held c = c .before .before .before .before
+
+abbrev Given : tie.After-step-arg → tie.Start
+Given c = c .before .before .before .before
+
 abbrev A : tie.After-step-arg9 → tie.Start
-A c = let a = c .before .before .before .before .before .before in a .before .before .before .before .before .before
+A c = Given (Held (Rooms c))
 
 abbrev Made : tie.After-number → tie.After-step
 Made c = c .before .before .before .before .before
+
+abbrev Tested : tie.After-lines-arg4 → tie.Else1
+Tested c = c .before .before .before .before
 
 -- the state after the step, as the code has it
 abbrev After : tie.After-step → State
@@ -38,7 +51,7 @@ returns c r h =
 
 lines-requires : tie.Need-lines-requires
 lines-requires c κs =
-    let d = c .before .before .before .before in
+    let d = Tested c in
     let m = Made (d .before) in
     let a = A (m .before) in
     let p = a .pre .0 in
@@ -48,7 +61,7 @@ lines-requires c κs =
 returns-2 : tie.Need-returns-2
 returns-2 c r h =
     let l = c .before .before in
-    let d = l .before .before .before .before .before in
+    let d = Tested (l .before) in
     let m = Made (d .before) in
     put-lines (m .step .ensures r h) (faultless d) (l .lines .ensures (After m))
 

@@ -4,7 +4,7 @@ use mathlib.Core.Bool.{true}
 use borrow.Author.Tests.{not-true, not-false}
 use Rattle.model.specs.Refusals.{refusalNumber}
 use Rattle.reading.specs.Within.{read-within, read-row}
-use Rattle.model.specs.Put.{rampOk, ratesOk}
+use Rattle.model.specs.Put.{rampOk, stepAndRateOk}
 use Rattle.put.specs.PutLaws.{ramp-facts, rates-facts, ends-unread, ends-ramp, ends-rates, ends-put}
 use Rattle.put.specs.Theorems.{ended}
 use Rattle.put.proofs.put.Statement.{statement}
@@ -35,7 +35,7 @@ ramped c = sym (c .before .has-ramp .ensures) ∙ not-false _ (c .if2 .left)
 
 rated : (c : tie.Else3) →
     let r = to-read (to-passed (to-ramp (c .before) .before)) in
-    ratesOk (A r .args .step) (r .read .result .steps) (A r .args .release) ≡ true
+    stepAndRateOk (A r .args .step) (r .read .result .steps) (A r .args .release) ≡ true
 rated c = sym (c .before .rates-within .ensures) ∙ not-false _ (c .if3 .left)
 
 returns : tie.Need-returns

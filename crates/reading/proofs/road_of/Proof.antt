@@ -10,7 +10,7 @@ use Rattle.reading.proofs.road_of.Statement.{statement}
 use Rattle.reading.proofs.road_of.Tie as tie
 use borrow.Author.Needs.{needs}
 
--- the arguments, from the count of the seconds' bytes, and this count; the gate's capacity, which stands so much later
+-- the arguments, from the count of the seconds' bytes, and this count; the gate's capacity, which is so much later
 abbrev A : tie.After-seconds-size → tie.Start
 A c = c .before .before .before
 

@@ -29,9 +29,9 @@ use Rattle.counts.specs.LongestRun.{longestEnd}
 use Rattle.counts.specs.LongestSoFar.{Raised, raised-none, raised-more, raised-end}
 use Rattle.passes.specs.Step.{Arrays, StepAsks}
 use Rattle.running.specs.Steps.{RanTurn, same-places, passes-ask, steps-all, ends-ran, ends-fault, steps-fault}
-use Rattle.running.specs.Arrays.{arrays-none, arrays-on, arrays-off}
+use Rattle.running.specs.Arrays.{arrays-start, arrays-on, arrays-off}
 use Rattle.running.specs.WeightedTotal.{weighedEnd, Totalled, totalled-none, totalled-fits, totalled-more, totalled-end}
-use Rattle.running.specs.LentList.{Runnable, part-back, Made, made-none, made-more, same-length, row-fits, row-ends-by, table-end, table-fault}
+use Rattle.running.specs.LentList.{Runnable, part-back, RowsInList, made-none, made-more, same-length, row-fits, row-ends-by, table-end, table-fault}
 use Rattle.running.proofs.run_rows.Statement.{statement}
 use Rattle.running.proofs.run_rows.Tie as tie
 use borrow.Author.Needs.{needs}
@@ -41,7 +41,7 @@ abbrev Inv-loop : tie.InvT-loop
 Inv-loop bytes table r steps weighs longs out₀ weights _ _ _ _ cell ramps held₀ queue₀ sent₀ l₀ _ _ _ _ _ _ _ _ _ _
     out road held queue sent l rest room release waiting demand gate most total k to =
     let a = studyBy bytes table r (stateOf l₀ held₀ queue₀ sent₀) steps in
-    Made a out₀ out (stateOf l held queue sent) k to
+    RowsInList a out₀ out (stateOf l held queue sent) k to
     × (OnRoad a road × (Totalled weighs (at (weights .places)) (at (weights .ramps)) a total k
     × (Arrays r ramps cell sent rest room release waiting demand
     × Raised longs (r .n) (engineAfter a) (queuesOf (gate .gate) (gate .waiting) most) k)))
@@ -51,15 +51,21 @@ abbrev μ-loop : tie.MeasureT-loop
     out road held queue sent l rest room release waiting demand gate most total k to =
     steps - k
 
--- places of the code: the arguments from the loop's place, a turn's start from its test of releases, and the test from the places after it
+-- places of the code: the arguments and the ledger's place from the loop's, a turn's start from its test of releases, and the test from the places after it
 abbrev Listing : tie.After-of Inv-loop μ-loop → tie.After-ramp-cells Inv-loop μ-loop
 Listing c = c .before .before .before .before
 
 abbrev Begun : tie.After-ramp-cells Inv-loop μ-loop → tie.Start Inv-loop μ-loop
 Begun c = let h = c .before .before .before .before in h .before .before .before .before
 
+abbrev Held : tie.After-remainders Inv-loop μ-loop → tie.After-of Inv-loop μ-loop
+Held c = c .before .before .before .before .before
+
+abbrev L : tie.At-loop Inv-loop μ-loop → tie.After-of Inv-loop μ-loop
+L c = Held (c .before)
+
 abbrev A : tie.At-loop Inv-loop μ-loop → tie.Start Inv-loop μ-loop
-A c = Begun (Listing (c .before))
+A c = Begun (Listing (L c))
 
 abbrev Lent : tie.After-demand Inv-loop μ-loop → tie.Joined1 Inv-loop μ-loop
 Lent c = let a = c .before .before .before .before .before in let b = a .before .before .before .before .before in b .before .before .before .before .before
@@ -97,7 +103,7 @@ Now c = let p = c .loop in stateOf (p .l) (p .held) (p .queue) (p .cumulative)
 -- the road of the turn, with the capacities of its step or, with an empty table, as it was
 turned : (c : tie.Joined1 Inv-loop μ-loop) →
     let l = c .before .before in
-    Turned (Of (l .before)) (l .loop .road) (l .loop .k) (c .if1 .road)
+    Turned (Of (L l)) (l .loop .road) (l .loop .k) (c .if1 .road)
 turned c =
     let l = c .before .before in
     record {
@@ -118,11 +124,11 @@ same-cells c = ap (λ (x : Road). x .n) (turned-on (turned c) .other)
 -- what a turn knows
 turn : (c : tie.Joined1 Inv-loop μ-loop) →
     let l = c .before .before in
-    RanTurn (Of (l .before)) (Now l) (l .loop .k) (c .if1 .road) (recordRow (A l .args .bytes .now) (c .if1 .road .n) (l .loop .k))
+    RanTurn (Of (L l)) (Now l) (l .loop .k) (c .if1 .road) (recordRow (A l .args .bytes .now) (c .if1 .road .n) (l .loop .k))
 turn c =
     let l = c .before .before in
     record {
-      ok = runnable (l .before) .readable .ok;
+      ok = runnable (L l) .readable .ok;
       ran = l .loop .inv .0 .ran;
       left = c .before .loop-test .taken;
       road = turned-road (turned c);
@@ -130,14 +136,14 @@ turn c =
     }
 
 -- the part of the list that the turn's row goes to
-fits : (c : tie.In-loop Inv-loop μ-loop) → c .before .loop .to + places (Of (c .before .before)) ≤ length (c .before .loop .out)
-fits c = let k = runnable (c .before .before) in row-fits (c .before .loop .inv .0) (k .readable .ok) (k .long) (c .loop-test .taken)
+fits : (c : tie.In-loop Inv-loop μ-loop) → c .before .loop .to + places (Of (L (c .before))) ≤ length (c .before .loop .out)
+fits c = let k = runnable (L (c .before)) in row-fits (c .before .loop .inv .0) (k .readable .ok) (k .long) (c .loop-test .taken)
 
-small : (c : tie.In-loop Inv-loop μ-loop) → c .before .loop .to + places (Of (c .before .before)) ≤ mostOutflows
-small c = row-ends-by (c .before .loop .inv .0) mostOutflows (runnable (c .before .before) .readable .outflows) (c .loop-test .taken)
+small : (c : tie.In-loop Inv-loop μ-loop) → c .before .loop .to + places (Of (L (c .before))) ≤ mostOutflows
+small c = row-ends-by (c .before .loop .inv .0) mostOutflows (runnable (L (c .before)) .readable .outflows) (c .loop-test .taken)
 
 list-kept : (c : tie.At-loop Inv-loop μ-loop) → length (c .loop .out) ≡ length (A c .args .out .now)
-list-kept c = let k = runnable (c .before) in same-length (c .loop .inv .0) (k .readable .ok) (k .long)
+list-kept c = let k = runnable (L c) in same-length (c .loop .inv .0) (k .readable .ok) (k .long)
 
 -- at the end, what holds of the loop's study holds of the arguments'
 ends : (c : tie.After-of Inv-loop μ-loop) {x : EndAnswer} {out : List ℕ} {t : ℕ} {q : Queues} →
@@ -164,20 +170,20 @@ faulty c z = c .if2 .taken (c .before .number .ensures ∙ z)
 faultless : (c : tie.Else2 Inv-loop μ-loop) → refusalNumber (Made-step (c .before) .step .result .fault .refusal) ≡ 0
 faultless c = sym (c .before .number .ensures) ∙ c .if2 .left
 
--- the part, and what the step asks of it
+-- the part, and what the step requires of it
 abbrev Part : tie.Joined1 Inv-loop μ-loop → List ℕ
-Part c = let p = c .before .before .loop in take (p .to + places (Of (c .before .before .before)) - p .to) (drop (p .to) (p .out))
+Part c = let p = c .before .before .loop in take (p .to + places (Of (L (c .before .before))) - p .to) (drop (p .to) (p .out))
 
 asked : (c : tie.Joined1 Inv-loop μ-loop) →
     let l = c .before .before in
     let p = l .loop in
-    let r = Listing (l .before) .ramp-cells in
+    let r = Listing (L l) .ramp-cells in
     StepAsks (A l .args .bytes .now) (p .k) (c .if1 .road) (Now l) (r .result) (r .last .1 .1 .0) (p .rest) (p .room) (p .release) (p .waiting) (p .demand) (Part c)
 asked c =
     let l = c .before .before in
     let p = l .loop in
     passes-ask (turn c) (subst (λ (n : ℕ). HoldsRow (A l .args .bytes .now) n (p .k)) (sym (same-cells c)) (holds (c .before)))
-    (arrays-on (turned-on (turned c)) (p .inv .1 .1 .1 .0)) (same-places (turn c) (part-length (p .out) (p .to) (places (Of (l .before))) (fits (c .before))))
+    (arrays-on (turned-on (turned c)) (p .inv .1 .1 .1 .0)) (same-places (turn c) (part-length (p .out) (p .to) (places (Of (L l))) (fits (c .before))))
 
 add-places : tie.Need-add-places Inv-loop μ-loop
 add-places c = search needs
@@ -185,10 +191,13 @@ add-places c = search needs
 ramp-cells-requires : tie.Need-ramp-cells-requires Inv-loop μ-loop
 ramp-cells-requires c κs = let b = c .before .before .before .before in (b .before .before .before .pre .readable .ok .road .cells, refl)
 
+remainders-requires : tie.Need-remainders-requires Inv-loop μ-loop
+remainders-requires c κs = Begun (Listing (c .before .before .before .before)) .pre .readable .ok .road .cells
+
 loop-holds : tie.Need-loop-holds Inv-loop μ-loop
 loop-holds c =
-    let ok = runnable c .readable .ok in
-    (made-none, (on-road, (totalled-none _ _ _ _, (arrays-none ok (Listing c .ramp-cells .ensures .0), raised-none _ _ _))))
+    let o = Held c in
+    (made-none, (on-road, (totalled-none _ _ _ _, (arrays-start (runnable o .readable .ok) (Listing o .ramp-cells .ensures .0) (c .remainders .ensures), raised-none _ _ _))))
 
 step-capacities-requires : tie.Need-step-capacities-requires Inv-loop μ-loop
 step-capacities-requires c κs =
@@ -228,15 +237,16 @@ at-step-requires c κs = search needs
 
 same-length-fault : tie.Need-same-length Inv-loop μ-loop
 same-length-fault c =
-    let m = Made-step (c .before .before .before) in
+    let m = Made-step (c .before .before .before .before) in
     let j = Step m in
     let p = j .before .before .loop in
     let gave = m .step .ensures (j .if1 .road) (asked j) in
-    ap length (part-back (p .out) (p .to) (places (Of (j .before .before .before))) (gave .same (faulty (c .before .before)) .1)) ∙ list-kept (j .before .before)
+    ap length (part-back (p .out) (p .to) (places (Of (L (j .before .before)))) (gave .same (faulty (c .before .before .before)) .1)) ∙ list-kept (j .before .before)
 
 returns : tie.Need-returns Inv-loop μ-loop
 returns c =
-    let d = c .before .before in
+    let t = c .tallied .ensures in
+    let d = c .before .before .before in
     let m = Made-step (d .before) in
     let j = Step m in
     let l = j .before .before in
@@ -245,12 +255,12 @@ returns c =
     let gave = m .step .ensures (j .if1 .road) (asked j) in
     let n = faulty d in
     let same = gave .same n in
-    let e = ap endAnswer (c .at-step .ensures)
+    let e = ap endAnswer (t .0 ∙ c .before .at-step .ensures)
     ∙ ap (λ (u : State). ended (refusalNumber (q .refusal)) (p .k) (q .place) (A l .args .r) u)
-    (c .before .state .ensures ∙ ap (λ (u : State). stateOf (p .l) (u .held) (u .queue) (u .cumulative)) (same .0)) in
-    ends (l .before) (ends-fault (turn j) (gave .says) n e) (part-back (p .out) (p .to) (places (Of (l .before))) (same .1) ∙ table-fault (p .inv .0) (turn j) (gave .says) n)
-    (totalled-end _ _ _ _ (p .inv .1 .1 .0) (steps-fault (turn j) (gave .says) n))
-    (raised-end _ _ _ (p .inv .1 .1 .1 .1) (steps-fault (turn j) (gave .says) n))
+    (c .before .before .state .ensures ∙ ap (λ (u : State). stateOf (p .l) (u .held) (u .queue) (u .cumulative)) (same .0)) in
+    ends (L l) (ends-fault (turn j) (gave .says) n e) (part-back (p .out) (p .to) (places (Of (L l))) (same .1) ∙ table-fault (p .inv .0) (turn j) (gave .says) n)
+    (t .1 .1 ∙ totalled-end _ _ _ _ (p .inv .1 .1 .0) (steps-fault (turn j) (gave .says) n))
+    (λ asked. t .1 .0 ∙ raised-end _ _ _ (p .inv .1 .1 .1 .1) (steps-fault (turn j) (gave .says) n) asked)
 
 added-requires : tie.Need-added-requires Inv-loop μ-loop
 added-requires c κs =
@@ -308,16 +318,17 @@ complete-requires : tie.Need-complete-requires Inv-loop μ-loop
 complete-requires c κs = search needs
 
 same-length-end : tie.Need-same-length-2 Inv-loop μ-loop
-same-length-end c = list-kept (c .before .before .before)
+same-length-end c = list-kept (c .before .before .before .before)
 
 returns-2 : tie.Need-returns-2 Inv-loop μ-loop
 returns-2 c =
-    let l = c .before .before .before in
-    let e = ap endAnswer (c .complete .ensures) ∙ ap (λ (u : State). ended 0 0 0 (A l .args .r) u) (c .before .state2 .ensures) in
+    let t = c .tallied2 .ensures in
+    let l = c .before .before .before .before in
+    let e = ap endAnswer (t .0 ∙ c .before .complete .ensures) ∙ ap (λ (u : State). ended 0 0 0 (A l .args .r) u) (c .before .before .state2 .ensures) in
     let ran = l .loop .inv .0 .ran in
-    ends (l .before) (ends-ran ran (search needs) e) (table-end (l .loop .inv .0) (search needs))
-    (totalled-end _ _ _ _ (l .loop .inv .1 .1 .0) (steps-all ran (search needs)))
-    (raised-end _ _ _ (l .loop .inv .1 .1 .1 .1) (steps-all ran (search needs)))
+    ends (L l) (ends-ran ran (search needs) e) (table-end (l .loop .inv .0) (search needs))
+    (t .1 .1 ∙ totalled-end _ _ _ _ (l .loop .inv .1 .1 .0) (steps-all ran (search needs)))
+    (λ asked. t .1 .0 ∙ raised-end _ _ _ (l .loop .inv .1 .1 .1 .1) (steps-all ran (search needs)) asked)
 
 pub run-rows-spec : {M : Type 1} → statement M
 run-rows-spec =
@@ -328,6 +339,7 @@ run-rows-spec =
     add-places
     ramp-cells-requires
     (λ c κs. search needs)
+    remainders-requires
     loop-holds
     step-capacities-requires
     add-end
@@ -339,6 +351,7 @@ run-rows-spec =
     (λ c κs. search needs)
     state-requires
     at-step-requires
+    (λ c κs. search needs)
     same-length-fault
     returns
     added-requires
@@ -348,5 +361,6 @@ run-rows-spec =
     loop-again
     state-requires-2
     complete-requires
+    (λ c κs. search needs)
     same-length-end
     returns-2)

@@ -4,9 +4,15 @@ use borrow.Author.Needs.{needs}
 use Rattle.stepping.proofs.next_by.Statement.{statement}
 use Rattle.stepping.proofs.next_by.Tie as tie
 
--- the arguments, from the columns that are lent
+-- places of the code: the columns of the state taken, from where they are lent, and the arguments
+abbrev Taken : tie.After-cumulative2 → tie.After-cumulative
+Taken c = c .before .before .before .before .before
+
+abbrev Given : tie.After-cumulative → tie.Start
+Given c = c .before .before .before .before .before
+
 abbrev A : tie.After-cumulative2 → tie.Start
-A c = c .before .before .before .before .before .before .before .before .before .before
+A c = Given (Taken c)
 
 advance-requires : tie.Need-advance-requires
 advance-requires c κs = record { road = A c .args .t1; movable = A c .pre .0; left = A c .pre .1 }

@@ -4,7 +4,7 @@ use Prim.Native.Nat.{_≤_}
 use lib.Seq.{length-take-le}
 use Rattle.model.specs.Road.{mostCells}
 use Rattle.model.specs.Stepping.{stepAnswer}
-use Rattle.stepping.specs.Findings.{Looked, answer-done, answer-fault, answer-next, steppable}
+use Rattle.stepping.specs.Findings.{ReleaseFinding, answer-done, answer-fault, answer-next, steppable}
 use Rattle.stepping.proofs.step_on.Statement.{statement}
 use Rattle.stepping.proofs.step_on.Tie as tie
 use native.Mathlib.Omega.{arith}
@@ -26,7 +26,7 @@ Clear c = c .before .before
 -- what is known once the releases are looked through
 looked : (c : tie.After-number) →
     let a = A (Left c) .args in
-    Looked (a .r) (a .s) (a .row .now) (c .before .releases .result) (c .number .result)
+    ReleaseFinding (a .r) (a .s) (a .row .now) (c .before .releases .result) (c .number .result)
 looked c = record {
   input = A (Left c) .pre;
   left = λ z. omega (arith, z, Left c .if1 .left);

@@ -6,7 +6,7 @@ use lib.ListN.{length}
 use borrow.Author.Tests.{not-true, not-false}
 use Rattle.model.specs.Road.{mostRate}
 use Rattle.model.specs.Limits.{allWithin}
-use Rattle.model.specs.Street.{frameOk}
+use Rattle.model.specs.Street.{streetFrameOk}
 use Rattle.street.specs.StreetLaws.{asked-frame, frame-ramps, asked-guarantees, asked-wishes, asked-sum}
 use Rattle.street.proofs.asked_within.Statement.{statement}
 use Rattle.street.proofs.asked_within.Tie as tie
@@ -18,7 +18,7 @@ A c = c .before .before .before .before
 
 framed : (c : tie.Else1) →
     let a = A c .args in
-    frameOk (a .limit) (length (a .guarantees .now)) (length (a .wishes .now)) (a .places) ≡ true
+    streetFrameOk (a .limit) (length (a .guarantees .now)) (length (a .wishes .now)) (a .places) ≡ true
 framed c = sym (c .before .frame-within .ensures) ∙ not-false _ (c .if1 .left)
 
 guaranteed : (c : tie.Else2) → allWithin (A (c .before .before) .args .guarantees .now) mostRate ≡ true

@@ -3,7 +3,7 @@ use mathlib.Core.Path.{_≡_, sym, _∙_}
 use mathlib.Core.Bool.{true}
 use lib.ListN.{length}
 use borrow.Author.Tests.{not-true, not-false}
-use Rattle.model.specs.Street.{askedOk}
+use Rattle.model.specs.Street.{streetOk}
 use Rattle.street.specs.StreetLaws.{asked-limits, refused-answer, refused-grants, granted-answer, granted-grants}
 use Rattle.street.specs.Theorems.{ended}
 use Rattle.street.proofs.grant.Statement.{statement}
@@ -16,7 +16,7 @@ A c = c .before .before .before .before
 
 accepted : (c : tie.Else1) →
     let a = A (c .before) .args in
-    askedOk (a .limit) (a .guarantees .now) (a .wishes .now) (length (a .grants .now)) ≡ true
+    streetOk (a .limit) (a .guarantees .now) (a .wishes .now) (length (a .grants .now)) ≡ true
 accepted c = sym (c .before .asked-within .ensures) ∙ not-false _ (c .if1 .left)
 
 returns : tie.Need-returns

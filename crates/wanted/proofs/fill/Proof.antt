@@ -3,14 +3,14 @@ use mathlib.Core.Path.{_≡_, refl, sym, _∙_}
 use Prim.Native.Nat.{suc, _-_, max}
 use lib.ListN.{length-set}
 use Rattle.model.specs.Numbers.{at}
-use Rattle.wanted.specs.Loops.{Filled, larger-is, filled-none, arrival-fits, before-fits, filled-more, filled-end}
+use Rattle.wanted.specs.Loops.{TableFilled, larger-is, filled-none, arrival-fits, before-fits, filled-more, filled-end}
 use Rattle.wanted.proofs.fill.Statement.{statement}
 use Rattle.wanted.proofs.fill.Tie as tie
 use borrow.Author.Needs.{needs}
 use native.Mathlib.Omega.{arith}
 
 abbrev Inv-loop : tie.InvT-loop
-Inv-loop start ceiling rate arrivals table₀ total₀ after₀ k₀ table total after k = Filled start ceiling rate arrivals total after k table
+Inv-loop start ceiling rate arrivals table₀ total₀ after₀ k₀ table total after k = TableFilled start ceiling rate arrivals total after k table
 
 abbrev μ-loop : tie.MeasureT-loop
 μ-loop start ceiling rate arrivals table₀ total₀ after₀ k₀ table total after k = k

@@ -6,7 +6,7 @@ use borrow.Author.Tests.{not-true, not-false}
 use Rattle.model.specs.Road.{mostRate}
 use Rattle.numbers.specs.Tests.{both-true}
 use Rattle.model.specs.Limits.{allWithin}
-use Rattle.model.specs.Wanted.{Asked, frameOk}
+use Rattle.model.specs.Wanted.{WantedRequest, wantedFrameOk}
 use Rattle.wanted.specs.WantedLaws.{asked-limits}
 use Rattle.wanted.specs.Theorems.{ended}
 use Rattle.wanted.specs.Loops.{ends-frame, ends-arrivals, ends-none, ends-found}
@@ -27,7 +27,7 @@ arrived-at c = c .before
 -- what the tests have shown at each place
 framed : (c : tie.Else1) →
     let a = A (c .before) .args in
-    frameOk (a .start) (a .ceiling) (a .rate) (length (a .arrivals .now)) (length (a .table .now)) ≡ true
+    wantedFrameOk (a .start) (a .ceiling) (a .rate) (length (a .arrivals .now)) (length (a .table .now)) ≡ true
 framed c = sym (c .before .frame-within .ensures) ∙ not-false _ (c .if1 .left)
 
 arrive : (c : tie.Else2) → allWithin (A (framed-at (c .before) .before) .args .arrivals .now) mostRate ≡ true
@@ -35,7 +35,7 @@ arrive c = sym (c .before .all-within .ensures) ∙ not-false _ (c .if2 .left)
 
 asked : (c : tie.Else2) →
     let a = A (framed-at (c .before) .before) .args in
-    Asked (a .start) (a .ceiling) (a .rate) (a .arrivals .now) (length (a .table .now))
+    WantedRequest (a .start) (a .ceiling) (a .rate) (a .arrivals .now) (length (a .table .now))
 asked c =
     let e = framed-at (c .before) in
     let a = A (e .before) .args in

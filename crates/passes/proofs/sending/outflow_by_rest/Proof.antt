@@ -2,7 +2,7 @@
 use mathlib.Core.Path.{refl, sym, subst}
 use Prim.Native.Nat.{ℕ, _+_, _-_, _*_, _/_, _≤_, _<_}
 use native.Mathlib.Omega.{arith}
-use Rattle.passes.specs.Rest.{Sent, sent-whole, sent-all, sent-room, product-most, some-share, Filled, filled}
+use Rattle.passes.specs.Rest.{Sent, sent-whole, sent-all, sent-room, product-most, some-share, RoomFilled, filled}
 use Rattle.passes.proofs.sending.outflow_by_rest.Statement.{statement}
 use Rattle.passes.proofs.sending.outflow_by_rest.Tie as tie
 use borrow.Author.Needs.{needs}
@@ -19,7 +19,7 @@ some c =
 
 known : (c : tie.Then2) →
     let a = c .before .before .args in
-    Filled (a .share) (a .rest) (a .room) ((1000 * a .room + 999 - a .rest) / a .share)
+    RoomFilled (a .share) (a .rest) (a .room) ((1000 * a .room + 999 - a .rest) / a .share)
 known c =
     let s = c .before .before in
     filled {demand = s .args .demand} (s .pre .0) (s .pre .1 .0) (s .pre .1 .1) (c .if2 .taken) refl

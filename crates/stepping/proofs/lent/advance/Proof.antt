@@ -7,7 +7,7 @@ use Rattle.numbers.specs.SumLaws.{Summed, summed-none, summed-more}
 use Rattle.model.specs.declared.Road.{Road}
 use Rattle.model.specs.Road.{mostCells}
 use Rattle.model.specs.Numbers.{at}
-use Rattle.stepping.specs.StepNeeds.{Moved, moved-none, moved-end, Gate, gate, Turn, turn, Countable}
+use Rattle.stepping.specs.StepNeeds.{MovedCells, moved-none, moved-end, Gate, gate, Turn, turn, Countable}
 use Rattle.outflows.specs.Columns.{sharing, gated, stateOf}
 use Rattle.stepping.specs.LentColumns.{held-there, queue-there, cumulative-there, long-there, moved-there, counted-there, countable}
 use Rattle.stepping.proofs.lent.advance.Statement.{statement}
@@ -17,19 +17,23 @@ use native.Mathlib.Omega.{arith}
 
 abbrev Inv-loop : tie.InvT-loop
 Inv-loop n share l held₀ queue₀ cumulative₀ row y first waiting entering₀ on-road₀ at-ramps₀ i₀ held queue cumulative entering on-road at-ramps i =
-    ((r : Road) → Moved (sharing r n share) (stateOf l held₀ queue₀ cumulative₀) row y
+    ((r : Road) → MovedCells (sharing r n share) (stateOf l held₀ queue₀ cumulative₀) row y
     (stateOf (gated l waiting (l .«gate_cumulative» + first)) held queue cumulative) entering i)
     × (Summed held on-road i × Summed queue at-ramps i)
 
 abbrev μ-loop : tie.MeasureT-loop
 μ-loop n share l held₀ queue₀ cumulative₀ row y first waiting entering₀ on-road₀ at-ramps₀ i₀ held queue cumulative entering on-road at-ramps i = n - i
 
--- the arguments, from the gate's move and from the loop's place; a turn's start from what the cell holds, from what waits, from both and from the sums
+-- places of the code: the arguments from the gate's move, which is before the loop; a turn's start from what the cell holds, from what waits, from both
+-- and from the sums; and the loop's end from the gate's time, which is before the times of road and ramps
 abbrev A-gate : tie.After-struct-known Inv-loop μ-loop → tie.Start Inv-loop μ-loop
 A-gate c = c .before .before .before .before .before
 
+abbrev At-gate : tie.At-loop Inv-loop μ-loop → tie.After-struct-known Inv-loop μ-loop
+At-gate c = c .before .before
+
 abbrev A : tie.At-loop Inv-loop μ-loop → tie.Start Inv-loop μ-loop
-A c = A-gate (c .before .before)
+A c = A-gate (At-gate c)
 
 abbrev Holds : tie.After-holds Inv-loop μ-loop → tie.In-loop Inv-loop μ-loop
 Holds c = c .before .before .before .before
@@ -42,6 +46,12 @@ Both c = Waits (c .before)
 
 abbrev Sums : tie.After-wide2 Inv-loop μ-loop → tie.In-loop Inv-loop μ-loop
 Sums c = Both (c .before .before)
+
+abbrev Ended : tie.After-wide3 Inv-loop μ-loop → tie.After-loop Inv-loop μ-loop
+Ended c = c .before .before
+
+abbrev Gate-time : tie.After-struct-known4 Inv-loop μ-loop → tie.After-wide3 Inv-loop μ-loop
+Gate-time c = c .before .before
 
 -- what the gate's move and a turn of the loop know of their numbers
 known-gate : (c : tie.After-struct-known Inv-loop μ-loop) →
@@ -68,7 +78,7 @@ cumulative-here : (c : tie.In-loop Inv-loop μ-loop) →
     at (p .loop .cumulative) (p .loop .i) ≡ at (A p .args .cumulative .now) (p .loop .i)
 cumulative-here c = let p = c .before in cumulative-there (p .loop .inv .0 (A p .pre .road))
 
--- counting asks nothing more when all cells are moved
+-- counting needs nothing more when all cells are moved
 counts : (c : tie.After-loop Inv-loop μ-loop) →
     let p = c .before in
     let a = A p .args in
@@ -146,21 +156,21 @@ add-t52 : tie.Need-add-t52 Inv-loop μ-loop
 add-t52 c = omega (arith, counts (c .before))
 
 add-t54 : tie.Need-add-t54 Inv-loop μ-loop
-add-t54 c = let w = c .before in omega (arith, counts (w .before .before), w .wide3 .ensures)
+add-t54 c = let w = c .before in omega (arith, counts (Ended w), w .wide3 .ensures)
 
 add-t55 : tie.Need-add-t55 Inv-loop μ-loop
-add-t55 c = let e = c .before .before .before .before in omega (arith, counts e, cells e, e .before .loop .inv .1 .0 .fits)
+add-t55 c = let e = Ended (Gate-time c) in omega (arith, counts e, cells e, e .before .loop .inv .1 .0 .fits)
 
 add-t56 : tie.Need-add-t56 Inv-loop μ-loop
-add-t56 c = let e = c .before .before .before .before .before in omega (arith, counts e, cells e, e .before .loop .inv .1 .1 .fits)
+add-t56 c = let e = Ended (Gate-time (c .before)) in omega (arith, counts e, cells e, e .before .loop .inv .1 .1 .fits)
 
 add-t21 : tie.Need-add-t21 Inv-loop μ-loop
-add-t21 c = let e = c .before .before .before .before .before .before in omega (arith, known-gate (e .before .before .before))
+add-t21 c = let e = Ended (Gate-time (c .before .before)) in omega (arith, known-gate (At-gate (e .before)))
 
 returns : tie.Need-returns Inv-loop μ-loop
 returns c =
-    let w = c .before .before .before .before in
-    let e = w .before .before in
+    let w = Gate-time (c .before .before) in
+    let e = Ended w in
     let p = e .before .loop .inv in
     λ r. counted-there (p .0 r) (e .loop-test .left) (w .wide3 .ensures) (p .1 .0) (p .1 .1)
 

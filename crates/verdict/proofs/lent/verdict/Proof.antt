@@ -5,7 +5,7 @@ use Rattle.model.specs.declared.State.{State}
 use Rattle.outflows.specs.declared.Ledger.{Ledger}
 use Rattle.outflows.specs.Columns.{roadOf, gated, stateOf}
 use Rattle.model.specs.Refusals.{faultAnswer}
-use Rattle.verdict.specs.ProposedRow.{Looked, verdict-fault, verdict-end}
+use Rattle.verdict.specs.ProposedRow.{ReleaseFinding, verdict-fault, verdict-end}
 use Rattle.verdict.proofs.lent.verdict.Statement.{statement}
 use Rattle.verdict.proofs.lent.verdict.Tie as tie
 use borrow.Author.Needs.{needs}
@@ -25,7 +25,7 @@ From c l = let a = c .args in stateOf (gated l (a .gate-queue) (a .gate-cumulati
 
 looked : (c : tie.After-number) (r : Road) (l : Ledger) →
     let s = A c in
-    Looked (On s r) (From s l) (s .args .row .now) (faultAnswer (c .before .releases .result)) (c .number .result)
+    ReleaseFinding (On s r) (From s l) (s .args .row .now) (faultAnswer (c .before .releases .result)) (c .number .result)
 looked c r l =
     let a = A c .args in
     record { found = c .before .releases .ensures .0 (On (A c) r) (gated l (a .gate-queue) (a .gate-cumulative)) (a .cumulative .now); number = c .number .ensures }

@@ -1,0 +1,9 @@
+pub mod Arrivals
+pub mod Putting
+pub mod Studies
+pub mod Entries
+pub mod RunStudies
+pub mod KeptRecord
+pub mod FilledAlike
+pub mod FillStudies
+pub mod Whole

@@ -1,0 +1,101 @@
+-- The refusals of many studies as a whole, and what is left of the lent lists after each end. Assumes nothing.
+use mathlib.Core.Path.{_≡_, refl, sym, ap, _∙_}
+use mathlib.Core.Bool.{Bool}
+use mathlib.Core.List.{List}
+use Prim.Native.Nat.{ℕ, _+_, _*_, _/_, _%_, _≤_, _<_}
+use native.Mathlib.Nat.{div-add-mod', mul-le-mul}
+use native.Mathlib.Omega.{arith}
+use lib.ListN.{length}
+use borrow.Author.Tests.{eq-eqb, ne-eqb, le-leb, lt-leb}
+use Rattle.model.specs.Numbers.{unless, frontOf}
+use Rattle.model.specs.declared.Law.{Law}
+use Rattle.model.specs.Refusals.{FaultAnswer, fault}
+use Rattle.model.specs.Reading.{ReadAnswer, readingOf}
+use Rattle.reading.specs.Within.{read-within}
+use Rattle.model.specs.Many.{arrivalsSize, recordArrivals, studyCount, entrySize, manyFault, unlessMany, runEntry, runAnswers, listAfterRuns, runLists, recordAfterRuns, runRecord}
+use Rattle.model.specs.Many.{fillEntry, fillAnswers, listAfterFillings, fillLists, recordAfterFillings, fillRecord}
+use Rattle.many.specs.Studies.{Studies}
+
+-- by what reading gave
+module _ (bytes arrivals answers : List ℕ) {x : ReadAnswer} (e : x ≡ readingOf bytes) where
+  abbrev size : ℕ
+  size = arrivalsSize (x .road .n) (x .steps)
+
+  pub many-unread : (x .number ≡ 0 → ⊥) → fault (x .number) (x .place) ≡ manyFault bytes arrivals answers
+  unfolding manyFault
+  many-unread h = rw (← e, ne-eqb (x .number) 0 h)
+
+  module _ (z : x .number ≡ 0) where
+    -- a table has a number, and is small to a machine
+    pub size-some : (1 ≤ arrivalsSize (x .road .n) (x .steps)) × ((x .road .n + 1 ≤ 65) × (arrivalsSize (x .road .n) (x .steps) ≤ 93600))
+    size-some =
+        let w = read-within bytes x e z in
+        let k : x .road .n + 1 ≤ 65 = omega (arith, w .road .cells) in
+        (omega (arith, mul-le-mul (w .someSteps) (w .road .some)), (k, omega (arith, mul-le-mul (w .steps) k)))
+
+    pub many-tables : (length arrivals % arrivalsSize (x .road .n) (x .steps) ≡ 0 → ⊥) → fault 27 1 ≡ manyFault bytes arrivals answers
+    unfolding manyFault
+    many-tables h = rw (← e, eq-eqb (x .number) 0 z, ne-eqb (length arrivals % size) 0 h) refl
+
+    module _ (m : length arrivals % arrivalsSize (x .road .n) (x .steps) ≡ 0) where
+      pub many-room : length answers / entrySize < length arrivals / arrivalsSize (x .road .n) (x .steps) → fault 27 2 ≡ manyFault bytes arrivals answers
+      unfolding manyFault
+      many-room l =
+          let f : length answers < length arrivals / size * entrySize = omega arith in
+          rw (← e, eq-eqb (x .number) 0 z, eq-eqb (length arrivals % size) 0 m, lt-leb (length arrivals / size * entrySize) (length answers) f) refl
+
+      module _ (l : length arrivals / arrivalsSize (x .road .n) (x .steps) ≤ length answers / entrySize) where
+        room : length arrivals / size * entrySize ≤ length answers
+        room = omega arith
+
+        pub many-none : fault 0 0 ≡ manyFault bytes arrivals answers
+        unfolding manyFault
+        many-none = rw (← e, eq-eqb (x .number) 0 z, eq-eqb (length arrivals % size) 0 m, le-leb (length arrivals / size * entrySize) (length answers) room)
+
+        -- the loops may begin
+        pub many-asked : Studies bytes arrivals (x .road .n) (x .steps) (length arrivals / arrivalsSize (x .road .n) (x .steps)) answers
+        many-asked = record {
+          reads = ap (λ (y : ReadAnswer). y .number) (sym e) ∙ z;
+          cells = ap (λ (y : ReadAnswer). y .road .n) e;
+          steps = ap (λ (y : ReadAnswer). y .steps) e;
+          whole = omega (arith, div-add-mod' (length arrivals) size);
+          room = room;
+        }
+
+        pub many-count : length arrivals / arrivalsSize (x .road .n) (x .steps) ≡ studyCount bytes arrivals
+        many-count = ap (λ (y : ReadAnswer). length arrivals / arrivalsSize (y .road .n) (y .steps)) e
+
+-- what an end says and leaves: a refusal of the whole leaves all unchanged
+module _ (bytes lanes arrivals list answers : List ℕ) {q : FaultAnswer} (e : q ≡ manyFault bytes arrivals answers) where
+  -- of running
+  abbrev Ran : List ℕ → List ℕ → List ℕ → Type 0
+  Ran u out left = (q ≡ manyFault bytes arrivals answers)
+      × ((u ≡ runRecord bytes arrivals answers) × ((out ≡ runLists bytes lanes arrivals list answers) × (left ≡ runAnswers bytes lanes arrivals list answers)))
+
+  pub ran-refused : (q .number ≡ 0 → ⊥) → Ran bytes list answers
+  unfolding runRecord runLists runAnswers
+  ran-refused h = (e, (rw (← e, ne-eqb (q .number) 0 h) refl, (rw (← e, ne-eqb (q .number) 0 h) refl, rw (← e, ne-eqb (q .number) 0 h) refl)))
+
+  pub ran-all : q .number ≡ 0 → {count : ℕ} → count ≡ studyCount bytes arrivals → {u out left : List ℕ} → u ≡ recordAfterRuns bytes arrivals count
+      → out ≡ listAfterRuns bytes lanes arrivals list count → left ≡ frontOf (runEntry bytes lanes arrivals list) entrySize answers count → Ran u out left
+  unfolding runRecord runLists runAnswers
+  ran-all z ec eu eo ea =
+      (e, (rw (← e, eq-eqb (q .number) 0 z, ← ec) eu, (rw (← e, eq-eqb (q .number) 0 z, ← ec) eo, rw (← e, eq-eqb (q .number) 0 z, ← ec) ea)))
+
+  -- of filling
+  module _ (laws : List Law) where
+    abbrev Filled : List ℕ → List ℕ → List ℕ → Type 0
+    Filled u out left = (q ≡ manyFault bytes arrivals answers)
+        × ((u ≡ fillRecord laws bytes lanes arrivals list answers)
+        × ((out ≡ fillLists laws bytes lanes arrivals list answers) × (left ≡ fillAnswers laws bytes lanes arrivals list answers)))
+
+    pub filled-refused : (q .number ≡ 0 → ⊥) → Filled bytes list answers
+    unfolding fillRecord fillLists fillAnswers
+    filled-refused h = (e, (rw (← e, ne-eqb (q .number) 0 h) refl, (rw (← e, ne-eqb (q .number) 0 h) refl, rw (← e, ne-eqb (q .number) 0 h) refl)))
+
+    pub filled-all : q .number ≡ 0 → {count : ℕ} → count ≡ studyCount bytes arrivals → {u out left : List ℕ}
+        → u ≡ recordAfterFillings laws bytes lanes arrivals list count → out ≡ listAfterFillings laws bytes lanes arrivals list count
+        → left ≡ frontOf (fillEntry laws bytes lanes arrivals list) entrySize answers count → Filled u out left
+    unfolding fillRecord fillLists fillAnswers
+    filled-all z ec eu eo ea =
+        (e, (rw (← e, eq-eqb (q .number) 0 z, ← ec) eu, (rw (← e, eq-eqb (q .number) 0 z, ← ec) eo, rw (← e, eq-eqb (q .number) 0 z, ← ec) ea)))

@@ -1,0 +1,124 @@
+-- docs/MODEL.md, 'Going on': the printed run's record cut after its first step, and run, judged and filled in two stretches. Assumes nothing.
+use mathlib.Core.Path.{_≡_, refl}
+use mathlib.Core.List.{List, [], _∷_, _++_}
+use Prim.Native.Nat.{ℕ}
+use lib.Ieee.{round, add, sub, mul, le, ofInt}
+use lib.ListN.{set, replicate}
+use Rattle.model.specs.declared.State.{State}
+use Rattle.model.specs.Numbers.{at, oneOf, firstFrom, firstOf, firstFault, sumOf, fillOf, listOf, concatOf, rowAt, frontOf, placed}
+use Rattle.model.specs.Road.{totalOf, zeros}
+use Rattle.model.specs.Flow.{thousandthsOf, demandOf, gateDemandOf, supplyOf, roomOf, onwardOf, enteringOf, greatestOf, outflowOf}
+use Rattle.model.specs.Places.{capacityAt, demandAt, mostReleaseAt, shareAt, cumulativeAt}
+use Rattle.model.specs.Move.{movedTo, countedOf, exitsOf}
+use Rattle.model.specs.Schedules.{roadAt, outflowsOf, scheduleAfter, engineAfter}
+use Rattle.model.specs.Weights.{weightedPresent, weightedTotal}
+use Rattle.model.specs.Record.{numberOf, secondsSize, bytesOf}
+use Rattle.model.specs.Limits.{placeOk, rowOk, stateOk}
+use Rattle.model.specs.Reading.{readingBy, readingOf}
+use Rattle.model.specs.Stepping.{lowestOf, tableFault}
+use Rattle.model.specs.Running.{endOf, openingOf, runningOf}
+use Rattle.model.specs.Judging.{outflowFaultAt, verdictOf}
+use Rattle.model.specs.Meter.{alineaOf, wishOf, wholeBelow, lawFinite, lawOk, lawFaultOf}
+use Rattle.model.specs.Ramps.{putReleases, putTable, releasedRow, unmetered, metered, releaseOf, grantedAt, filledRow, meteredOf}
+use Rattle.model.specs.Filling.{meteredFrom}
+use Rattle.model.specs.Longest.{greatestOf as longestLength, queuesOf, longestOf}
+use Rattle.model.specs.GoingOn.{stateFault, runningOn, listOn, weightedTotalOn, longestOn, judgingOn, historyOn, heldOn, queueOn, entriesOk, progressFault}
+use Rattle.model.specs.GoingOn.{fillingOn, progressOn, recordOn, filledListOn, longestFillOn}
+use Rattle.model.specs.WorkedPrinted.{start as first}
+use Rattle.model.specs.WorkedRecord.{header, upstream, downstream, row}
+use Rattle.model.specs.WorkedWishes.{number}
+use Rattle.model.specs.WorkedFilling.{laws}
+
+-- one row, and two
+unfoldable pub one : List ℕ
+one = set (set header 3 80) 7 1 ++ (upstream ++ (downstream ++ row))
+
+unfoldable pub two : List ℕ
+two = set (set header 3 100) 7 2 ++ (upstream ++ (downstream ++ (row ++ row)))
+
+abbrev pub still : List ℕ
+still = replicate 6 0
+
+-- the state after step 0
+abbrev pub between : State
+between = runningOf one [] still .state
+
+-- the two rows run from it: the printed run's last six outflows, its total and its exits. Weights and longest queues are of these two steps alone
+pub record RunsOn : Type 0 where
+  pub outflows : listOn two [] between still ≡ 1358 ∷ 933 ∷ 1000 ∷ 1252 ∷ 934 ∷ 1000 ∷ []
+  pub done : runningOn two [] between still .state .done ≡ 3
+  pub total : totalOf (runningOn two [] between still .state) ≡ 33098
+  pub exits : exitsOf (readingOf two .road) (runningOn two [] between still .state) ≡ 3701
+  pub weighted : weightedTotalOn (at (1 ∷ 0 ∷ 0 ∷ [])) (λ i. 0) two [] between still ≡ 4032
+  pub longest : longestOn two [] between still ≡ queuesOf 2142 1142 (0 ∷ 2100 ∷ replicate 62 0)
+
+pub runs-on : RunsOn
+unfolding one two header upstream downstream row readingBy oneOf numberOf secondsSize
+    thousandthsOf demandOf gateDemandOf supplyOf roomOf onwardOf enteringOf greatestOf outflowOf
+    sumOf fillOf listOf concatOf frontOf firstFrom firstOf firstFault placeOk rowOk stateOk
+    capacityAt demandAt mostReleaseAt shareAt cumulativeAt movedTo countedOf exitsOf outflowsOf lowestOf
+    tableFault roadAt engineAfter endOf openingOf runningOf weightedPresent weightedTotal longestLength longestOf
+    stateFault runningOn listOn weightedTotalOn longestOn
+runs-on = record { outflows = refl; done = refl; total = refl; exits = refl; weighted = refl; longest = refl }
+
+-- a state of s steps in which so much has left cell 1
+abbrev left : ℕ → ℕ → State
+left s F = record {
+  done = s;
+  «gate_time» = 0;
+  «road_time» = 0;
+  «ramp_time» = 0;
+  «gate_queue» = 0;
+  «gate_cumulative» = 0;
+  held = zeros;
+  queue = zeros;
+  cumulative = F ∷ replicate 63 0;
+}
+
+-- 7 before 8, 8 before 11 and 12; two steps after 1,438 pass
+pub refused-on : runningOn two [] (left 1439 1439000001) [] .number
+    ∷ runningOn two [] (left 1439 0) [] .number
+    ∷ runningOn two [] (left 1438 0) [] .number
+    ∷ judgingOn two [] (left 1439 0) [] .number
+    ∷ historyOn two [] (left 1438 0) still still [] .number
+    ∷ []
+    ≡ 7 ∷ 8 ∷ 11 ∷ 8 ∷ 11 ∷ []
+unfolding two header upstream downstream row readingBy oneOf numberOf secondsSize
+    fillOf listOf firstFrom firstOf placeOk rowOk stateOk tableFault openingOf stateFault runningOn judgingOn historyOn
+refused-on = refl
+
+-- judging: 934 at place 1 in the first of these rows lets in too much, for what left in step 0 counts; of the run's own rows the states
+pub record JudgesOn : Type 0 where
+  pub number : judgingOn two [] between (1358 ∷ 934 ∷ 1000 ∷ 1252 ∷ 934 ∷ 1000 ∷ []) .number ≡ 14
+  pub step : judgingOn two [] between (1358 ∷ 933 ∷ 1000 ∷ 1252 ∷ 935 ∷ 1000 ∷ []) .step ≡ 1
+  pub held : heldOn two [] between (1358 ∷ 933 ∷ 1000 ∷ 1252 ∷ 934 ∷ 1000 ∷ []) still still ≡ 2142 ∷ 2991 ∷ 4000 ∷ 1890 ∷ 3309 ∷ 4000 ∷ []
+  pub queue : queueOn two [] between (1358 ∷ 933 ∷ 1000 ∷ 1252 ∷ 934 ∷ 1000 ∷ []) still still ≡ 0 ∷ 0 ∷ 1900 ∷ 0 ∷ 0 ∷ 2100 ∷ []
+
+pub judges-on : JudgesOn
+unfolding one two header upstream downstream row readingBy oneOf numberOf secondsSize
+    thousandthsOf demandOf gateDemandOf supplyOf roomOf onwardOf enteringOf greatestOf outflowOf
+    sumOf fillOf listOf concatOf frontOf firstFrom firstOf firstFault placeOk rowOk stateOk
+    capacityAt demandAt mostReleaseAt shareAt cumulativeAt movedTo countedOf outflowsOf lowestOf outflowFaultAt verdictOf
+    tableFault roadAt scheduleAfter engineAfter rowAt endOf openingOf runningOf stateFault judgingOn historyOn heldOn queueOn
+judges-on = record { number = refl; step = refl; held = refl; queue = refl }
+
+-- filling in two stretches: the outflows and the total of 'Filling'; of the last step each release and entry
+pub record FillsOn : Type 0 where
+  pub total : totalOf (fillingOn laws two [] (progressOn laws one [] (unmetered first) still) still .state) ≡ 33002
+  pub outflows : filledListOn laws two [] (progressOn laws one [] (unmetered first) still) still ≡ 1375 ∷ 1047 ∷ 1000 ∷ 1293 ∷ 894 ∷ 1000 ∷ []
+  pub release : at (progressOn laws one [] (unmetered first) still .releases) 1 ≡ 100
+  pub entries : at (progressOn laws one [] (unmetered first) still .entries) 0 ≡ 1500
+  pub longest : longestFillOn laws two [] (progressOn laws one [] (unmetered first) still) still .gate ≡ 2125
+  pub bytes : at (recordOn laws one [] (unmetered first) still) 83 ≡ 100
+  -- a last entry above what its cell holds
+  pub refused : fillingOn laws two [] (metered first zeros (2001 ∷ replicate 63 0)) still .number ≡ 7
+
+pub fills-on : FillsOn
+unfolding first one two header upstream downstream row readingBy oneOf numberOf secondsSize
+    thousandthsOf demandOf gateDemandOf supplyOf roomOf onwardOf enteringOf greatestOf outflowOf
+    sumOf fillOf listOf firstFrom firstOf firstFault placeOk rowOk stateOk
+    capacityAt demandAt mostReleaseAt shareAt cumulativeAt movedTo countedOf outflowsOf lowestOf tableFault roadAt engineAfter
+    laws number round add sub mul le ofInt alineaOf wishOf wholeBelow lawFinite lawOk lawFaultOf longestLength longestOf
+    releasedRow releaseOf grantedAt filledRow meteredOf meteredFrom putTable putReleases placed bytesOf frontOf concatOf
+    entriesOk progressFault fillingOn progressOn recordOn filledListOn longestFillOn
+fills-on = record { total = refl; outflows = refl; release = refl; entries = refl; longest = refl; bytes = refl; refused = refl }
