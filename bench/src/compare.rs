@@ -1,37 +1,126 @@
 //! All programs on the same records: every field of the answers and the whole of the lent list.
-use crate::load::{record, Draws, LOADS, PEAK, SEED};
-use crate::programs::{Program, ENGINE, OTHERS};
-use crate::SIZES;
+use crate::load::{besides, closures, laws, record, record_under, road};
+use crate::load::{Draws, LOADS, PEAK, SEED};
+use crate::programs::{Answer, Besides, Program, Tally, ENGINE, OTHERS, VARIANTS};
+use crate::timing::RECORDS;
+use crate::{extended, SIZES};
+use nobyaluk::{Weights, CELLS, STEPS};
 use std::collections::BTreeMap;
 
-const UNTOUCHED: u32 = 4_000_000_007;
+pub const UNTOUCHED: u32 = 4_000_000_007;
 
-/// The records compared so far, by the number of the refusal.
+/// How many records were compared, by the number of the refusal.
 #[derive(Default)]
-struct Compared(BTreeMap<u64, u32>);
+struct Refusals(BTreeMap<u64, u32>);
 
-impl Compared {
-    fn compare(&mut self, record: &[u8], length: usize) -> Result<(), String> {
-        let asked = |program: &Program| {
-            let mut list = vec![UNTOUCHED; length];
-            ((program.answer)(record, &mut list), list)
-        };
-        let (engine, outflows) = asked(&ENGINE);
-        for program in &OTHERS {
-            let (other, list) = asked(program);
-            if (&other, &list) != (&engine, &outflows) {
-                let pairs = list.iter().zip(&outflows);
-                let first = pairs.take_while(|(a, b)| a == b).count();
-                return Err(format!(
-                    "a difference: engine {:?} {:?} {:?}, {} {:?} {:?} {:?}, lists alike up to number {first} of {length}",
-                    engine.refusal, engine.times, engine.total_present_exits,
-                    program.name, other.refusal, other.times, other.total_present_exits,
-                ));
-            }
-        }
-        *self.0.entry(engine.refusal[0]).or_default() += 1;
-        Ok(())
+impl Refusals {
+    fn count(&mut self, number: u64) {
+        *self.0.entry(number).or_default() += 1;
     }
+
+    /// Their counts in words; exactly these must have occurred.
+    fn exactly(&self, wanted: &[u64]) -> Result<String, String> {
+        let seen: Vec<u64> = self.0.keys().copied().collect();
+        if seen != wanted {
+            return Err(format!("not every refusal was met: {seen:?}"));
+        }
+        let counts = |(number, count): (&u64, &u32)| format!("{number}: {count}");
+        let counts: Vec<String> = self.0.iter().map(counts).collect();
+        Ok(counts.join(", "))
+    }
+}
+
+fn difference(engine: &Answer, name: &str, other: &Answer) -> String {
+    format!(
+        "a difference: engine {:?} {:?} {:?}, {name} {:?} {:?} {:?}",
+        engine.refusal,
+        engine.times,
+        engine.total_present_exits,
+        other.refusal,
+        other.times,
+        other.total_present_exits,
+    )
+}
+
+/// The plain run by all programs; gives its refusal.
+fn compare_runs(record: &[u8], length: usize) -> Result<u64, String> {
+    let asked = |program: &Program| {
+        let mut list = vec![UNTOUCHED; length];
+        ((program.answer)(record, &mut list), list)
+    };
+    let (engine, outflows) = asked(&ENGINE);
+    for program in &OTHERS {
+        let (other, list) = asked(program);
+        if (&other, &list) != (&engine, &outflows) {
+            let pairs = list.iter().zip(&outflows);
+            let first = pairs.take_while(|(a, b)| a == b).count();
+            let said = difference(&engine, program.name, &other);
+            return Err(format!(
+                "{said}, lists alike up to number {first} of {length}"
+            ));
+        }
+    }
+    Ok(engine.refusal[0])
+}
+
+/// A record's cells and steps, as its header says, where they are within the limits.
+fn size(record: &[u8]) -> Option<(usize, usize)> {
+    let [_, _, _, _, _, n, high, low, ..] = *record else {
+        return None;
+    };
+    let (n, steps) = (usize::from(n), usize::from(u16::from_be_bytes([high, low])));
+    ((1..=CELLS).contains(&n) && (1..=STEPS).contains(&steps)).then_some((n, steps))
+}
+
+/// No table of lanes, one with some lanes closed, one of a wrong length, or one with a byte drawn anew.
+fn draw_lanes(record: &[u8], draws: &mut Draws) -> Vec<u8> {
+    let (Some((n, steps)), kind @ 0..=6) = (size(record), draws.draw(9)) else {
+        return vec![];
+    };
+    let mut lanes = closures(n, steps);
+    let last = lanes.len() as u32 - 1;
+    match kind {
+        0 => lanes.truncate(draws.draw(last) as usize),
+        1 => lanes.push(1),
+        2 => lanes[draws.draw(last) as usize] = draws.draw(255) as u8,
+        3 => lanes[n + draws.draw(last - n as u32) as usize] = draws.draw(7) as u8,
+        _ => {}
+    }
+    lanes
+}
+
+/// What goes with a record: lanes and weights as drawn, and the laws of the road of so many cells.
+fn draw_besides(record: &[u8], draws: &mut Draws) -> Besides {
+    let lanes = draw_lanes(record, draws);
+    let mut weight = |_| draws.draw(255) as u8;
+    Besides {
+        lanes,
+        weights: Weights {
+            places: std::array::from_fn(&mut weight),
+            ramps: std::array::from_fn(&mut weight),
+        },
+        laws: laws(&road(size(record).map_or(0, |(n, _)| n))),
+    }
+}
+
+/// The engine's runs and fillings with what they can take and give besides, and straightforward Rust; gives the run's refusal.
+fn compare_besides(record: &[u8], length: usize, besides: &Besides) -> Result<u64, String> {
+    let asked = |call: &dyn Fn(&mut [u8], &mut [u32]) -> Tally| {
+        let (mut changed, mut list) = (record.to_vec(), vec![UNTOUCHED; length]);
+        (call(&mut changed, &mut list), changed, list)
+    };
+    let run = asked(&|record, list| Tally::of_rust(extended::run(record, besides, list)));
+    let fill = asked(&|record, list| Tally::of_rust(extended::fill(record, besides, list)));
+    for variant in &VARIANTS {
+        let (tally, changed, list) =
+            asked(&|record, list| Tally::of_engine((variant.call)(record, besides, list)));
+        let rust = if variant.fills { &fill } else { &run };
+        if !tally.agrees(&rust.0) || (&changed, &list) != (&rust.1, &rust.2) {
+            let said = difference(&tally.answer, "straightforward Rust", &rust.0.answer);
+            return Err(format!("{}: {said}", variant.name));
+        }
+    }
+    Ok(run.0.answer.refusal[0])
 }
 
 fn made(seed: u32, peak: u32, n: usize, steps: usize) -> Result<Vec<u8>, String> {
@@ -78,53 +167,71 @@ fn spoil(record: &[u8], draws: &mut Draws) -> Vec<u8> {
     changed
 }
 
-/// Compares, and says how many records there were, by refusal.
-pub fn compare_all() -> Result<String, String> {
-    let mut compared = Compared::default();
+/// All records with the lengths of the lists that are lent, in turn.
+pub fn each_record(
+    mut visit: impl FnMut(&[u8], usize) -> Result<(), String>,
+) -> Result<(), String> {
     let mut draws = Draws(SEED);
     for (n, steps) in SIZES {
         let (width, numbers) = (4 + 8 * n, steps * (n + 1));
         for seed in SEED..SEED + 40 {
-            compared.compare(&made(seed, PEAK, n, steps)?, numbers)?;
+            visit(&made(seed, PEAK, n, steps)?, numbers)?;
         }
         let whole = made(SEED, PEAK, n, steps)?;
         for length in [0, numbers - 1, numbers + 100] {
-            compared.compare(&whole, length)?;
+            visit(&whole, length)?;
         }
         // cell 2 has a ramp: its queue, and its release in a step of the second half
         let (queue, release) = (16 + 24 + 20, 16 + 24 * n + steps / 2 * width + 16);
-        compared.compare(&put(&whole, release, 900_000), numbers)?;
+        visit(&put(&whole, release, 900_000), numbers)?;
         let waiting = put(&whole, queue, 900_000_000);
-        compared.compare(&put(&waiting, release, 900_000), numbers)?;
+        visit(&put(&waiting, release, 900_000), numbers)?;
     }
     let (n, steps) = SIZES[0];
     for seed in LOADS {
-        compared.compare(&made(seed, PEAK, n, steps)?, steps * (n + 1))?;
+        visit(&made(seed, PEAK, n, steps)?, steps * (n + 1))?;
     }
     for seed in 0..1_500 {
         let (n, steps) = (1 + draws.draw(63) as usize, 1 + draws.draw(60) as usize);
         let peak = draws.draw(80_000);
         let whole = made(seed, peak, n, steps)?;
         let numbers = steps * (n + 1);
-        compared.compare(&whole, numbers)?;
+        visit(&whole, numbers)?;
         for _ in 0..8 {
-            compared.compare(&spoil(&whole, &mut draws), numbers)?;
+            visit(&spoil(&whole, &mut draws), numbers)?;
         }
         let seconds = draws.draw(1_000) as u16;
         let longer = with_seconds(&whole, seconds);
-        compared.compare(&longer, numbers)?;
-        compared.compare(&spoil(&longer, &mut draws), numbers)?;
+        visit(&longer, numbers)?;
+        visit(&spoil(&longer, &mut draws), numbers)?;
     }
-    let seen: Vec<u64> = compared.0.keys().copied().collect();
-    if seen != [0, 1, 2, 3, 4, 5, 6, 9, 10, 11, 19] {
-        return Err(format!("not every refusal was met: {seen:?}"));
+    Ok(())
+}
+
+/// Compares, and says how many records there were, by refusal.
+pub fn compare_all() -> Result<String, String> {
+    let (mut plain, mut extended) = (Refusals::default(), Refusals::default());
+    let mut draws = Draws(SEED);
+    for (n, steps) in SIZES {
+        let closed = besides(n, closures(n, steps));
+        for seed in SEED..SEED + RECORDS {
+            let record = record_under(seed, PEAK, n, steps, &closed.lanes);
+            let record = record.map_err(|refused| refused.to_string())?;
+            extended.count(compare_besides(&record, steps * (n + 1), &closed)?);
+        }
     }
-    let counts = |(number, count): (&u64, &u32)| format!("{number}: {count}");
-    let counts: Vec<String> = compared.0.iter().map(counts).collect();
-    let all: u32 = compared.0.values().sum();
+    each_record(|record, length| {
+        plain.count(compare_runs(record, length)?);
+        let drawn = draw_besides(record, &mut draws);
+        extended.count(compare_besides(record, length, &drawn)?);
+        Ok(())
+    })?;
     Ok(format!(
-        "{all} records, the same answers and outflows by engine, {} (by refusal, {})",
+        "{} records, the same answers and outflows by engine, {} (by refusal, {})\n\
+         the same records with tables of lanes, weights, longest queues, and filled: the same by engine and straightforward Rust (by refusal, {})",
+        plain.0.values().sum::<u32>(),
         OTHERS.map(|program| program.name).join(", "),
-        counts.join(", ")
+        plain.exactly(&[0, 1, 2, 3, 4, 5, 6, 9, 10, 11, 19])?,
+        extended.exactly(&[0, 1, 2, 3, 4, 5, 6, 9, 10, 11, 17, 18, 19])?,
     ))
 }

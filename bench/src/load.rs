@@ -1,6 +1,7 @@
-//! The records of the stated load, as docs/LOAD.md has them: a road that depends on n alone, arrivals by the proved `load`, and
+//! The records of the stated load, as docs/SPEED.md has them: a road that depends on n alone, arrivals by the proved `load`, and
 //! releases filled by a meter law.
-use nobyaluk::{Law, Load, Refused, Road, Start, CELLS, STEPS};
+use crate::programs::Besides;
+use nobyaluk::{Law, Load, Refused, Road, Start, Weights, CELLS, STEPS};
 use std::ops::RangeInclusive;
 
 /// The arrivals' peak at the gate, in parts a step, of the measured records.
@@ -18,8 +19,8 @@ impl Draws {
     /// A number from 0 to `peak`, which is at most 1,000,000.
     pub fn draw(&mut self, peak: u32) -> u32 {
         let mut list = [0];
-        let loaded = nobyaluk::load_into(self.0, peak, &mut list);
-        assert_eq!(loaded.number, 0, "the peak is refused");
+        let loaded = nobyaluk::lent::load(self.0, peak, &mut list).into_result();
+        let loaded = loaded.expect("the peak is within its limit");
         self.0 = loaded.last as u32;
         list[0]
     }
@@ -97,8 +98,41 @@ pub fn laws(road: &Road) -> Vec<Law> {
         .collect()
 }
 
+/// A table of lanes for that road: three lanes at each cell, of which one is closed at every eighth cell, one cell further upstream
+/// every ten steps.
+pub fn closures(n: usize, steps: usize) -> Vec<u8> {
+    const BUILT: u8 = 0b111;
+    const LEFT: u8 = 0b110;
+    let closed = |place: usize| (place % n + place / n / 10) % 8 == 0;
+    let rows = (0..n * steps).map(|place| if closed(place) { LEFT } else { BUILT });
+    std::iter::repeat_n(BUILT, n).chain(rows).collect()
+}
+
+/// What the engine's runs and fillings of that road take besides: a table of lanes, its laws, and weights that fall from place to place.
+pub fn besides(n: usize, lanes: Vec<u8>) -> Besides {
+    Besides {
+        lanes,
+        weights: Weights {
+            places: std::array::from_fn(|place| 255 - 3 * place as u8),
+            ramps: std::array::from_fn(|cell| 3 * cell as u8),
+        },
+        laws: laws(&road(n)),
+    }
+}
+
 /// The record of a seed, a peak, n cells and T steps, or the refusal that writing, loading or filling meets.
 pub fn record(seed: u32, peak: u32, n: usize, steps: usize) -> Result<Vec<u8>, Refused> {
+    record_under(seed, peak, n, steps, &[])
+}
+
+/// The same, filled under a table of lanes.
+pub fn record_under(
+    seed: u32,
+    peak: u32,
+    n: usize,
+    steps: usize,
+    lanes: &[u8],
+) -> Result<Vec<u8>, Refused> {
     let road = road(n);
     // beyond the limits there are no rows, and writing refuses n or T before it looks for them
     let within = (1..=CELLS).contains(&n) && (1..=STEPS).contains(&steps);
@@ -108,13 +142,14 @@ pub fn record(seed: u32, peak: u32, n: usize, steps: usize) -> Result<Vec<u8>, R
         vec![]
     };
     let mut record = nobyaluk::write(road, steps, start(n), &rows)?;
-    nobyaluk::fill(&mut record, &laws(&road), &[])?;
+    nobyaluk::fill(&mut record, &laws(&road), lanes)?;
     Ok(record)
 }
 
 #[cfg(test)]
 mod tests {
     use super::*;
+    use nobyaluk::Refusal;
 
     #[test]
     fn draws_are_the_stated_load() {
@@ -147,14 +182,28 @@ mod tests {
         let stored: &[u8] = include_bytes!("../../examples/loaded.rec");
         assert!(
             record(0, 40_000, 6, 30).unwrap() == stored,
-            "examples/loaded.rec is not the record of docs/LOAD.md"
+            "examples/loaded.rec is not the record of docs/SPEED.md"
         );
     }
 
     #[test]
+    fn one_lane_of_three_is_closed_at_every_eighth_cell() {
+        let table = closures(20, 12);
+        assert_eq!(table.len(), 20 * 13);
+        let closed = |step: usize| -> Vec<usize> {
+            let row = &table[20 * (step + 1)..20 * (step + 2)];
+            (0..20).filter(|&i| row[i] == 0b110).collect()
+        };
+        assert_eq!(closed(0), [0, 8, 16]);
+        assert_eq!(closed(9), [0, 8, 16]);
+        assert_eq!(closed(10), [7, 15]);
+        assert!(table[..20].iter().all(|&built| built == 0b111));
+    }
+
+    #[test]
     fn beyond_the_limits_there_is_a_refusal() {
-        let number = |peak, n, steps| record(1, peak, n, steps).unwrap_err().number;
-        assert_eq!(number(1_000_001, 6, 30), 25);
+        let why = |peak, n, steps| record(1, peak, n, steps).unwrap_err().refusal;
+        assert_eq!(why(1_000_001, 6, 30), Refusal::Peak);
         for (n, steps) in [
             (0, 30),
             (65, 30),
@@ -163,10 +212,10 @@ mod tests {
             (6, 1_441),
             (6, usize::MAX),
         ] {
-            assert_eq!(number(1_000, n, steps), 3);
-            assert_eq!(number(1_000_001, n, steps), 3);
+            assert_eq!(why(1_000, n, steps), Refusal::Counts);
+            assert_eq!(why(1_000_001, n, steps), Refusal::Counts);
         }
-        assert_eq!(number(1_000, 64, 125), 1);
+        assert_eq!(why(1_000, 64, 125), Refusal::Length);
     }
 
     #[test]

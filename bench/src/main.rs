@@ -1,13 +1,16 @@
 //! The proved engine beside straightforward Rust, tuned Rust and an expert's C. First all are compared, then timed.
 //!
 //! `bench` compares and times; `bench --compare-only` only compares; `bench record SEED PEAK N T` writes such a record to
-//! standard output; `bench calls engine|straight|tuned|c|fill N T COUNT` makes that many calls on one record, for a profiler.
+//! standard output; `bench calls engine|straight|tuned|c|lanes|weights|longest|fill|fill-longest N T COUNT` makes that many calls on
+//! one record, for a profiler.
 #![forbid(unsafe_code)]
 use std::io::Write;
 use std::process::ExitCode;
 use std::str::FromStr;
 
 mod compare;
+mod extended;
+mod frames;
 mod load;
 mod programs;
 mod straight;
@@ -24,10 +27,10 @@ fn main() -> ExitCode {
         [] => compare_and_time(),
         ["--compare-only"] => compare::compare_all().map(|said| println!("{said}")),
         ["record", seed, peak, n, steps] => print_record(seed, peak, n, steps),
+        ["answers"] => frames::print_answers(),
+        ["turns", n, steps] => turns(n, steps),
         ["calls", program, n, steps, count] => timing::make_calls(program, n, steps, count),
-        _ => Err(
-            "bench [--compare-only | record SEED PEAK N T | calls engine|straight|tuned|c|fill N T COUNT]".into(),
-        ),
+        _ => Err("bench [--compare-only | record SEED PEAK N T | calls PROGRAM N T COUNT]".into()),
     };
     match done {
         Ok(()) => ExitCode::SUCCESS,
@@ -41,6 +44,10 @@ fn main() -> ExitCode {
 fn compare_and_time() -> Result<(), String> {
     println!("{}", compare::compare_all()?);
     timing::time_all().map_err(|refused| refused.to_string())
+}
+
+fn turns(n: &str, steps: &str) -> Result<(), String> {
+    frames::take_turns(number(n)?, number(steps)?)
 }
 
 /// A word as a number of the kind that is asked for.

@@ -1,6 +1,7 @@
-//! The programs that are compared and timed: the engine, and three that it is measured by.
-use crate::{straight, tuned};
-use nobyaluk::Ended;
+//! The programs that are compared and timed: the engine, and three that it is measured by; the engine with what running and filling
+//! can take and give besides.
+use crate::{extended, straight, tuned};
+use nobyaluk::{lent, Ended, Law, Longest, Weighed, Weights, CELLS};
 use std::hint::black_box;
 
 /// A program: its name, its word on the command line, its run, and its answer in one form.
@@ -15,9 +16,9 @@ pub const ENGINE: Program = Program {
     name: "engine",
     word: "engine",
     call: |record, list| {
-        black_box(nobyaluk::run_into(black_box(record), &[], black_box(list)));
+        let _ = black_box(lent::run(black_box(record), &[], black_box(list)));
     },
-    answer: |record, list| of_boundary(nobyaluk::run_into(record, &[], list)),
+    answer: |record, list| of_boundary(lent::run(record, &[], list).value),
 };
 
 /// What the engine is measured by.
@@ -38,9 +39,76 @@ pub const OTHERS: [Program; 3] = [
         name: "an expert's C",
         word: "c",
         call: |record, list| {
-            black_box(limit::run_into(black_box(record), black_box(list)));
+            black_box(limit::run(black_box(record), black_box(list)));
         },
-        answer: |record, list| of_boundary(limit::run_into(record, list)),
+        answer: |record, list| of_boundary(limit::run(record, list)),
+    },
+];
+
+/// What running and filling take besides a record and a list.
+pub struct Besides {
+    pub lanes: Vec<u8>,
+    pub weights: Weights,
+    pub laws: Vec<Law>,
+}
+
+/// What the engine answers to a run or a filling.
+#[allow(clippy::large_enum_variant)] // there is one at a time
+pub enum Answered {
+    Plain(Ended),
+    Weighed(Weighed),
+    Longest(Longest),
+}
+
+/// A run or a filling by the engine that takes or gives more than the plain run, or fills: its name, its word on the command line,
+/// whether it fills, whether it is timed with lanes closed, and its call.
+pub struct Variant {
+    pub name: &'static str,
+    pub word: &'static str,
+    pub fills: bool,
+    pub closed: bool,
+    pub call: fn(&mut [u8], &Besides, &mut [u32]) -> Answered,
+}
+
+pub const VARIANTS: [Variant; 5] = [
+    Variant {
+        name: "with lanes closed",
+        word: "lanes",
+        fills: false,
+        closed: true,
+        call: |record, b, list| Answered::Plain(lent::run(record, &b.lanes, list).value),
+    },
+    Variant {
+        name: "with weights",
+        word: "weights",
+        fills: false,
+        closed: false,
+        call: |record, b, list| {
+            Answered::Weighed(lent::run_weighted(record, &b.lanes, b.weights, list).value)
+        },
+    },
+    Variant {
+        name: "with longest queues",
+        word: "longest",
+        fills: false,
+        closed: false,
+        call: |record, b, list| Answered::Longest(lent::run_longest(record, &b.lanes, list).value),
+    },
+    Variant {
+        name: "filling",
+        word: "fill",
+        fills: true,
+        closed: false,
+        call: |record, b, list| Answered::Plain(lent::fill(record, &b.laws, &b.lanes, list).value),
+    },
+    Variant {
+        name: "filling with longest",
+        word: "fill-longest",
+        fills: true,
+        closed: false,
+        call: |record, b, list| {
+            Answered::Longest(lent::fill_longest(record, &b.laws, &b.lanes, list).value)
+        },
     },
 ];
 
@@ -109,4 +177,50 @@ fn of_boundary(ended: Ended) -> Answer {
             cumulative: state.cumulative,
         },
     }
+}
+
+/// An answer with the weighted total and the longest queues (of the gate, of the gate without the step's arrivals, of each ramp),
+/// where they are asked for.
+pub struct Tally {
+    pub answer: Answer,
+    weighted: Option<u64>,
+    longest: Option<[u32; 2 + CELLS]>,
+}
+
+impl Tally {
+    pub fn of_rust(tallied: extended::Tallied) -> Tally {
+        Tally {
+            answer: of_rust(tallied.ended),
+            weighted: Some(tallied.weighted),
+            longest: Some(tallied.longest),
+        }
+    }
+
+    pub fn of_engine(answered: Answered) -> Tally {
+        let (ended, weighted, longest) = match answered {
+            Answered::Plain(ended) => (ended, None, None),
+            Answered::Weighed(weighed) => (weighed.ended, Some(weighed.weighted), None),
+            Answered::Longest(longest) => (longest.ended, None, Some(queues(&longest))),
+        };
+        Tally {
+            answer: of_boundary(ended),
+            weighted,
+            longest,
+        }
+    }
+
+    /// Whether all that was asked for is the same in one that has all.
+    pub fn agrees(&self, whole: &Tally) -> bool {
+        self.answer == whole.answer
+            && (self.weighted.is_none() || self.weighted == whole.weighted)
+            && (self.longest.is_none() || self.longest == whole.longest)
+    }
+}
+
+fn queues(longest: &Longest) -> [u32; 2 + CELLS] {
+    std::array::from_fn(|i| match i {
+        0 => longest.gate,
+        1 => longest.waiting,
+        _ => longest.ramps[i - 2],
+    })
 }

@@ -1,9 +1,10 @@
 //! The model as a Rust engineer writes it first: the rules in the order of the paper, arrays in two structs, no engine.
+use nobyaluk::Refusal as Why;
 
 pub const CELLS: usize = 64;
 const STEPS: usize = 1_440;
 const BYTES: usize = 65_536;
-const RATE: u32 = 1_000_000;
+pub const RATE: u32 = 1_000_000;
 const QUEUE: u32 = 1_000_000_000;
 pub const WHOLE: u32 = 1_000;
 
@@ -67,9 +68,9 @@ fn u32_at(bytes: &[u8], at: usize) -> u32 {
     u32::from_be_bytes(four)
 }
 
-pub fn refuse(number: u8, step: usize, place: usize) -> Refusal {
+pub fn refuse(why: Why, step: usize, place: usize) -> Refusal {
     Refusal {
-        number,
+        number: why.number() as u8,
         step,
         place,
     }
@@ -201,26 +202,26 @@ pub fn read(record: &[u8]) -> Result<Study<'_>, Refusal> {
         || u32_at(record, 0) as usize != size - 4
         || (record[4] == 2 && size < 18)
     {
-        return Err(refuse(1, 0, 0));
+        return Err(refuse(Why::Length, 0, 0));
     }
     let version = record[4];
     let head = match version {
         1 => 16,
         2 => 18,
-        _ => return Err(refuse(2, 0, 0)),
+        _ => return Err(refuse(Why::Version, 0, 0)),
     };
     let n = usize::from(record[5]);
     let steps = usize::from(u16_at(record, 6));
     if !(1..=CELLS).contains(&n) || !(1..=STEPS).contains(&steps) {
-        return Err(refuse(3, 0, 0));
+        return Err(refuse(Why::Counts, 0, 0));
     }
     let seconds = if version == 2 { u16_at(record, 8) } else { 0 };
     if version == 2 && !(1..=900).contains(&seconds) {
-        return Err(refuse(19, 0, 0));
+        return Err(refuse(Why::Seconds, 0, 0));
     }
     let width = 4 + 8 * n;
     if size != head + 24 * n + steps * width {
-        return Err(refuse(4, 0, 0));
+        return Err(refuse(Why::Size, 0, 0));
     }
 
     let mut road = Road::empty();
@@ -231,38 +232,38 @@ pub fn read(record: &[u8]) -> Result<Study<'_>, Refusal> {
     road.gate_capacity = u32_at(record, head - 8);
     state.gate_queue = u32_at(record, head - 4);
     if road.gate_capacity > RATE || state.gate_queue > QUEUE {
-        return Err(refuse(5, 0, 0));
+        return Err(refuse(Why::Limits, 0, 0));
     }
     let (cells, rows) = record[head..].split_at(24 * n);
     for (i, cell) in cells.chunks_exact(24).enumerate() {
         if !read_cell(cell, i, &mut road, &mut state) {
-            return Err(refuse(5, 0, i + 1));
+            return Err(refuse(Why::Limits, 0, i + 1));
         }
     }
     for (step, row) in rows.chunks_exact(width).enumerate() {
         if !Row(row).fits(&road) {
-            return Err(refuse(6, 0, step));
+            return Err(refuse(Why::Rates, 0, step));
         }
     }
     Ok(Study { road, state, rows })
 }
 
-/// Whether every release fits; otherwise the number and place of the refusal.
-fn check_releases(road: &Road, state: &State, row: &Row) -> Result<(), (u8, usize)> {
+/// Whether every release fits; otherwise the refusal and its place.
+pub fn check_releases(road: &Road, state: &State, row: &Row) -> Result<(), (Why, usize)> {
     for i in 0..road.n {
         let release = row.release(i);
         if release > state.queue[i] + row.arrivals(i) {
-            return Err((9, i + 1));
+            return Err((Why::ReleaseAboveQueue, i + 1));
         }
         if release > road.supply(i, state.held[i]) {
-            return Err((10, i + 1));
+            return Err((Why::ReleaseAboveSupply, i + 1));
         }
     }
     Ok(())
 }
 
 /// Every place's outflow, gate first.
-fn write_outflows(road: &Road, state: &State, row: &Row, outflows: &mut [u32]) {
+pub fn write_outflows(road: &Road, state: &State, row: &Row, outflows: &mut [u32]) {
     let room = |i: usize| road.supply(i, state.held[i]) - row.release(i);
     let gate_demand = road.gate_capacity.min(state.gate_queue);
     outflows[0] = outflow(WHOLE, state.gate_cumulative, gate_demand, room(0));
@@ -275,7 +276,7 @@ fn write_outflows(road: &Road, state: &State, row: &Row, outflows: &mut [u32]) {
 }
 
 /// Moves every place by its outflow, and adds to the three times.
-fn move_on(road: &Road, state: &mut State, row: &Row, outflows: &[u32]) {
+pub fn move_on(road: &Road, state: &mut State, row: &Row, outflows: &[u32]) {
     let n = road.n;
     state.gate_queue = state.gate_queue + row.gate_arrivals() - outflows[0];
     state.gate_cumulative += outflows[0];
@@ -306,13 +307,13 @@ pub fn run(record: &[u8], list: &mut [u32]) -> Ended {
     };
     let steps = rows.len() / (4 + 8 * road.n);
     if list.len() < steps * (road.n + 1) {
-        return nothing(refuse(11, 0, 0));
+        return nothing(refuse(Why::ListLength, 0, 0));
     }
     let outflow_rows = list.chunks_exact_mut(road.n + 1);
     for (row, outflows) in rows.chunks_exact(4 + 8 * road.n).zip(outflow_rows) {
         let row = Row(row);
-        if let Err((number, place)) = check_releases(&road, &state, &row) {
-            let refusal = Some(refuse(number, state.done, place));
+        if let Err((why, place)) = check_releases(&road, &state, &row) {
+            let refusal = Some(refuse(why, state.done, place));
             return Ended {
                 refusal,
                 road,
@@ -385,15 +386,21 @@ mod tests {
             run(&record, &mut [0; 9]).refusal
         };
         assert_eq!(refusal(0, 500), None);
-        assert_eq!(refusal(0, 501), Some(refuse(9, 0, 2)));
+        assert_eq!(refusal(0, 501), Some(refuse(Why::ReleaseAboveQueue, 0, 2)));
         assert_eq!(refusal(9_000, 1_000), None);
-        assert_eq!(refusal(9_000, 1_001), Some(refuse(10, 0, 2)));
+        assert_eq!(
+            refusal(9_000, 1_001),
+            Some(refuse(Why::ReleaseAboveSupply, 0, 2))
+        );
     }
 
     #[test]
     fn a_list_that_is_too_short() {
         let mut list = [7; 8];
-        assert_eq!(run(&printed(), &mut list).refusal, Some(refuse(11, 0, 0)));
+        assert_eq!(
+            run(&printed(), &mut list).refusal,
+            Some(refuse(Why::ListLength, 0, 0))
+        );
         assert_eq!(list, [7; 8]);
     }
 

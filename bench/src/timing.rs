@@ -1,8 +1,8 @@
 //! Times and instructions of the programs, by interleaved calls.
-use crate::load::{laws, record, road, LOADS, PEAK, SEED};
-use crate::programs::{ENGINE, OTHERS};
+use crate::load::{besides, closures, record, record_under, LOADS, PEAK, SEED};
+use crate::programs::{Besides, ENGINE, OTHERS, VARIANTS};
 use crate::{number, SIZES};
-use nobyaluk::{Law, Refused};
+use nobyaluk::Refused;
 use std::hint::black_box;
 use std::process::Command;
 use std::time::{Duration, Instant};
@@ -10,40 +10,75 @@ use std::time::{Duration, Instant};
 /// Rounds of calls that are timed, for each size: each program once a round.
 const ROUNDS: usize = 4_000;
 /// Records of each size that the rounds take in turn.
-const RECORDS: u32 = 8;
+pub const RECORDS: u32 = 8;
 /// How often each program runs all loads of the study.
 const PASSES: usize = 15;
 /// At each size, the ratios to straightforward Rust and to C that are aimed for, and the instructions a step-cell.
 const BARS: [(f64, f64, f64); SIZES.len()] =
     [(0.35, 1.3, 55.0), (0.35, 1.3, 60.0), (0.38, 1.3, 80.0)];
 
+/// What the calls of one size are given: the records, and what goes with them; the same with lanes closed, under which their records
+/// were filled.
+struct Given {
+    length: usize,
+    plain: (Vec<Vec<u8>>, Besides),
+    closed: (Vec<Vec<u8>>, Besides),
+}
+
+impl Given {
+    fn of(n: usize, steps: usize, records: u32) -> Result<Given, Refused> {
+        let with = |lanes: Vec<u8>| -> Result<_, Refused> {
+            let records =
+                (SEED..SEED + records).map(|seed| record_under(seed, PEAK, n, steps, &lanes));
+            Ok((records.collect::<Result<_, _>>()?, besides(n, lanes)))
+        };
+        Ok(Given {
+            length: steps * (n + 1),
+            plain: with(vec![])?,
+            closed: with(closures(n, steps))?,
+        })
+    }
+}
+
 /// A call of one program on the record of a number.
 type Call<'a> = Box<dyn FnMut(usize) + 'a>;
 
 /// The engine's run and those of the others, each with a list of its own.
-fn runs<'a>(records: &'a [Vec<u8>], length: usize) -> Vec<Call<'a>> {
-    std::iter::once(ENGINE)
-        .chain(OTHERS)
-        .map(|program| {
-            let mut list = vec![0; length];
-            Box::new(move |k: usize| (program.call)(&records[k], &mut list)) as Call
-        })
+fn runs<'a>(records: &'a [Vec<u8>], length: usize) -> impl Iterator<Item = Call<'a>> {
+    std::iter::once(ENGINE).chain(OTHERS).map(move |program| {
+        let mut list = vec![0; length];
+        Box::new(move |k: usize| (program.call)(&records[k], &mut list)) as Call
+    })
+}
+
+/// The engine's other runs and fillings, each with a list and records of its own; filling writes the releases that a record already has.
+fn variants(given: &Given) -> impl Iterator<Item = Call<'_>> {
+    VARIANTS.into_iter().map(|variant| {
+        let (records, besides) = if variant.closed {
+            &given.closed
+        } else {
+            &given.plain
+        };
+        let (mut records, mut list) = (records.clone(), vec![0; given.length]);
+        Box::new(move |k: usize| {
+            let (record, list) = (black_box(&mut records[k]), black_box(&mut list));
+            black_box((variant.call)(record, black_box(besides), list));
+        }) as Call
+    })
+}
+
+/// The names and words of all calls, in their order.
+fn named() -> impl Iterator<Item = (&'static str, &'static str)> {
+    let programs = std::iter::once(ENGINE).chain(OTHERS);
+    let programs = programs.map(|program| (program.name, program.word));
+    programs.chain(VARIANTS.map(|variant| (variant.name, variant.word)))
+}
+
+/// All calls of one size, in the order of their names.
+fn calls(given: &Given) -> Vec<Call<'_>> {
+    runs(&given.plain.0, given.length)
+        .chain(variants(given))
         .collect()
-}
-
-fn fill(record: &mut [u8], laws: &[Law], list: &mut [u32]) {
-    black_box(nobyaluk::fill_into(
-        black_box(record),
-        black_box(laws),
-        &[],
-        black_box(list),
-    ));
-}
-
-/// Filling: it writes the releases that the record already has.
-fn filling<'a>(records: &[Vec<u8>], n: usize, length: usize) -> Call<'a> {
-    let (mut filled, mut list, laws) = (records.to_vec(), vec![0; length], laws(&road(n)));
-    Box::new(move |k: usize| fill(&mut filled[k], &laws, &mut list))
 }
 
 fn timed(call: &mut Call, k: usize) -> Duration {
@@ -86,45 +121,67 @@ fn within(name: &str, value: f64, bar: f64) -> String {
     format!("  {name} {value:.2}, {said} {bar}")
 }
 
+/// The median of each call's times, over the records in turn.
+fn medians(mut calls: Vec<Call>) -> Vec<f64> {
+    // each record as often as there are calls, since a round begins one call later than the round before
+    let turns = calls.len();
+    let order = (0..ROUNDS).map(|round| round / turns % RECORDS as usize);
+    let times = interleaved(&mut calls, order);
+    times.into_iter().map(median).collect()
+}
+
 /// Times one size, and gives the ratios engine / other.
 fn time_size(size: usize) -> Result<Vec<f64>, Refused> {
     let (n, steps) = SIZES[size];
-    let (bar_straight, bar_c, bar_instructions) = BARS[size];
-    let seeds = SEED..SEED + RECORDS;
-    let records: Vec<Vec<u8>> = seeds
-        .map(|seed| record(seed, PEAK, n, steps))
-        .collect::<Result<_, _>>()?;
-    let (length, cells) = (steps * (n + 1), (n * steps) as f64);
-    let mut calls = runs(&records, length);
-    calls.push(filling(&records, n, length));
-    // each record as often as there are calls, since a round begins one call later than the round before
-    let turns = calls.len();
-    let order = (0..ROUNDS).map(|round| round / turns % records.len());
-    let times: Vec<f64> = interleaved(&mut calls, order)
-        .into_iter()
-        .map(median)
-        .collect();
+    let given = Given::of(n, steps, RECORDS)?;
+    let mut times = medians(runs(&given.plain.0, given.length).collect());
+    let beside = runs(&given.plain.0, given.length).take(1);
+    let variants = medians(beside.chain(variants(&given)).collect());
+    // the variants' times as if the run had taken as long beside them as it took beside the others
+    let scale = times[0] / variants[0];
+    times.extend(variants[1..].iter().map(|time| time * scale));
 
     println!("n {n} T {steps}");
-    let count = |word: &str| instructions(word, n, steps);
-    let engine = count(ENGINE.word);
-    print_line(ENGINE.name, times[0], cells, engine);
-    for (program, time) in OTHERS.iter().zip(&times[1..]) {
-        print_line(program.name, *time, cells, count(program.word));
+    let counted: Vec<Option<f64>> = named()
+        .map(|(_, word)| instructions(word, n, steps))
+        .collect();
+    for (((name, _), time), counted) in named().zip(&times).zip(&counted) {
+        print_line(name, *time, (n * steps) as f64, *counted);
     }
-    print_line("the engine's filling", times[turns - 1], cells, count(FILL));
-    let ratios: Vec<f64> = times[1..turns - 1].iter().map(|t| times[0] / t).collect();
+    let ratios: Vec<f64> = times[1..=OTHERS.len()]
+        .iter()
+        .map(|t| times[0] / t)
+        .collect();
+    print_bars(size, &ratios, counted[0]);
+    print_variants(&times);
+    Ok(ratios)
+}
+
+/// The ratios engine / other and the instructions, each beside its bar where it has one.
+fn print_bars(size: usize, ratios: &[f64], instructions: Option<f64>) {
+    let (bar_straight, bar_c, bar_instructions) = BARS[size];
     println!(
         "{}",
         within("engine / straightforward Rust", ratios[0], bar_straight)
     );
     println!("  engine / tuned Rust {:.2}", ratios[1]);
     println!("{}", within("engine / C", ratios[2], bar_c));
-    if let Some(engine) = engine {
+    if let Some(engine) = instructions {
         println!("{}", within("instructions", engine, bar_instructions));
     }
-    println!("  filling / run {:.2}", times[turns - 1] / times[0]);
-    Ok(ratios)
+}
+
+/// The ratios of the engine's other calls: of runs and of filling to the plain run, of filling with more to filling.
+fn print_variants(times: &[f64]) {
+    let (run, variants) = (times[0], &times[1 + OTHERS.len()..]);
+    let filling = VARIANTS.iter().position(|variant| variant.fills);
+    for (k, (variant, time)) in VARIANTS.iter().zip(variants).enumerate() {
+        let (beside, least) = match filling {
+            Some(first) if k > first => ("filling", variants[first]),
+            _ => ("run", run),
+        };
+        println!("  {} / {beside} {:.2}", variant.name, time / least);
+    }
 }
 
 /// A thousand loads over one road, one after the other, as a study has them. Of each load the least of several passes counts, so
@@ -135,7 +192,8 @@ fn time_study() -> Result<(), Refused> {
         .map(|seed| record(seed, PEAK, n, steps))
         .collect::<Result<_, _>>()?;
     let order = (0..PASSES * records.len()).map(|k| k % records.len());
-    let times = interleaved(&mut runs(&records, steps * (n + 1)), order);
+    let mut calls: Vec<Call> = runs(&records, steps * (n + 1)).collect();
+    let times = interleaved(&mut calls, order);
     let sums: Vec<f64> = times
         .iter()
         .map(|times| {
@@ -174,23 +232,13 @@ pub fn time_all() -> Result<(), Refused> {
     Ok(())
 }
 
-/// The word of the engine's filling on the command line.
-const FILL: &str = "fill";
-
 /// For a profiler: calls on one record, and nothing else that differs with `count`.
 pub fn make_calls(program: &str, n: &str, steps: &str, count: &str) -> Result<(), String> {
     let (n, steps, count) = (number(n)?, number(steps)?, number(count)?);
-    let records = [record(SEED, PEAK, n, steps).map_err(|refused| refused.to_string())?];
-    let length = steps * (n + 1);
-    let known = std::iter::once(ENGINE).chain(OTHERS);
-    let mut call = match known
-        .zip(runs(&records, length))
-        .find(|(p, _)| p.word == program)
-    {
-        Some((_, call)) => call,
-        None if program == FILL => filling(&records, n, length),
-        None => return Err(format!("no such program: {program}")),
-    };
+    let given = Given::of(n, steps, 1).map_err(|refused| refused.to_string())?;
+    let mut known = named().zip(calls(&given));
+    let called = known.find(|((_, word), _)| *word == program);
+    let (_, mut call) = called.ok_or(format!("no such program: {program}"))?;
     for _ in 0..count {
         call(0);
     }

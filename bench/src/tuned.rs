@@ -2,22 +2,23 @@
 //! a share of 1,000 takes no division, and what is on the road and at the ramps is added up along the move.
 use crate::straight::{nothing, outflow, part, read, refuse};
 use crate::straight::{Ended, Road, Row, State, Study, CELLS, WHOLE};
+use nobyaluk::Refusal as Why;
 
-/// Finds the room that each release leaves in its cell; otherwise the number and place of the refusal.
+/// Finds the room that each release leaves in its cell; otherwise the refusal and its place.
 fn keep_rooms(
     road: &Road,
     state: &State,
     row: &Row,
     rooms: &mut [u32; CELLS],
-) -> Result<(), (u8, usize)> {
+) -> Result<(), (Why, usize)> {
     for (i, room) in rooms.iter_mut().enumerate().take(road.n) {
         let release = row.release(i);
         if release > state.queue[i] + row.arrivals(i) {
-            return Err((9, i + 1));
+            return Err((Why::ReleaseAboveQueue, i + 1));
         }
         let supply = road.supply(i, state.held[i]);
         if release > supply {
-            return Err((10, i + 1));
+            return Err((Why::ReleaseAboveSupply, i + 1));
         }
         *room = supply - release;
     }
@@ -72,14 +73,14 @@ pub fn run(record: &[u8], list: &mut [u32]) -> Ended {
     };
     let (width, places) = (4 + 8 * road.n, road.n + 1);
     if list.len() < rows.len() / width * places {
-        return nothing(refuse(11, 0, 0));
+        return nothing(refuse(Why::ListLength, 0, 0));
     }
     let mut rooms = [0; CELLS];
     let mut refusal = None;
     for (row, outflows) in rows.chunks_exact(width).zip(list.chunks_exact_mut(places)) {
         let row = Row(row);
-        if let Err((number, place)) = keep_rooms(&road, &state, &row, &mut rooms) {
-            refusal = Some(refuse(number, state.done, place));
+        if let Err((why, place)) = keep_rooms(&road, &state, &row, &mut rooms) {
+            refusal = Some(refuse(why, state.done, place));
             break;
         }
         write_outflows(&road, &state, &rooms, outflows);

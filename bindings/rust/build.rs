@@ -1,5 +1,4 @@
-//! Links the proved archive: the one in NOBYALUK_LIB_DIR, the one in the crate's package, or the one that bindings/build proves and builds
-//! here. The words of refusals are the package's or the repository's.
+//! Links the proved archive: the one in NOBYALUK_LIB_DIR, the one in the crate's package, or the one that bindings/build proves and builds here.
 use std::io::{BufRead, BufReader, Read, Write};
 use std::path::{Path, PathBuf};
 use std::process::{Command, Stdio};
@@ -21,14 +20,6 @@ fn main() {
     };
     // a copy, since `rt ci` removes the repository's target/
     copy(&built, &out.join("libexports.a"));
-    let words = [
-        here.join("refusals.tsv"),
-        here.join("../../docs/refusals.tsv"),
-    ];
-    let words = words.iter().find(|path| path.exists());
-    let words = words.expect("the words of refusals are neither in the package nor in docs/");
-    println!("cargo:rerun-if-changed={}", words.display());
-    copy(words, &out.join("refusals.tsv"));
     println!("cargo:rustc-link-search=native={}", out.display());
     println!("cargo:rustc-link-lib=static=exports");
 }

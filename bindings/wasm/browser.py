@@ -1,6 +1,8 @@
 """The page in a real browser: headless Chromium, driven by its own driver, beside the command line (ctm and the reference)."""
 import base64
 import csv
+import functools
+import http.server
 import json
 import os
 import re
@@ -9,6 +11,7 @@ import struct
 import subprocess
 import sys
 import tempfile
+import threading
 import time
 from pathlib import Path
 
@@ -18,10 +21,11 @@ from selenium.webdriver.chrome.service import Service
 from selenium.webdriver.common.by import By
 from selenium.webdriver.common.keys import Keys
 
-ROOT = Path(__file__).resolve().parents[2]
+HERE = Path(__file__).resolve().parent
+ROOT = HERE.parents[1]
 PAGE = ROOT / "target/wasm/nobyaluk.html"
 VERSION = (ROOT / "VERSION").read_text().strip()
-CTM, REFERENCE = ROOT / "target/bin/ctm", ROOT / "reference/target/release/reference"
+CTM, REFERENCE = ROOT / "target/bin/ctm", ROOT / "target-rust/release/reference"
 BASES = {"bottleneck": "bottleneck", "rocade": "rocade-sud-seconds", "classroom": "classroom", "printed": "printed-run"}
 RAMPS = {"bottleneck": (4, 6), "rocade": (2, 5, 7, 11, 14, 16, 19, 21), "classroom": (), "printed": (2,)}
 
@@ -37,6 +41,14 @@ SETTINGS = [
 
 def output(*command, given=b""):
     return subprocess.run([str(x) for x in command], input=given, stdout=subprocess.PIPE, check=False).stdout
+
+
+class Quiet(http.server.SimpleHTTPRequestHandler):
+    """A server that prints nothing, and knows modules by their ending."""
+    extensions_map = {**http.server.SimpleHTTPRequestHandler.extensions_map, ".mjs": "text/javascript", ".js": "text/javascript"}
+
+    def log_message(self, *_):
+        pass
 
 
 class Record:
@@ -209,7 +221,8 @@ def verdicts(page):
 
 def records(page):
     """Records of one's own: run as ctm runs them, or refused in words; short ones go into the address."""
-    words = {line.split("\t")[0]: line.split("\t")[2] for line in (ROOT / "docs/refusals.tsv").read_text().splitlines()}
+    rows = [line.split("\t") for line in (ROOT / "docs/refusals.tsv").read_text().splitlines()]
+    words = {number: said for number, _, operations, _, said, *_ in rows if "run" in operations.split(", ")}
     page.open(study="printed")
     for path in sorted((ROOT / "examples").glob("*.rec")):
         page["file"].send_keys(str(path))
@@ -550,12 +563,34 @@ def languages(page):
             page.driver.execute_cdp_cmd("Emulation.clearDeviceMetricsOverride", {})
 
 
+def modules(page):
+    """The modules by themselves, from a server and not in one script: each imports what it uses, so the page is ready and shows the same run."""
+    folder = page.folder / "modules"
+    folder.mkdir()
+    for path in [*HERE.glob("*.js"), *HERE.glob("*.mjs")]:
+        shutil.copy(path, folder)
+    (folder / "data.mjs").write_text("export " + re.search(r"^const DATA = .*;$", PAGE.read_text(), re.M)[0])
+    template = re.sub(r"<meta http-equiv[^>]*>", "", (HERE / "page.template.html").read_text())
+    (folder / "index.html").write_text(re.sub(r"<script type=\"module\">.*?</script>", '<script type="module" src="main.js"></script>', template, flags=re.S))
+    handler = functools.partial(Quiet, directory=str(folder))
+    with http.server.ThreadingHTTPServer(("127.0.0.1", 0), handler) as server:
+        threading.Thread(target=server.serve_forever, daemon=True).start()
+        for form, ready in (("study", "last"), ("exercise", "sheet-name"), ("graded", "sheet-name")):
+            page.driver.get("about:blank")
+            page.driver.get(f"http://127.0.0.1:{server.server_port}/#lang=en&study=printed&mode={form}")
+            page.until(lambda: page.script("'ready' in document.body.dataset"), f"the modules, {form}")
+            assert page.text(ready), f"{form}: {ready} is empty"
+        server.shutdown()
+    page.driver.get("about:blank")
+    page.driver.get_log("browser")  # a server's page has no icon
+
+
 def main():
     assert not re.search(r'(?:src|href)="(?!data:)', PAGE.read_text().split("<script")[0]), "the page asks for nothing from elsewhere"
     with tempfile.TemporaryDirectory() as folder:
         page, began = Page(Path(folder)), time.time()
         try:
-            for part in (settings, sliders, verdicts, records, no_records, addresses, policy, gate, exercise, paper, graded, widths, languages):
+            for part in (settings, sliders, verdicts, records, no_records, addresses, policy, gate, exercise, paper, graded, widths, languages, modules):
                 part(page)
                 errors = page.driver.get_log("browser")
                 assert not errors, f"{part.__name__}: the console says {errors}"

@@ -1,8 +1,8 @@
 // The page's pictures, on canvases. What is drawn are the engine's numbers; nothing here goes back to it.
 // Colours are those that people with colour blindness can tell apart (Okabe and Ito); lines differ in their dashes too.
 
-const COLOURS = { gate: "#0072B2", road: "#8f8f8f", ramp: "#D55E00" };
-const LINES = [
+export const COLOURS = { gate: "#0072B2", road: "#8f8f8f", ramp: "#D55E00" };
+export const LINES = [
   ["#D55E00", []], ["#009E73", [8, 3]], ["#B5498A", [3, 2]], ["#9A6B00", [9, 3, 2, 3]], ["#2E9BDF", [14, 3]], ["#000000", [4, 3]], ["#7A3E9D", [2, 3]],
   ["#6B5B1E", [12, 3, 3, 3]],
 ];
@@ -17,7 +17,7 @@ function shade(x) {
   const [[a, from], [b, to]] = [STOPS[i - 1], STOPS[i]], t = Math.min(1, Math.max(0, (x - a) / (b - a))), end = channels(to);
   return `rgb(${channels(from).map((c, j) => Math.round(c + t * (end[j] - c)))})`;
 }
-const scale = `linear-gradient(to right, ${STOPS.map(([x, c]) => `${c} ${(100 * x / STOPS.at(-1)[0]).toFixed(1)}%`).join(", ")})`;
+export const scale = `linear-gradient(to right, ${STOPS.map(([x, c]) => `${c} ${(100 * x / STOPS.at(-1)[0]).toFixed(1)}%`).join(", ")})`;
 
 // A canvas cleared, with room for its axes.
 function frame(canvas, height, right = 14) {
@@ -59,7 +59,7 @@ function valueAxis(f, most, label, say) {
 }
 
 // Held over the critical count, by place and time. marks: of each cell a text at the right; works: {cell, from, to} or null.
-function spaceTime(canvas, { steps, edges, ratio, marks, works, time, label, ticks }) {
+export function spaceTime(canvas, { steps, edges, ratio, marks, works, time, label, ticks }) {
   const f = frame(canvas, 330, 40), { g } = f, n = edges.length - 1;
   const y = (km) => f.bottom - (f.bottom - f.top) * km / edges[n], x = (k) => f.left + (f.right - f.left) * k / steps;
   for (let i = 0; i < n; i++) {
@@ -81,7 +81,7 @@ function spaceTime(canvas, { steps, edges, ratio, marks, works, time, label, tic
 }
 
 // Curves over time, each {values, colour, dash, width}; between: fill the area of the first two.
-function lines(canvas, height, curves, time, label, say, between = false) {
+export function lines(canvas, height, curves, time, label, say, between = false) {
   const f = frame(canvas, height), { g } = f, most = Math.max(0.1, ...curves.map((c) => Math.max(...c.values)));
   const y = valueAxis(f, most, label, say), x = (k, all) => f.left + (f.right - f.left) * k / (all - 1);
   if (between) {
@@ -100,7 +100,7 @@ function lines(canvas, height, curves, time, label, say, between = false) {
 }
 
 // Layers one on the other, each {values, colour}, and a dashed line beside them.
-function layers(canvas, height, stack, beside, time, label, say) {
+export function layers(canvas, height, stack, beside, time, label, say) {
   const f = frame(canvas, height), { g } = f, size = beside.length, sums = new Array(size).fill(0);
   const all = sums.map((_, k) => stack.reduce((sum, s) => sum + s.values[k], 0));
   const y = valueAxis(f, Math.max(0.1, ...all, ...beside), label, say), x = (k) => f.left + (f.right - f.left) * k / (size - 1);
@@ -116,7 +116,7 @@ function layers(canvas, height, stack, beside, time, label, say) {
 }
 
 // A piece of a legend: a line as it is drawn, a patch, or a hatched patch.
-function sample({ colour, dash, hatched }) {
+export function sample({ colour, dash, hatched }) {
   const ns = "http://www.w3.org/2000/svg", svg = document.createElementNS(ns, "svg"), line = document.createElementNS(ns, dash ? "line" : "rect");
   const set = (x, all) => Object.entries(all).forEach(([k, v]) => x.setAttribute(k, v));
   set(svg, { width: 26, height: 12, "aria-hidden": "true" });

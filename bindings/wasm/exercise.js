@@ -1,6 +1,13 @@
 // The exercise: a small road of a seed, or a record; for practice outflows typed by the student and judged by the engine.
+import { DRAWN, NAMED, clearFault, fault, inLink, own, remember } from "./address.js";
+import { Refused } from "./engine.mjs";
+import { Refusal } from "./refusals.mjs";
+import { showSetting } from "./show.js";
+import { $, engine, graded, offer, on, value } from "./start.js";
+import { Fault, count, el, lang, refusal, say, showEdges, t, table } from "./words.js";
+
 const MOST_CELLS = 8, MOST_BYTES = 4096, DRAWS = 96, MOST_OUTFLOW = 1e6;
-let task = null;   // the record, what it gives, its title and names, and for practice the engine's run of it
+export let task = null;   // the record, what it gives, its title and names, and for practice the engine's run of it
 
 // A road of a seed, as `nobyaluk exercise --seed` draws it. A road on which nobody is held back, or without an off-ramp, is passed over.
 function drawn(seed, n, steps) {
@@ -47,14 +54,14 @@ function draw(seed, n, steps) {
 const seed = () => Math.min(2 ** 32 - 1, Math.max(0, Math.floor(value("seed")) || 0));
 
 // The sheet's tables.
-const whole = (x) => say(x, 0);
+export const whole = (x) => say(x, 0);
 const nameOf = (place) => (place ? t("place.cell", { cell: place }) : t("place.gate"));
 const rampsOf = () => task.road.ramp.flatMap((mark, i) => (mark ? [i + 1] : []));
 const givenName = (cell) => task.names[rampsOf().indexOf(cell)];
 const rampName = (cell) => (givenName(cell) ? t("ramp.named", { name: givenName(cell) }) : t("ramp.of", { cell }));
-const places = () => Array.from({ length: task.road.n + 1 }, (_, p) => p);
-const eachStep = (of) => Array.from({ length: task.steps }, (_, k) => [String(k), ...of(k)]);
-function given() {
+export const places = () => Array.from({ length: task.road.n + 1 }, (_, p) => p);
+export const eachStep = (of) => Array.from({ length: task.steps }, (_, k) => [String(k), ...of(k)]);
+export function given() {
   const { road, start } = task, head = ["place", "col.v", "col.w", "col.b", "col.J", "col.C", "col.held", "col.queue"].map((key) => t(key));
   const gate = [nameOf(0), "", "", "", "", whole(road.gate_capacity), "", whole(start.gate_queue)];
   const numbers = (i) => ["speed", "wave", "share", "jam", "capacity"].map((name) => whole(road[name][i]));
@@ -63,30 +70,30 @@ function given() {
   return table(head, [gate, ...road.ramp.map((_, i) => cell(i))]);
 }
 // What arrives and is released: the columns of the gate and of each on-ramp, and a step's numbers.
-const inflowGroups = () => [[nameOf(0), 1], ...rampsOf().map((c) => [rampName(c), 2])];
-const inflowNames = () => [t("arrivals"), ...rampsOf().flatMap(() => [t("arrivals"), t("release")])];
-function inflowOf(k) {
+export const inflowGroups = () => [[nameOf(0), 1], ...rampsOf().map((c) => [rampName(c), 2])];
+export const inflowNames = () => [t("arrivals"), ...rampsOf().flatMap(() => [t("arrivals"), t("release")])];
+export function inflowOf(k) {
   const number = (j) => whole(task.rows[k * (1 + 2 * task.road.n) + j]);
   return [number(0), ...rampsOf().flatMap((c) => [number(2 * c - 1), number(2 * c)])];
 }
 const inflow = () => table([t("step"), ...inflowNames()], eachStep(inflowOf), inflowGroups());
 // The columns of an answer: the outflows, and the state after the step in the order of held and queue.
-const placeNames = () => places().map(nameOf);
+export const placeNames = () => places().map(nameOf);
 const outflowWhat = () => places().map((p) => t("outflow.of", { place: nameOf(p) }));
 const stateWhat = () => [...places().map((p) => t(p ? "held.of" : "queue.of", { place: nameOf(p) })), ...rampsOf().map((c) => t("queue.of", { place: rampName(c) }))];
-const outflowGroups = () => [[t("group.outflow"), task.road.n + 1]];
-const stateGroups = () => [[t("group.queue"), 1], [t("group.held"), task.road.n], ...(rampsOf().length ? [[t("group.queue"), rampsOf().length]] : [])];
-const stateNames = () => [...placeNames(), ...rampsOf().map(rampName)];
-function stateOf(h, k) {
+export const outflowGroups = () => [[t("group.outflow"), task.road.n + 1]];
+export const stateGroups = () => [[t("group.queue"), 1], [t("group.held"), task.road.n], ...(rampsOf().length ? [[t("group.queue"), rampsOf().length]] : [])];
+export const stateNames = () => [...placeNames(), ...rampsOf().map(rampName)];
+export function stateOf(h, k) {
   const at = k * (task.road.n + 1);
   return [...places().map((p) => whole(h.held[at + p])), ...rampsOf().map((c) => whole(h.queue[at + c]))];
 }
 // Cells, steps and the seconds of a step, where they are known.
-function shapeOf() {
+export function shapeOf() {
   const { n, seconds } = task.road;
   return t(seconds ? "sheet.shape" : "sheet.shape.steps", { cells: count(n, "cells"), steps: count(task.steps, "steps"), seconds });
 }
-const seeded = () => t("sheet.seed", { seed: task.seed, shape: shapeOf() });
+export const seeded = () => t("sheet.seed", { seed: task.seed, shape: shapeOf() });
 
 // The exercise that the controls ask for.
 function made() {
@@ -97,7 +104,7 @@ function made() {
   return { record, road, start, steps, names, rows: engine.rows(record, road.n, steps), best: graded ? null : best, seed: mine ? null : seed(), title: $("title").value.trim() };
 }
 // Takes it, or shows what is wrong with it.
-function setTask() {
+export function setTask() {
   try {
     task = made();
   } catch (e) {
@@ -109,7 +116,7 @@ function setTask() {
   $("sheet").hidden = !task;
 }
 // What is given, and the table of answers with its fields; typed: what is in them already.
-function showTask(typed = []) {
+export function showTask(typed = []) {
   $("sheet-name").textContent = task.seed !== null ? seeded() : graded ? shapeOf() : t("sheet.record", { shape: shapeOf() });
   $("given").replaceChildren(given());
   $("inflow").replaceChildren(inflow());
@@ -124,7 +131,7 @@ function showTask(typed = []) {
   showEdges();
 }
 // The exercise for practice; what is typed stays where it is the same one.
-function newExercise(keep = false) {
+export function newExercise(keep = false) {
   const before = task, typed = task ? fields().map((x) => x.value) : [];
   $("own-box").hidden = !own;
   if (!own) $("own").checked = false;
@@ -142,7 +149,7 @@ function newExercise(keep = false) {
 }
 
 // Judging.
-const fields = () => [...$("grid").querySelectorAll("input")];
+export const fields = () => [...$("grid").querySelectorAll("input")];
 const plain = (text) => text.trim().replace(/[\s.,’'](?=\d{3}(?!\d))/g, "");   // 1,000 or 1.000 is a thousand
 const isNumber = (text) => /^\d{1,7}$/.test(text) && Number(text) <= MOST_OUTFLOW;
 function verdict(kind, text, more = "") {
@@ -188,7 +195,7 @@ function judge() {
 // The first rule broken, and for an outflow how much it may be at most.
 function broken(h, plan) {
   const i = h.step * (task.road.n + 1) + h.place;
-  if (h.number !== 13 && h.number !== 14) return verdict("bad", refusal(h));
+  if (h.number !== Refusal.OutflowAboveDemand && h.number !== Refusal.EnteringAboveRoom) return verdict("bad", refusal(h));
   mark(i);
   verdict("bad", refusal(h), t("judged.hint", { x: whole(plan[i]), most: whole(mostIn(h)) }));
 }
@@ -214,7 +221,7 @@ function mostIn({ step, place, state }) {
 // Counts are in thousandths of a vehicle; gate, road, ramp and total in thousandths of a vehicle times steps, as `ctm` prints them.
 // An answer is a whole number, null where the field is empty, or the text as typed where it is no whole number.
 // name and whose are texts, empty where nothing is typed.
-function answersOf(typed) {
+export function answersOf(typed) {
   const n = task.road.n, w = n + 1, width = 2 * w + rampsOf().length;
   const rows = (from, to) => Array.from({ length: task.steps }, (_, k) => typed.slice(k * width + from, k * width + to).map(answerOf));
   const [gate, road, ramp, total] = ["gate", "road", "ramp", "total"].map((name) => answerOf($(`time-${name}`).value));
@@ -234,8 +241,8 @@ on("plan", "submit", (e) => { e.preventDefault(); if (!graded) judge(); });
 on("show", "input", () => { if (fields().some((x) => x.value)) judge(); });
 on("clear", "click", () => newExercise());
 for (const id of NAMED) on(id, "input", () => { newExercise(true); remember(); });
-on("next", "click", () => { fault = null; $("own").checked = false; $("seed").value = engine.load(seed(), 99999, 1).list[0]; newExercise(); remember(); });
-for (const id of [...DRAWN, "own"]) on(id, "input", () => { fault = null; showSetting(); newExercise(); remember(); });
+on("next", "click", () => { clearFault(); $("own").checked = false; $("seed").value = engine.load(seed(), 99999, 1).list[0]; newExercise(); remember(); });
+for (const id of [...DRAWN, "own"]) on(id, "input", () => { clearFault(); showSetting(); newExercise(); remember(); });
 offer("exercise-record", () => task.record);
 
 // The links for the class: the exercise, its title and names, and the form of the page.

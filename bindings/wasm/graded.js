@@ -1,8 +1,13 @@
 // The graded form of the exercise: fields for every answer, and a file of them for `nobyaluk mark`. It checks nothing, and neither key
 // nor hint is in the page.
+import { answersOf, fields, setTask, showTask, task, whole } from "./exercise.js";
+import { keepForm, readAddress } from "./page.js";
+import { $, offer, on } from "./start.js";
+import { t } from "./words.js";
+
 let unsaved = false;   // whether something is typed that is in no file yet
 
-function showGraded() {
+export function showGraded() {
   if (!task) return;
   $("heading").textContent = task.title || t("sheet");
   showTask(fields().map((x) => x.value));
@@ -25,7 +30,8 @@ function saveAnswers() {
   unsaved = false;
   return JSON.stringify(saved, null, 1) + "\n";
 }
-function startGraded() {
+export function startGraded() {
+  window.addEventListener("beforeunload", (e) => { if (unsaved) e.preventDefault(); });
   readAddress();
   setTask();   // by the controls, which are then removed with all else that is for practice
   keepForm();
@@ -39,10 +45,3 @@ function startGraded() {
 on("name", "input", () => { $("answers").download = answersName(); });
 $("view-exercise").addEventListener("input", () => { unsaved = true; });
 offer("answers", saveAnswers);
-if (graded) {
-  window.addEventListener("beforeunload", (e) => { if (unsaved) e.preventDefault(); });
-  startGraded();
-} else {
-  keepForm();
-  recall();
-}

@@ -1,11 +1,17 @@
-// The page: its setting, which its address holds too, and its controls. page.py puts this and the other scripts into one, with
-// DATA: the module, the texts and the studies.
-const IN_LINK = 4096;   // bytes of a record that its address still holds
-const WEIGHTS = ["w-gate", "w-first", "w-last", "w-ramp"], DRAWN = ["seed", "cells", "steps"], NAMED = ["title", "names"];
-const HELD = ["load", "works", "cell", "from", "to", "law", "gain", ...WEIGHTS, ...DRAWN, ...NAMED];
-let mode = "study", own = null;   // own: the bytes of a record of the user's
-let fault = null;                 // what was given in place of one
-let shown = null;                 // the last run and its table of lanes, for the downloads
+// The page for practice: its controls and what they show.
+import { DRAWN, NAMED, WEIGHTS, clearFault, fault, held, mode, outOfLink, own, remember, setMode, take } from "./address.js";
+import { DATA } from "./data.mjs";
+import { scale } from "./draw.js";
+import { Refused, lastLines, listing } from "./engine.mjs";
+import { newExercise } from "./exercise.js";
+import { Refusal } from "./refusals.mjs";
+import { drawCurves, drawMap, drawQueues, drawSystem, showRamps, showSetting, showTotals, showWeighed, verdictOf } from "./show.js";
+import { $, address, bytesOf, engine, graded, offer, on, value } from "./start.js";
+import { LAWS, closed, lanes, lanesText, opened, ran, setStudy, study } from "./study.js";
+import { Fault, count, el, lang, refusal, say, setLanguage, showEdges, speak, t } from "./words.js";
+
+let shown = null;   // the last run and its table of lanes, for the downloads
+const RELEASES = [Refusal.ReleaseAboveQueue, Refusal.ReleaseAboveSupply];   // where other releases help
 
 // Words in place of the results, or none.
 function refuse(text) {
@@ -14,7 +20,8 @@ function refuse(text) {
   for (const id of ["shown", "record", "listing", "lanes"]) $(id).hidden = !!text;
   if (text) for (const id of ["last", "last-says", "took", "strip"]) $(id).textContent = "";
 }
-function update() {
+// Shows the run of the present setting, or why there is none.
+export function update() {
   showSetting();
   remember();
   if (mode !== "study") return;
@@ -26,7 +33,7 @@ function update() {
     show(run, study.ramps.length ? ran("open") : run, ms);
   } catch (e) {
     if (!(e instanceof Refused || e instanceof Fault)) throw e;
-    refuse(refusal(e) + (e.number === 9 || e.number === 10 ? " " + t("refused.then") : ""));
+    refuse(refusal(e) + (RELEASES.includes(e.number) ? " " + t("refused.then") : ""));
   }
 }
 function show(run, open, ms) {
@@ -46,16 +53,6 @@ function show(run, open, ms) {
   $("last-says").textContent = t(closed() ? "take.works" : "take.check");
   $("last").replaceChildren(...lastLines(engine, run.record, run).flatMap((x) => [x, el("br")]));
 }
-// A file to download, made when its link is followed.
-function offer(id, make) {
-  $(id).href = "data:,";
-  $(id).addEventListener("click", () => {
-    const url = URL.createObjectURL(new Blob([make()]));
-    $(id).href = url;
-    setTimeout(() => URL.revokeObjectURL(url), 60000);
-  });
-}
-
 // Settings to try, as addresses.
 const TRIES = {
   tight: { study: "rocade", law: "fixed", rates: { 2: 630, 5: 630, 7: 630, 11: 630, 14: 630, 16: 630, 19: 630, 21: 630 } },
@@ -65,7 +62,7 @@ const TRIES = {
   weights: { study: "rocade", law: "fixed", "w-gate": 2 },
   paper: { study: "printed" },
 };
-function showTries() {
+export function showTries() {
   document.querySelector("#tries ul").replaceChildren(...Object.entries(TRIES).map(([name, { rates, ...setting }]) => {
     const p = new URLSearchParams({ lang, ...setting }), li = el("li");
     for (const [cell, rate] of Object.entries(rates ?? {})) p.set(`ramp-${cell}`, rate);
@@ -74,17 +71,6 @@ function showTries() {
   }));
 }
 
-// The address: what differs from the study's own setting, and a short record of the user's.
-const held = () => [...HELD, ...(study?.ramps ?? []).map((c) => `ramp-${c}`)].map($);
-const inLink = (bytes) => btoa(String.fromCharCode(...bytes)).replace(/\+/g, "-").replace(/\//g, "_").replace(/=+$/, "");
-// The record of a link, or a fault: a link that was cut holds fewer bytes than the record's first field says.
-function outOfLink(text) {
-  if (!/^[\w-]*$/.test(text)) throw new Fault("own.changed");
-  const bytes = bytesOf((text.length % 4 === 1 ? text.slice(0, -1) : text).replace(/-/g, "+").replace(/_/g, "/"));
-  const all = bytes.length < 4 ? Infinity : 4 + new DataView(bytes.buffer).getUint32(0);
-  if (bytes.length < all) throw all <= IN_LINK ? new Fault("own.cut", { has: say(bytes.length, 0), all: say(all, 0) }) : new Fault("own.changed");
-  return bytes;
-}
 // What a file holds that is no record. A record's first byte is 0, since it has at most 65,536 bytes; no text begins so.
 function faultOf(name, bytes) {
   const ending = /\.([a-z]+)$/.exec(name.toLowerCase())?.[1], text = bytes.length > 0 && bytes.subarray(0, 4).every((x) => x > 31 || (x > 8 && x < 14));
@@ -93,21 +79,13 @@ function faultOf(name, bytes) {
   const key = ["toml", "csv", "txt"].includes(ending) ? `file.${ending}` : "file.other";
   return new Fault(key, { name, from: quoted(name), to: quoted(name.replace(/\.[^.]*$/, "") + ".rec") });
 }
-function remember() {
-  const p = new URLSearchParams({ lang, study: $("study").value });
-  if (mode !== "study") p.set("mode", mode);
-  for (const x of held()) if (x.value !== x.dataset.start) p.set(x.id, x.value);
-  if ($("own").checked) p.set("own", "1");
-  if (own && own.length <= IN_LINK && ($("study").value === "own" || $("own").checked)) p.set("rec", inLink(own));
-  history.replaceState(null, "", "#" + p);
-}
-function readAddress() {
+export function readAddress() {
   const p = address(), wanted = p.get("lang") ?? navigator.language.slice(0, 2), key = p.get("study");
-  lang = Object.hasOwn(DATA.texts, wanted) ? wanted : "en";
+  setLanguage(Object.hasOwn(DATA.texts, wanted) ? wanted : "en");
   $("lang").value = lang;
   speak();
   showTries();
-  take(() => { if (p.has("rec")) own = outOfLink(p.get("rec")); });
+  take(() => (p.has("rec") ? outOfLink(p.get("rec")) : own));
   choose(key === "own" || (key && Object.hasOwn(DATA.studies, key)) ? key : Object.keys(DATA.studies)[0]);
   for (const x of held()) {
     if (p.has(x.id)) x.value = p.get(x.id);
@@ -116,17 +94,17 @@ function readAddress() {
   $("weights-box").open = WEIGHTS.some((id) => $(id).value !== "1");
   $("own").checked = (graded || !!p.get("own")) && !!own;
 }
-function recall() {
+export function recall() {
   readAddress();
   turn(address().get("mode") === "exercise" ? "exercise" : "study");
   document.body.dataset.ready = "";
 }
 // Removes what belongs to the other form of the page: a graded one has no key, hint, check or study.
-function keepForm() {
+export function keepForm() {
   for (const x of document.querySelectorAll(`[data-form=${graded ? "practice" : "graded"}]`)) x.remove();
 }
 function turn(to) {
-  mode = to;
+  setMode(to);
   for (const m of ["study", "exercise"]) {
     $(`view-${m}`).hidden = m !== mode;
     $(`mode-${m}`).setAttribute("aria-pressed", m === mode);
@@ -140,10 +118,10 @@ function turn(to) {
 function choose(key) {
   $("study").value = key;
   try {
-    study = key !== "own" ? opened(bytesOf(DATA.studies[key].record), DATA.studies[key]) : own ? opened(own) : {};
+    setStudy(key !== "own" ? opened(bytesOf(DATA.studies[key].record), DATA.studies[key]) : own ? opened(own) : {});
   } catch (e) {
     if (!(e instanceof Refused)) throw e;
-    study = { refused: e };
+    setStudy({ refused: e });
   }
   const set = (id, start, most) => { if (most !== undefined) $(id).max = most; $(id).value = $(id).dataset.start = start; };
   for (const id of WEIGHTS) set(id, "1");
@@ -160,14 +138,9 @@ function choose(key) {
   }));
   for (const id of ["all", ...ramps.map((c) => `ramp-${c}`)]) { $(id).min = 0; $(id).step = rate.step; set(id, rate.start, rate.most); }
 }
-// Takes a record of the user's, or keeps what is wrong with it.
-function take(given) {
-  fault = null;
-  try { given(); } catch (e) { if (!(e instanceof Fault)) throw e; own = null; fault = e; }
-}
 async function takeFile(file) {
   const bytes = new Uint8Array(await file.arrayBuffer()), wrong = faultOf(file.name, bytes);
-  take(() => { if (wrong) throw wrong; own = bytes; });
+  take(() => { if (wrong) throw wrong; return bytes; });
   for (const x of document.querySelectorAll(".choose + span")) x.textContent = fault ? "" : file.name;
   if (mode === "study") { choose("own"); update(); return; }
   $("own").checked = !fault;
@@ -183,10 +156,8 @@ $("study").append(...[...Object.keys(DATA.studies), "own"].map((key) => el("opti
 $("law").append(...LAWS.map((key) => el("option", "", { value: key })));
 $("scale").style.background = scale;
 for (const id of [...DRAWN, ...NAMED]) $(id).dataset.start = $(id).value;
-const on = (id, event, act) => $(id).addEventListener(event, act);
 on("study", "change", () => { choose($("study").value); update(); });
 on("reset", "click", () => { choose($("study").value); update(); });
-on("lang", "change", () => { lang = $("lang").value; speak(); if (graded) return showGraded(); showTries(); update(); newExercise(true); });
 for (const id of ["load", "works", "cell", "law", "gain", ...WEIGHTS]) on(id, "input", update);
 on("from", "input", () => { $("to").value = Math.max(value("to"), value("from") + 1); update(); });
 on("to", "input", () => { $("from").value = Math.min(value("from"), value("to") - 1); update(); });
@@ -195,7 +166,7 @@ on("open-box", "toggle", update);
 on("file", "change", () => { if ($("file").files[0]) takeFile($("file").files[0]); });
 for (const x of document.querySelectorAll(".choose")) x.addEventListener("click", () => $("file").click());
 on("skip", "click", () => (mode === "study" ? $("results") : $("grid").querySelector("input"))?.focus());
-for (const m of ["study", "exercise"]) on(`mode-${m}`, "click", () => { fault = null; turn(m); });
+for (const m of ["study", "exercise"]) on(`mode-${m}`, "click", () => { clearFault(); turn(m); });
 for (const x of document.querySelectorAll(".link")) x.addEventListener("click", copyLink);
 document.addEventListener("dragover", (e) => { e.preventDefault(); document.body.classList.toggle("over", !graded); });
 document.addEventListener("dragleave", (e) => { if (!e.relatedTarget) document.body.classList.remove("over"); });
@@ -205,4 +176,3 @@ offer("listing", () => listing(engine, shown.run.record, shown.table));
 offer("lanes", lanesText);
 document.addEventListener("scroll", showEdges, true);
 window.addEventListener("resize", () => { showEdges(); if (!graded) update(); });
-window.addEventListener("hashchange", () => (graded || isGraded() ? location.reload() : recall()));

@@ -1,4 +1,8 @@
 // The sheet on paper: empty for the student, or with the engine's run as the key.
+import { eachStep, given, inflowGroups, inflowNames, inflowOf, outflowGroups, placeNames, places, seeded, shapeOf, stateGroups, stateNames, stateOf, task, whole } from "./exercise.js";
+import { $, engine, on } from "./start.js";
+import { el, t, table } from "./words.js";
+
 const MOST_COLUMNS = 10;   // that fit the paper's width
 
 // A table with a row for each step. It is cut into several where the paper is too narrow: each piece has whole groups of columns.

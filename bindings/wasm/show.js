@@ -1,4 +1,9 @@
 // What the engine answers, shown: totals, who gains and who pays, pictures; and what the controls say.
+import { COLOURS, LINES, layers, lines, sample, spaceTime } from "./draw.js";
+import { $, engine, value } from "./start.js";
+import { closed, critical, hours, lanes, study, timeOf, unit, weights, when } from "./study.js";
+import { count, el, percent, say, signed, t, table } from "./words.js";
+
 const PARTS = [["gate", "gate"], ["onroad", "road"], ["atramps", "ramp"]];
 
 function legend(list, items) {
@@ -17,7 +22,7 @@ function bar(name, run, most) {
   wrong.append(piece("wrong", run.road, run.road / most > 0.15 ? say(hours(run.road), study.seconds ? 0 : 1) : ""));
   return [el("div", t("bar.total", { name: t(name), x: say(hours(run.total)), unit: unit() }), { class: "note" }), right, wrong];
 }
-function showTotals(run, open) {
+export function showTotals(run, open) {
   const most = Math.max(run.total, open.total, 1), parts = el("ul", "", { class: "legend" });
   legend(parts, [...PARTS.map(([name, key]) => [{ colour: COLOURS[key] }, t(name)]), [{ hatched: true }, t("wrong")]]);
   const columns = study.ramps.length ? 4 : 1;   // without a ramp there is nothing to compare
@@ -37,7 +42,7 @@ function showTotals(run, open) {
 }
 
 // The time spent at each ramp, and its longest queue.
-function showRamps(run, open) {
+export function showRamps(run, open) {
   const w = study.road.n + 1, longest = (cell) => Math.max(...over(study.start.queue[cell - 1], (k) => run.queue[k * w + cell]));
   $("ramps-box").hidden = !study.ramps.length;
   const head = [t("ramps.table"), t("these"), t("allopen"), t("change"), t("ramps.longest")];
@@ -48,7 +53,7 @@ function showRamps(run, open) {
 }
 
 // Who gains and who pays against open meters.
-function verdictOf(run, open) {
+export function verdictOf(run, open) {
   const seen = (x) => Math.abs(x) >= 0.05, all = hours(run.total - open.total), road = hours(run.road - open.road);
   const gains = [], pays = [];
   for (const key of ["gate", "road", "ramp"]) {
@@ -66,7 +71,7 @@ function verdictOf(run, open) {
   if (seen(road) && road < 0 && road < all) said.push(t("says.deceived", { x: say(-road), percent: percent(run.road, open.road) }));
   return said.join(" ");
 }
-function showWeighed(run, open) {
+export function showWeighed(run, open) {
   const { places, ramps } = weights(), plain = places.every((x) => x === 1) && study.ramps.every((c) => ramps[c - 1] === 1);
   $("weighed-box").hidden = plain;
   if (plain) return;
@@ -77,7 +82,7 @@ function showWeighed(run, open) {
 }
 
 // Density over place and time, on a canvas.
-function drawMap(run, canvas) {
+export function drawMap(run, canvas) {
   const { road, edges, steps, inKm } = study, n = road.n, every = edges[n] > 6 ? 2 : 1;
   const ratio = (k, i) => run.held[k * (n + 1) + i + 1] / Math.max(1, critical(i) || road.jam[i]);
   const marks = road.ramp.map((mark, i) => (mark ? `▸${i + 1} ` : "") + (i < n - 1 && road.share[i] < 1000 ? "◂" : ""));
@@ -92,7 +97,7 @@ function drawMap(run, canvas) {
 const over = (first, of) => [first / 1000, ...Array.from({ length: study.steps }, (_, k) => of(k) / 1000)];
 const digits = () => (study.seconds ? 0 : 1);
 // The queues; ramps with the same curve are one line.
-function drawQueues(run) {
+export function drawQueues(run) {
   const { start, ramps } = study, w = study.road.n + 1, alike = new Map();
   for (const cell of ramps) {
     const values = over(start.queue[cell - 1], (k) => run.queue[k * w + cell]), key = values.join();
@@ -118,14 +123,14 @@ function presence(run) {
   };
   return { ...parts, all: parts.road.map((x, k) => x + parts.gate[k] + parts.ramp[k]) };
 }
-function drawSystem(run, open) {
+export function drawSystem(run, open) {
   const here = presence(run), stack = [PARTS[1], PARTS[0], PARTS[2]].map(([name, key]) => ({ name, colour: COLOURS[key], values: here[key] }));
   layers($("system"), 230, stack, presence(open).all, timeOf(), t("axis.vehicles"), say);
   $("system").setAttribute("aria-label", t("system.alt"));
   legend($("system-legend"), [...stack.map((x) => [{ colour: x.colour }, t(x.name)]), [{ colour: "#000", dash: [6, 4] }, t("allopen")]]);
 }
 // Arrivals and departures since the start; the last point of the second is the engine's own count of exits.
-function drawCurves(run) {
+export function drawCurves(run) {
   const { road, steps } = study, width = 1 + 2 * road.n, given = engine.rows(run.record, road.n, steps), { all } = presence(run);
   let sofar = 1000 * all[0];
   const came = over(sofar, (k) => {
@@ -142,7 +147,7 @@ function drawCurves(run) {
 }
 
 // What the controls say, beside them; and which of them there are.
-function showSetting() {
+export function showSetting() {
   const set = (id, text) => { document.querySelector(`output[for="${id}"]`).textContent = text; $(id).setAttribute("aria-valuetext", text); };
   for (const id of ["cells", "steps", "w-gate", "w-first", "w-last", "w-ramp"]) set(id, $(id).value);
   set("load", `${$("load").value}\u00a0%`);

@@ -1,10 +1,16 @@
 // A study: a record with what only people need, what the controls make of it, and the engine's run of that. Units, the scaling of
 // traffic and the targets of meter laws are made here; flows, totals, releases, weights and bytes are the engine's.
-const LANES = 3, LAWS = ["record", "open", "fixed", "alinea", "demand-capacity"];
-let study = null;
+import { RATE } from "./engine.mjs";
+import { engine, value } from "./start.js";
+import { say, t } from "./words.js";
+
+const LANES = 3;
+export const LAWS = ["record", "open", "fixed", "alinea", "demand-capacity"];
+export let study = null;
+export function setStudy(to) { study = to; }
 
 // A record opened, with its step's seconds, clock time and lengths where they are known.
-function opened(record, known = {}) {
+export function opened(record, known = {}) {
   const { road, start, steps } = engine.read(record), ramps = road.ramp.flatMap((mark, i) => (mark ? [i + 1] : []));
   const seconds = road.seconds || known.seconds || 0, edges = [0];
   for (const km of known.lengths ?? new Array(road.n).fill(1)) edges.push(edges.at(-1) + km);
@@ -18,15 +24,15 @@ function opened(record, known = {}) {
 }
 
 // Part-steps in vehicle-hours, or in vehicle-steps where nobody says a step's seconds.
-const hours = (x) => (study.seconds ? x * study.seconds / 3.6e6 : x / 1000);
-const unit = () => t(study.seconds ? "unit.hours" : "unit.steps");
+export const hours = (x) => (study.seconds ? x * study.seconds / 3.6e6 : x / 1000);
+export const unit = () => t(study.seconds ? "unit.hours" : "unit.steps");
 const two = (x) => String(Math.floor(x)).padStart(2, "0");
 const clockTime = (s) => `${two(s / 3600 % 24)}:${two(s % 3600 / 60)}`;
-function when(k) {
+export function when(k) {
   if (!study.seconds) return t("when.step", { x: k });
   return study.clock === null ? t("axis.minutes", { x: say(k * study.seconds / 60, 0) }) : clockTime(study.clock + k * study.seconds);
 }
-function timeOf() {
+export function timeOf() {
   const { steps, seconds, clock } = study;
   if (!seconds) return { from: 0, to: steps, units: [1, 2, 5, 10, 20, 50, 100, 200], label: (k) => t("when.step", { x: k }) };
   if (clock === null) return { from: 0, to: steps * seconds / 60, units: [1, 2, 5, 10, 20, 30, 60, 120], label: (m) => t("axis.minutes", { x: m }) };
@@ -40,24 +46,24 @@ function rows() {
   return study.rows.map((x, j) => (arrival(j) ? Math.round(x * load / 100) : x));
 }
 // Lanes closed, or null; as a table of lanes, and as the reference's text of one.
-function closed() {
+export function closed() {
   const works = { lanes: value("works"), cell: value("cell"), from: value("from"), to: value("to") };
   return works.lanes && works.from < works.to ? works : null;
 }
-function lanes() {
+export function lanes() {
   const works = closed(), n = study.road.n, all = (1 << LANES) - 1;
   if (!works) return new Uint8Array(0);
   const table = new Uint8Array(n * (study.steps + 1)).fill(all);
   for (let k = works.from; k < works.to; k++) table[n * (k + 1) + works.cell - 1] = all >> works.lanes;
   return table;
 }
-function lanesText() {
+export function lanesText() {
   const { lanes, cell, from, to } = closed();
   const shut = Array.from({ length: lanes }, (_, i) => `closed ${LANES - i} cell ${cell} steps ${from} to ${to - 1}\n`);
   return `cells ${study.road.n}\nsteps ${study.steps}\nbuilt ${LANES}\n${shut.join("")}`;
 }
 // A cell's critical count, where its demand reaches its capacity.
-const critical = (i) => (study.road.speed[i] ? 1000 * study.road.capacity[i] / study.road.speed[i] : 0);
+export const critical = (i) => (study.road.speed[i] ? 1000 * study.road.capacity[i] / study.road.speed[i] : 0);
 function rateOf(cell) {
   const x = value(`ramp-${cell}`);
   return x >= study.rate.most ? RATE : study.seconds ? x * study.seconds / 3.6 : x;
@@ -70,7 +76,7 @@ function lawOf(law, cell) {
 }
 
 // The engine's run under a law, with its record, its states and the time spent at each ramp.
-function ran(law) {
+export function ran(law) {
   const record = engine.write(study.road, study.start, rows()), table = lanes();
   const laws = Object.fromEntries(study.ramps.map((cell) => [cell, lawOf(law, cell)]));
   const e = law === "record" ? { ...engine.run(record, table), record } : engine.fill(record, laws, table);
@@ -82,7 +88,7 @@ function ran(law) {
   return { ...e, held, queue, ramps, arrivals, arriving: arrivals.reduce((a, b) => a + b, 0) };
 }
 // Weights of the gate and each cell, the cells' between the first's and the last's; and of the ramps.
-function weights() {
+export function weights() {
   const n = study.road.n, first = value("w-first"), last = value("w-last");
   const between = (i) => Math.round(n > 1 ? first + (last - first) * i / (n - 1) : first);
   return { places: [value("w-gate"), ...study.road.ramp.map((_, i) => between(i))], ramps: study.road.ramp.map((mark) => mark * value("w-ramp")) };

@@ -1,18 +1,22 @@
 // Words and numbers as people read them, in the language chosen; texts.tsv has the words.
-let lang = "en";
+import { DATA } from "./data.mjs";
+import { $, graded } from "./start.js";
 
-const t = (key, given = {}) => (DATA.texts[lang][key] ?? key).replace(/\{(\w+)\}/g, (_, name) => given[name] ?? "");
-const say = (x, digits = 1) => x.toLocaleString(lang, { minimumFractionDigits: digits, maximumFractionDigits: digits });
-const signed = (x, digits = 1) => (Math.abs(x) < 0.5 / 10 ** digits ? "±" : x > 0 ? "+" : "−") + say(Math.abs(x), digits);
+export let lang = "en";
+export function setLanguage(to) { lang = to; }
+
+export const t = (key, given = {}) => (DATA.texts[lang][key] ?? key).replace(/\{(\w+)\}/g, (_, name) => given[name] ?? "");
+export const say = (x, digits = 1) => x.toLocaleString(lang, { minimumFractionDigits: digits, maximumFractionDigits: digits });
+export const signed = (x, digits = 1) => (Math.abs(x) < 0.5 / 10 ** digits ? "±" : x > 0 ? "+" : "−") + say(Math.abs(x), digits);
 // A number with its word: 1 cell, 2 cells; the language says which form it takes.
-function count(x, what) {
+export function count(x, what) {
   const none = `count.${what}.none`, one = new Intl.PluralRules(lang).select(x) === "one" ? ".one" : "";
   return x === 0 && Object.hasOwn(DATA.texts[lang], none) ? t(none) : t(`count.${what}${one}`, { x: say(x, 0) });
 }
-const percent = (x, from) => (from ? signed(100 * (x - from) / from) + "\u00a0%" : "");
+export const percent = (x, from) => (from ? signed(100 * (x - from) / from) + "\u00a0%" : "");
 
 // An element with its text and attributes.
-function el(tag, text = "", attributes = {}) {
+export function el(tag, text = "", attributes = {}) {
   const x = document.createElement(tag);
   x.textContent = text;
   for (const [name, given] of Object.entries(attributes)) x.setAttribute(name, given);
@@ -20,7 +24,7 @@ function el(tag, text = "", attributes = {}) {
 }
 
 // A table; a cell is a text or an element, and the first of a row its heading. groups: what columns have in common, [name, columns].
-function table(head, body, groups = []) {
+export function table(head, body, groups = []) {
   const row = (cells, tag) => {
     const tr = el("tr");
     tr.append(...cells.map((c, i) => (c instanceof Node ? c : el(i ? tag : "th", c, tag === "th" || !i ? { scope: tag === "th" ? "col" : "row" } : {}))));
@@ -49,7 +53,7 @@ function group(all, groups) {
   }
 }
 // Shows by a shadow where a table goes on beyond its edge.
-function showEdges() {
+export function showEdges() {
   for (const x of document.querySelectorAll(".wide")) {
     x.parentElement.classList.toggle("more", x.scrollLeft < x.scrollWidth - x.clientWidth - 1);
     x.parentElement.classList.toggle("less", x.scrollLeft > 1);
@@ -57,7 +61,7 @@ function showEdges() {
 }
 
 // Puts the words of the language into the page.
-function speak() {
+export function speak() {
   document.documentElement.lang = lang;
   document.title = t("page.title", { title: t(graded ? "sheet" : "title") });
   for (const x of document.querySelectorAll("[data-t]")) x.textContent = t(x.dataset.t);
@@ -68,17 +72,22 @@ function speak() {
 }
 
 // What was given in place of a record, and what to do: a key of the texts, and what it names.
-class Fault extends Error {
+export class Fault extends Error {
   constructor(key, given = {}) { super(key); Object.assign(this, { key, given }); }
 }
 
+// What a refusal means where an operation gives it: what its place is, and its words in each language.
+function meaningOf({ number, operation }) {
+  const rows = DATA.refusals.filter((row) => row.number === number);
+  return rows.find((row) => row.operations.includes(operation)) ?? rows[0];
+}
 // A refusal in words: its number, where it is, what it means; or a fault of what was given.
-function refusal(e) {
+export function refusal(e) {
   if (e instanceof Fault) return t(e.key, e.given);
-  const kind = DATA.places[e.number] ?? "none", step = kind === "step" ? e.place : e.step;
+  const { place: kind, ...words } = meaningOf(e), step = kind === "step" ? e.place : e.step;
   const where = {
     none: null, place: e.place ? "at.cell" : "at.gate", cell: "at.cell", step: "at.step",
     "step and cell": "at.both", "step and place": e.place ? "at.both" : "at.bothgate",
   }[kind];
-  return t("refused", { number: e.number, where: where ? t(where, { step, place: e.place }) : "", words: t(`refused.${e.number}`) });
+  return t("refused", { number: e.number, where: where ? t(where, { step, place: e.place }) : "", words: words[lang] });
 }

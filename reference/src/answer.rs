@@ -5,10 +5,15 @@ use crate::model::{Road, State};
 /// Number 0 without a refusal. A step or place that no rule names is 0.
 #[derive(Clone, Copy, Debug, PartialEq, Eq)]
 pub struct Answer {
+    /// The refusal's number, 0 without one.
     pub number: u32,
+    /// The refused step, counted from 0.
     pub step: usize,
+    /// The refused place: the gate (0) or a cell.
     pub place: usize,
+    /// The road.
     pub road: Road,
+    /// After the last step, or before the refused one.
     pub state: State,
 }
 

@@ -6,13 +6,21 @@ use crate::record::{u16_at, u32_at};
 /// One cell's 24 bytes.
 #[derive(Clone, Copy, Debug, Default, PartialEq, Eq)]
 pub struct CellDraft {
+    /// Free speed, in thousandths of a cell a step.
     pub v: u16,
+    /// Speed of the congestion wave, in thousandths of a cell a step.
     pub w: u16,
+    /// The share that enters the next cell, in thousandths.
     pub b: u16,
+    /// 1 with an on-ramp, 0 without.
     pub ramp: u16,
+    /// Jam count, in parts.
     pub jam: u32,
+    /// Parts a step.
     pub capacity: u32,
+    /// What it holds at the start, in parts.
     pub held: u32,
+    /// What waits at its on-ramp at the start, in parts.
     pub queue: u32,
 }
 
@@ -21,13 +29,19 @@ pub struct CellDraft {
 pub struct Draft {
     /// The first field; without it the true count of bytes after it.
     pub length: Option<u32>,
+    /// 1 or 2; any other is refused.
     pub version: u8,
     /// A step's seconds, which version 2 has.
     pub seconds: Option<u16>,
+    /// The count of cells that the record names.
     pub n: u8,
+    /// The count of steps that the record names.
     pub steps: u16,
+    /// Parts a step.
     pub gate_capacity: u32,
+    /// In parts.
     pub gate_queue: u32,
+    /// From upstream.
     pub cells: Vec<CellDraft>,
     /// Rows in the record's order, of any length.
     pub rows: Vec<Vec<u32>>,

@@ -4,17 +4,20 @@ use crate::answer::Answer;
 use crate::lanes;
 use crate::meter::{self, Law};
 use crate::model::{self, Road, State};
-use crate::record;
+use crate::record::{self, Reading};
+use crate::refusals;
 use crate::step;
 
 /// A law for every cell; those of cells without a ramp or past n are ignored.
 pub type Laws = [Law; Road::MAX_CELLS];
 
 /// What the laws remember of the last step, cell by cell; 0 before the first.
-struct Last {
-    release: [u32; Road::MAX_CELLS],
+#[derive(Clone, Copy, Debug, PartialEq, Eq)]
+pub struct Last {
+    /// What was released, in parts.
+    pub release: [u32; Road::MAX_CELLS],
     /// What entered from upstream.
-    entered: [u32; Road::MAX_CELLS],
+    pub entered: [u32; Road::MAX_CELLS],
 }
 
 /// Puts the laws' releases into the record and runs it under a table of lanes,
@@ -29,20 +32,38 @@ pub fn fill(record: &mut [u8], laws: &Laws, table: &[u8], list: &mut [u32]) -> A
     }
     let road = reading.road;
     if let Some(cell) = first_not_finite(&road, laws) {
-        return Answer::without_state(16, cell);
+        return Answer::without_state(refusals::LAW_NUMBERS, cell);
     }
     if let Some((number, place)) = lanes::table_fault(table, road.n, reading.steps) {
         return Answer::without_state(number, place);
     }
-    let width = road.n + 1;
-    if list.len() < reading.steps * width {
-        return Answer::without_state(11, 0);
+    if list.len() < reading.steps * (road.n + 1) {
+        return Answer::without_state(refusals::LIST_LENGTH, 0);
     }
-    let mut state = reading.state;
-    let mut last = Last {
-        release: [0; Road::MAX_CELLS],
-        entered: [0; Road::MAX_CELLS],
-    };
+    walk(
+        record,
+        &reading,
+        laws,
+        table,
+        (reading.state, Last::none()),
+        list,
+    )
+    .0
+}
+
+/// The steps of a record's rows, filled one after the other, from a state within its
+/// limits and what the laws remember then. The list has room for all of them.
+pub fn walk(
+    record: &mut [u8],
+    reading: &Reading,
+    laws: &Laws,
+    table: &[u8],
+    from: (State, Last),
+    list: &mut [u32],
+) -> (Answer, Last) {
+    let road = reading.road;
+    let width = road.n + 1;
+    let (mut state, mut last) = from;
     for t in 0..reading.steps {
         let mut row = record::row(record, road.n, t);
         let here = lanes::road_at(&road, table, t);
@@ -55,12 +76,12 @@ pub fn fill(record: &mut [u8], laws: &Laws, table: &[u8], list: &mut [u32]) -> A
         last.remember(&here, &state, &row, &outflows);
         state = step::advance(&here, &state, &row, &outflows);
     }
-    Answer::finished(road, state)
+    (Answer::finished(road, state), last)
 }
 
 /// Refusal 16: the lowest cell with a ramp whose law has a number that isn't
 /// finite.
-fn first_not_finite(road: &Road, laws: &Laws) -> Option<usize> {
+pub fn first_not_finite(road: &Road, laws: &Laws) -> Option<usize> {
     (1..=road.n).find(|&cell| road.ramp[cell - 1] == 1 && !laws[cell - 1].is_finite())
 }
 
@@ -81,6 +102,14 @@ fn cap(road: &Road, state: &State, row: &[u32], cell: usize) -> u32 {
 }
 
 impl Last {
+    /// Before the first step.
+    pub const fn none() -> Last {
+        Last {
+            release: [0; Road::MAX_CELLS],
+            entered: [0; Road::MAX_CELLS],
+        }
+    }
+
     /// A step's granted releases and what these outflows let in.
     fn remember(&mut self, road: &Road, before: &State, row: &[u32], outflows: &[u32]) {
         for cell in 1..=road.n {

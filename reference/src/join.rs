@@ -4,6 +4,7 @@
 
 use crate::model::Road;
 use crate::record::{self, Reading, CELL_BYTES};
+use crate::refusals;
 use crate::write::Written;
 
 /// Bytes of a gate's arrivals, which start a row.
@@ -21,7 +22,7 @@ pub fn join(upstream: &[u8], downstream: &[u8], share: u16, target: &mut [u8]) -
     }
     let joined = joined(upstream, downstream, share);
     if target.len() < joined.len() {
-        return Written::refused(15, 0);
+        return Written::refused(refusals::TARGET_LENGTH, 0);
     }
     target[..joined.len()].copy_from_slice(&joined);
     Written {
@@ -39,18 +40,18 @@ fn fault(upstream: &[u8], downstream: &[u8], share: u16) -> Option<(u32, usize)>
     }
     let [up, down] = &readings;
     if share > Road::WHOLE {
-        return Some((5, up.road.n));
+        return Some((refusals::LIMITS, up.road.n));
     }
     if !alike(up, down) {
-        return Some((20, 0));
+        return Some((refusals::ROADS_DIFFER, 0));
     }
     if !gate_is_idle(down, downstream) {
-        return Some((21, 0));
+        return Some((refusals::SECOND_GATE, 0));
     }
     let n = up.road.n + down.road.n;
     let size = record::size(up.road.version, n, up.steps);
     if n > Road::MAX_CELLS || size > Road::MAX_BYTES {
-        return Some((22, 0));
+        return Some((refusals::JOINED_SIZE, 0));
     }
     None
 }

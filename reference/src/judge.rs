@@ -3,7 +3,8 @@
 use crate::answer::Answer;
 use crate::lanes;
 use crate::model::{self, Road, State};
-use crate::record;
+use crate::record::{self, Reading};
+use crate::refusals;
 use crate::step;
 
 /// Judges a schedule, a row of outflows a step, gate first, under a table of
@@ -17,11 +18,23 @@ pub fn judge(record: &[u8], table: &[u8], schedule: &[u32]) -> Answer {
     if let Some((number, place)) = lanes::table_fault(table, road.n, reading.steps) {
         return Answer::without_state(number, place);
     }
-    let width = road.n + 1;
-    if schedule.len() != reading.steps * width {
-        return Answer::without_state(12, 0);
+    if schedule.len() != reading.steps * (road.n + 1) {
+        return Answer::without_state(refusals::SCHEDULE_LENGTH, 0);
     }
-    let mut state = reading.state;
+    walk(record, &reading, table, reading.state, schedule)
+}
+
+/// A schedule's steps, one after the other, from a state within its limits.
+pub fn walk(
+    record: &[u8],
+    reading: &Reading,
+    table: &[u8],
+    from: State,
+    schedule: &[u32],
+) -> Answer {
+    let road = reading.road;
+    let width = road.n + 1;
+    let mut state = from;
     for (t, outflows) in schedule.chunks(width).enumerate() {
         let row = record::row(record, road.n, t);
         let here = lanes::road_at(&road, table, t);
@@ -52,14 +65,14 @@ fn outflow_fault(
     for (place, &outflow) in outflows.iter().enumerate() {
         let outflow = u64::from(outflow);
         if outflow > model::demand(road, state, place) {
-            return Some((13, place));
+            return Some((refusals::OUTFLOW_ABOVE_DEMAND, place));
         }
         if place == road.n {
             continue;
         }
         let entering = model::entering(road.share(place), state.cumulative(place), outflow);
         if entering > step::room(road, state, row, place + 1) {
-            return Some((14, place));
+            return Some((refusals::ENTERING_ABOVE_ROOM, place));
         }
     }
     None

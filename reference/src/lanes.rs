@@ -5,6 +5,7 @@
 //! lanes built, cell by cell, then a row a step of lanes open. A lane is a bit.
 
 use crate::model::Road;
+use crate::refusals;
 
 /// The capacity that its open lanes leave a cell: C x open / built, rounded
 /// down; 0 where no lane is built, and the greatest number of 32 bits where more
@@ -26,11 +27,13 @@ pub fn table_fault(table: &[u8], n: usize, steps: usize) -> Option<(u32, usize)>
         return None;
     }
     if table.len() != n * (steps + 1) {
-        return Some((17, 0));
+        return Some((refusals::LANES_LENGTH, 0));
     }
     let (built, rows) = table.split_at(n);
     let bad_cell = |i: usize| rows.chunks(n).any(|open| !sound(built[i], open[i]));
-    (0..n).find(|&i| bad_cell(i)).map(|i| (18, i + 1))
+    (0..n)
+        .find(|&i| bad_cell(i))
+        .map(|i| (refusals::LANES, i + 1))
 }
 
 /// Refusal 18 in a step: the lowest cell, of n.

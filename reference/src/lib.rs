@@ -3,10 +3,10 @@
 //! It is written from the scope document and its requests alone. Clarity comes before speed.
 
 #![forbid(unsafe_code)]
+#![deny(missing_docs)]
 
 pub mod answer;
 pub mod as_text;
-pub mod compare;
 pub mod draft;
 pub mod fill;
 pub mod join;
@@ -17,8 +17,10 @@ pub mod laws;
 pub mod limits;
 pub mod load;
 pub mod longest;
+pub mod many;
 pub mod meter;
 pub mod model;
+pub mod onward;
 pub mod print;
 pub mod put;
 pub mod record;
@@ -27,7 +29,6 @@ pub mod run;
 pub mod step;
 pub mod street;
 pub mod text;
-pub mod trials;
 pub mod wanted;
 pub mod weigh;
 pub mod write;

@@ -1,6 +1,7 @@
 //! A stated load for trials: arrivals from a seed and a peak, refusal 25.
 
 use crate::model::Road;
+use crate::refusals;
 
 /// What loading answers.
 #[derive(Clone, Copy, Debug, PartialEq, Eq)]
@@ -15,7 +16,7 @@ pub struct Loaded {
 pub fn load(seed: u32, peak: u32, list: &mut [u32]) -> Loaded {
     if peak > Road::MAX_RATE {
         return Loaded {
-            number: 25,
+            number: refusals::PEAK,
             last: seed,
         };
     }

@@ -6,13 +6,15 @@
 
 use crate::answer::Answer;
 use crate::fill::{self, Laws};
-use crate::model::Road;
+use crate::model::{Road, State};
 use crate::record;
 use crate::run;
 use crate::step;
 
+/// The longest queues of a run after any step done, in parts.
 #[derive(Clone, Copy, Debug, PartialEq, Eq)]
 pub struct Queues {
+    /// Of the gate.
     pub gate: u32,
     /// The gate's without the arrivals of the step.
     pub waiting: u32,
@@ -22,9 +24,13 @@ pub struct Queues {
 
 /// The longest queues over a schedule's first steps, which it reaches.
 pub fn over_steps(record: &[u8], schedule: &[u32], steps: usize) -> Queues {
-    let reading = record::read(record);
-    let road = reading.road;
-    let mut state = reading.state;
+    over_steps_from(record, record::read(record).state, schedule, steps)
+}
+
+/// The same of a schedule that goes on from a state.
+pub fn over_steps_from(record: &[u8], from: State, schedule: &[u32], steps: usize) -> Queues {
+    let road = record::read(record).road;
+    let mut state = from;
     let mut longest = Queues {
         gate: 0,
         waiting: 0,

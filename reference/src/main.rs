@@ -11,16 +11,11 @@
 //!     reference judge RECORD SCHEDULE       a schedule's numbers judged
 //!     reference schedule < RECORD           a run's own rows as a schedule
 //!     reference fill RECORD LAWS [LANES]    the record filled by meter laws
-//!     reference compare PROGRAM RECORD...   a program's print beside its own,
-//!                                           on these and on the trials' records
-//!     reference compare --exercise PROGRAM RECORD...
-//!                                           the same of the exercise program
-//!     reference ctm-records DIR             those records and their prints
 
 use reference::answer::Answer;
 use reference::model::Road;
 use reference::record::Caller;
-use reference::{as_text, compare, fill, judge, lanes_text, laws, print, record, refusals, text};
+use reference::{as_text, fill, judge, lanes_text, laws, print, record, refusals, text};
 use std::fs::{self, File};
 use std::io::{self, Read, Write};
 use std::os::unix::fs::MetadataExt;
@@ -35,8 +30,6 @@ const USAGE: &str = "usage:
   reference judge RECORD SCHEDULE
   reference schedule < RECORD
   reference fill RECORD LAWS [LANES]
-  reference compare [--exercise] PROGRAM RECORD...
-  reference ctm-records DIR
 ";
 
 /// What is read of a record: one byte more than it may have. Whatever its other
@@ -65,13 +58,6 @@ fn main() -> ExitCode {
         ["schedule"] => convert(&[], read_record, print_schedule),
         ["fill", record, laws] => fill_files(record, laws, None).and_then(print_out),
         ["fill", record, laws, lanes] => fill_files(record, laws, Some(lanes)).and_then(print_out),
-        ["compare", "--exercise", program, ref records @ ..] => {
-            compare_program(program, Caller::EXERCISE, records)
-        }
-        ["compare", program, ref records @ ..] if program != "--exercise" => {
-            compare_program(program, Caller::FULL, records)
-        }
-        ["ctm-records", dir] => write_records(Path::new(dir)),
         _ => {
             eprint!("{USAGE}");
             return ExitCode::from(2);
@@ -140,30 +126,31 @@ fn judge_files(record: &str, schedule: &str) -> Result<(), String> {
     print_out(print::judgement_line(&answer).into_bytes())?;
     let reading = record::read(&record);
     match text::schedule_fault(told, reading.road.n, reading.steps) {
-        Some(fault) if answer.number == 12 => Err(at_line(fault)),
-        _ => passed(&answer),
+        Some(fault) if answer.number == refusals::SCHEDULE_LENGTH => Err(at_line(fault)),
+        _ => passed(&answer, "judge"),
     }
 }
 
-/// An error with the words of a refusal, where there is one.
-fn passed(answer: &Answer) -> Result<(), String> {
+/// An error with the words of a refusal, where the operation gives one.
+fn passed(answer: &Answer, operation: &str) -> Result<(), String> {
     match answer.number {
         0 => Ok(()),
-        _ => Err(in_words(answer)),
+        _ => Err(in_words(answer, operation)),
     }
 }
 
 /// A refusal's line and what it means.
-fn in_words(answer: &Answer) -> String {
+fn in_words(answer: &Answer, operation: &str) -> String {
     let line = print::refusal_line(answer);
-    format!("{}: {}", line.trim_end(), refusals::words(answer.number))
+    let words = refusals::words(answer.number, operation);
+    format!("{}: {words}", line.trim_end())
 }
 
 /// A refused run has no schedule; the refusal is an error here.
 fn print_schedule(record: &[u8]) -> Made {
     match print::printed_schedule(record) {
         Ok(text) => Ok(text.into_bytes()),
-        Err(answer) => Err(in_words(&answer)),
+        Err(answer) => Err(in_words(&answer, "run")),
     }
 }
 
@@ -172,7 +159,7 @@ fn print_schedule(record: &[u8]) -> Made {
 fn run_record(name: Option<&str>, table: &[u8]) -> Result<(), String> {
     let (printed, answer) = print::printed_with_answer(&read_record(name)?, table);
     print_out(printed.into_bytes())?;
-    passed(&answer)
+    passed(&answer, "run")
 }
 
 /// As `run_record`, within the limits of the exercise program.
@@ -180,7 +167,7 @@ fn exercise(name: Option<&str>) -> Result<(), String> {
     let record = read_record(name)?;
     let (printed, answer) = print::printed_within_with_answer(&record, Caller::EXERCISE);
     print_out(printed.into_bytes())?;
-    passed(&answer)
+    passed(&answer, "read_within")
 }
 
 /// The table of lanes of a file.
@@ -201,34 +188,11 @@ fn fill_files(name: &str, laws_name: &str, lanes: Option<&str>) -> Made {
     let mut filled = read_record(Some(name))?;
     let reading = record::read(&filled);
     let mut list = vec![0; reading.steps * (reading.road.n + 1)];
-    passed(&fill::fill(&mut filled, &laws, &table, &mut list))?;
+    passed(&fill::fill(&mut filled, &laws, &table, &mut list), "fill")?;
     for unused in laws::unused(told, &reading.road) {
         eprintln!("reference: warning: {}", at_line(unused));
     }
     Ok(filled)
-}
-
-/// Compares a caller's program on the named files and on the trials' records.
-fn compare_program(program: &str, caller: Caller, files: &[&str]) -> Result<(), String> {
-    let mut records = Vec::new();
-    for name in files {
-        let record = read_record(Some(name))?;
-        let name = name.to_string();
-        records.push(compare::Named { name, record });
-    }
-    records.extend(compare::records());
-    print_out(compare::compare(program, caller, &records)?.into_bytes())
-}
-
-/// NAME.rec and NAME.out for each of the trials' records.
-fn write_records(dir: &Path) -> Result<(), String> {
-    fs::create_dir_all(dir).map_err(|e| format!("{}: {e}", dir.display()))?;
-    for compare::Named { name, record } in compare::records() {
-        write_file(&dir.join(format!("{name}.rec")), &record)?;
-        let printed = print::printed_run(&record);
-        write_file(&dir.join(format!("{name}.out")), printed.as_bytes())?;
-    }
-    Ok(())
 }
 
 /// A record, or as much of it as shows that it is too long.

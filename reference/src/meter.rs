@@ -3,17 +3,25 @@
 /// What a ramp's meter follows.
 #[derive(Clone, Copy, Debug, PartialEq)]
 pub enum Law {
+    /// The same wish in every step.
     Fixed {
+        /// In parts a step.
         rate: f64,
     },
     /// Feedback on the held count, which stands for occupancy.
     Alinea {
+        /// The change of the release for each part below the target, a step.
         gain: f64,
+        /// What the cell is to hold, in parts.
         target: f64,
     },
+    /// Up to the critical count what is left of the capacity, above it the least rate.
     DemandCapacity {
+        /// In parts a step.
         capacity: f64,
+        /// In parts.
         critical: f64,
+        /// In parts a step.
         least: f64,
     },
 }

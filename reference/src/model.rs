@@ -12,6 +12,7 @@ pub struct Road {
     pub version: u8,
     /// A step's seconds, from version 2 on.
     pub seconds: u16,
+    /// Parts a step.
     pub gate_capacity: u32,
     /// Speed, in thousandths.
     pub v: [u16; Road::MAX_CELLS],
@@ -28,13 +29,17 @@ pub struct Road {
 }
 
 impl Road {
+    /// Most cells of a road.
     pub const MAX_CELLS: usize = 64;
+    /// Most steps of a record.
     pub const MAX_STEPS: usize = 1_440;
+    /// Most bytes of a record.
     pub const MAX_BYTES: usize = 65_536;
     /// Most numbers of a row.
     pub const MAX_ROW: usize = 1 + 2 * Road::MAX_CELLS;
     /// Bound of every rate and of a jam count.
     pub const MAX_RATE: u32 = 1_000_000;
+    /// Most that waits at the start, in parts.
     pub const MAX_START_QUEUE: u32 = 1_000_000_000;
     /// Bound of speed, wave and share, and the gate's share.
     pub const WHOLE: u16 = 1_000;
@@ -69,7 +74,9 @@ impl Road {
 /// What a record says of the time before step 0.
 #[derive(Clone, Copy, Debug, PartialEq, Eq)]
 pub struct Start {
+    /// In parts.
     pub gate_queue: u32,
+    /// What each cell holds, in parts.
     pub held: [u32; Road::MAX_CELLS],
     /// Ramp queues.
     pub queue: [u32; Road::MAX_CELLS],
@@ -83,11 +90,15 @@ pub struct State {
     /// Sums over the steps done, in part-steps: of the gate queue, of the held
     /// counts and of the ramp queues after each step.
     pub gate_time: u64,
+    /// On the road, in part-steps.
     pub road_time: u64,
+    /// At the on-ramps, in part-steps.
     pub ramp_time: u64,
+    /// In parts.
     pub gate_queue: u32,
     /// The gate's cumulative outflow.
     pub gate_f: u32,
+    /// What each cell holds, in parts.
     pub held: [u32; Road::MAX_CELLS],
     /// Ramp queues.
     pub queue: [u32; Road::MAX_CELLS],

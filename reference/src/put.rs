@@ -2,6 +2,7 @@
 
 use crate::model::Road;
 use crate::record::{self, Reading};
+use crate::refusals;
 
 /// What putting answers.
 #[derive(Clone, Copy, Debug, PartialEq, Eq)]
@@ -37,13 +38,13 @@ fn refused(reading: &Reading, step: usize, cell: usize, release: u32) -> Option<
     let on_road = (1..=reading.road.n).contains(&cell);
     if !on_road || reading.road.ramp[cell - 1] == 0 {
         return Some(Put {
-            number: 5,
+            number: refusals::LIMITS,
             place: cell,
         });
     }
     if step >= reading.steps || release > Road::MAX_RATE {
         return Some(Put {
-            number: 6,
+            number: refusals::RATES,
             place: step,
         });
     }

@@ -5,6 +5,7 @@
 
 use crate::limits;
 use crate::model::{Road, State};
+use crate::refusals;
 
 /// Bytes of a cell.
 pub const CELL_BYTES: usize = 24;
@@ -23,7 +24,9 @@ pub fn head_bytes(version: u8) -> usize {
 /// The most that a caller takes. Numbers above a record's own limits change nothing.
 #[derive(Clone, Copy, Debug, PartialEq, Eq)]
 pub struct Caller {
+    /// Most cells.
     pub cells: usize,
+    /// Most bytes.
     pub bytes: usize,
 }
 
@@ -52,6 +55,7 @@ pub struct Reading {
     pub number: u32,
     /// The lowest cell (0 for the gate) for 5, the first step for 6, else 0.
     pub place: usize,
+    /// All zero after a refusal.
     pub road: Road,
     /// T, the number of steps.
     pub steps: usize,
@@ -85,10 +89,10 @@ pub fn read_within(record: &[u8], caller: Caller) -> Reading {
     let steps = steps_of(record);
     let (road, state) = road_and_state(record, n);
     if let Some(place) = first_bad_place(&road, &state) {
-        return Reading::refused(5, place);
+        return Reading::refused(refusals::LIMITS, place);
     }
     if let Some(step) = (0..steps).find(|&t| !limits::row_fits(&road, &row(record, n, t))) {
-        return Reading::refused(6, step);
+        return Reading::refused(refusals::RATES, step);
     }
     Reading {
         number: 0,
@@ -161,26 +165,26 @@ pub fn put_row(record: &mut [u8], n: usize, step: usize, row: &[u32]) {
 fn frame_fault(record: &[u8], caller: Caller) -> Option<u32> {
     let version = version_of(record);
     if record.len() < head_bytes(version) || record.len() > Road::MAX_BYTES {
-        return Some(1);
+        return Some(refusals::LENGTH);
     }
     if u32_at(record, 0) as usize != record.len() - 4 {
-        return Some(1);
+        return Some(refusals::LENGTH);
     }
     if !version_fits(version) {
-        return Some(2);
+        return Some(refusals::VERSION);
     }
     let (n, steps) = (cells_of(record), steps_of(record));
     if !counts_fit(n, steps) {
-        return Some(3);
+        return Some(refusals::COUNTS);
     }
     if !seconds_fit(version, seconds_of(record)) {
-        return Some(19);
+        return Some(refusals::SECONDS);
     }
     if record.len() != size(version, n, steps) {
-        return Some(4);
+        return Some(refusals::SIZE);
     }
     if !caller.takes(n, record.len()) {
-        return Some(26);
+        return Some(refusals::CALLER_LIMITS);
     }
     None
 }

@@ -2,7 +2,9 @@
 
 use crate::answer::Answer;
 use crate::lanes;
-use crate::record;
+use crate::model::State;
+use crate::record::{self, Reading};
+use crate::refusals;
 use crate::step;
 
 /// Runs a record under a table of lanes and writes its outflows, a row a step,
@@ -18,11 +20,24 @@ pub fn run(record: &[u8], table: &[u8], list: &mut [u32]) -> Answer {
     if let Some((number, place)) = lanes::table_fault(table, road.n, reading.steps) {
         return Answer::without_state(number, place);
     }
-    let width = road.n + 1;
-    if list.len() < reading.steps * width {
-        return Answer::without_state(11, 0);
+    if list.len() < reading.steps * (road.n + 1) {
+        return Answer::without_state(refusals::LIST_LENGTH, 0);
     }
-    let mut state = reading.state;
+    walk(record, &reading, table, reading.state, list)
+}
+
+/// The steps of a record's rows, one after the other, from a state within its limits.
+/// The list has room for all of them.
+pub fn walk(
+    record: &[u8],
+    reading: &Reading,
+    table: &[u8],
+    from: State,
+    list: &mut [u32],
+) -> Answer {
+    let road = reading.road;
+    let width = road.n + 1;
+    let mut state = from;
     for t in 0..reading.steps {
         let row = record::row(record, road.n, t);
         let here = lanes::road_at(&road, table, t);

@@ -3,6 +3,7 @@
 use crate::lanes;
 use crate::limits;
 use crate::model::{self, Road, State};
+use crate::refusals;
 
 /// Bound of the total for each step done.
 const MAX_TOTAL_A_STEP: u64 = 200_000_000_000;
@@ -10,9 +11,11 @@ const MAX_TOTAL_A_STEP: u64 = 200_000_000_000;
 /// What stepping returns. After a refusal the state is the one given.
 #[derive(Clone, Copy, Debug, PartialEq, Eq)]
 pub struct Stepped {
+    /// The refusal's number, 0 without one.
     pub number: u32,
     /// The cell for 9, 10 and 18, else 0.
     pub place: usize,
+    /// After the step; after a refusal the state given.
     pub state: State,
 }
 
@@ -27,13 +30,13 @@ pub fn step(road: Road, state: State, row: &[u32], built: &Lanes, open: &Lanes) 
         state,
     };
     if !all_within_limits(&road, &state, row) {
-        return refused(7, 0);
+        return refused(refusals::STEP_INPUT, 0);
     }
     if let Some(cell) = lanes::step_fault(built, open, road.n) {
-        return refused(18, cell);
+        return refused(refusals::LANES, cell);
     }
     if state.steps == Road::MAX_STEPS {
-        return refused(8, 0);
+        return refused(refusals::STEPS_DONE, 0);
     }
     let road = lanes::narrowed(&road, built, open);
     if let Some((number, cell)) = release_fault(&road, &state, row) {
@@ -52,7 +55,6 @@ pub fn step(road: Road, state: State, row: &[u32], built: &Lanes, open: &Lanes) 
 fn all_within_limits(road: &Road, state: &State, row: &[u32]) -> bool {
     (1..=Road::MAX_CELLS).contains(&road.n)
         && row.len() == 1 + 2 * road.n
-        && state.steps <= Road::MAX_STEPS
         && road_fits(road)
         && limits::row_fits(road, row)
         && state_fits(road, state)
@@ -62,8 +64,11 @@ fn road_fits(road: &Road) -> bool {
     limits::gate_fits(road) && (1..=road.n).all(|cell| limits::cell_fits(road, cell))
 }
 
-/// The state's bounds after s steps.
-fn state_fits(road: &Road, state: &State) -> bool {
+/// At most 1,440 steps are done, and the state is within its bounds after s steps.
+pub fn state_fits(road: &Road, state: &State) -> bool {
+    if state.steps > Road::MAX_STEPS {
+        return false;
+    }
     let s = state.steps as u64;
     let f_bound = u64::from(Road::MAX_RATE) * s;
     limits::gate_queue_fits(state)
@@ -78,10 +83,10 @@ pub fn release_fault(road: &Road, state: &State, row: &[u32]) -> Option<(u32, us
     for cell in 1..=road.n {
         let release = model::release(row, cell);
         if release > model::waiting(state, row, cell) {
-            return Some((9, cell));
+            return Some((refusals::RELEASE_ABOVE_QUEUE, cell));
         }
         if release > model::supply(road, state, cell) {
-            return Some((10, cell));
+            return Some((refusals::RELEASE_ABOVE_SUPPLY, cell));
         }
     }
     None

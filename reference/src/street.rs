@@ -1,6 +1,7 @@
 //! Several ramps on different roads feed from one street, refusal 24.
 
 use crate::model::Road;
+use crate::refusals;
 
 /// Most ramps of a street.
 pub const MAX_RAMPS: usize = 8;
@@ -9,7 +10,7 @@ pub const MAX_RAMPS: usize = 8;
 /// the grants as lent.
 pub fn grant(limit: u32, guarantees: &[u32], wishes: &[u32], grants: &mut [u32]) -> u32 {
     if !fits(limit, guarantees, wishes, grants.len()) {
-        return 24;
+        return refusals::STREET_INPUT;
     }
     let mut remains = limit;
     // What is sure.

@@ -41,7 +41,9 @@ const THOUSANDTHS: &str = ", in thousandths";
 /// A fault in a text and the line it stands in, counted from 1.
 #[derive(Clone, Debug, PartialEq, Eq)]
 pub struct TextError {
+    /// Counted from 1.
     pub line: usize,
+    /// What is wrong there.
     pub message: String,
 }
 

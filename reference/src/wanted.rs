@@ -19,15 +19,18 @@ pub struct Asked<'a> {
     pub ceiling: u32,
     /// The greatest release in a step.
     pub rate: u32,
+    /// In parts a step.
     pub arrivals: &'a [u32],
 }
 
+/// What the search for releases came to.
 #[derive(Clone, Copy, Debug, PartialEq, Eq)]
 pub enum Wanted {
     /// Refusal 23.
     Refused,
     /// No table obeys.
     NoTable,
+    /// The table has them.
     Found,
 }
 

@@ -33,9 +33,19 @@ pub fn present(road: &Road, state: &State, weights: &Weights) -> u64 {
 /// The weighted present after each of a schedule's first steps, which it
 /// reaches.
 pub fn after_steps(record: &[u8], schedule: &[u32], steps: usize, weights: &Weights) -> Vec<u64> {
-    let reading = record::read(record);
-    let road = reading.road;
-    let mut state = reading.state;
+    after_steps_from(record, record::read(record).state, schedule, steps, weights)
+}
+
+/// The same of a schedule that goes on from a state.
+pub fn after_steps_from(
+    record: &[u8],
+    from: State,
+    schedule: &[u32],
+    steps: usize,
+    weights: &Weights,
+) -> Vec<u64> {
+    let road = record::read(record).road;
+    let mut state = from;
     let mut sums = Vec::new();
     for (t, outflows) in schedule.chunks(road.n + 1).take(steps).enumerate() {
         let row = record::row(record, road.n, t);

@@ -3,6 +3,7 @@
 use crate::limits;
 use crate::model::{Road, Start, State};
 use crate::record;
+use crate::refusals;
 
 /// What writing returns.
 #[derive(Clone, Copy, Debug, PartialEq, Eq)]
@@ -16,6 +17,7 @@ pub struct Written {
 }
 
 impl Written {
+    /// A refusal: nothing is written.
     pub fn refused(number: u32, place: usize) -> Written {
         Written {
             number,
@@ -35,7 +37,7 @@ pub fn write(road: &Road, steps: usize, start: &Start, rows: &[u32], target: &mu
     }
     let size = record::size(road.version, road.n, steps);
     if target.len() < size {
-        return Written::refused(15, 0);
+        return Written::refused(refusals::TARGET_LENGTH, 0);
     }
     target[..size].copy_from_slice(&encoded(road, steps, start, rows));
     Written {
@@ -49,28 +51,28 @@ pub fn write(road: &Road, steps: usize, start: &Start, rows: &[u32], target: &mu
 /// their limits no size can overflow. Version 1's seconds aren't looked at.
 fn fault(road: &Road, steps: usize, start: &Start, rows: &[u32]) -> Option<(u32, usize)> {
     if !record::version_fits(road.version) {
-        return Some((2, 0));
+        return Some((refusals::VERSION, 0));
     }
     if !record::counts_fit(road.n, steps) {
-        return Some((3, 0));
+        return Some((refusals::COUNTS, 0));
     }
     if !record::seconds_fit(road.version, road.seconds) {
-        return Some((19, 0));
+        return Some((refusals::SECONDS, 0));
     }
     if record::size(road.version, road.n, steps) > Road::MAX_BYTES {
-        return Some((1, 0));
+        return Some((refusals::LENGTH, 0));
     }
     let width = 1 + 2 * road.n;
     if rows.len() != steps * width {
-        return Some((4, 0));
+        return Some((refusals::SIZE, 0));
     }
     if let Some(place) = record::first_bad_place(road, &State::before(start)) {
-        return Some((5, place));
+        return Some((refusals::LIMITS, place));
     }
     let step = rows
         .chunks(width)
         .position(|row| !limits::row_fits(road, row));
-    step.map(|step| (6, step))
+    step.map(|step| (refusals::RATES, step))
 }
 
 /// The bytes of a record that no refusal meets.

@@ -1,6 +1,9 @@
 //! The proved engine, through its C boundary.
 
+mod onward;
+
 use crate::freeway::{Ended, Freeway, Laws, Row, Told};
+use nobyaluk::{lent, Refusal};
 use reference::answer::Answer;
 use reference::load::Loaded;
 use reference::longest::Queues;
@@ -8,10 +11,10 @@ use reference::model::{Road, Start, State};
 use reference::put::Put;
 use reference::record::{Caller, Reading};
 use reference::step::{Lanes, Stepped};
-use reference::trials::case::LawInput;
 use reference::wanted::{Asked, Wanted};
 use reference::weigh::Weights;
 use reference::write::Written;
+use trials::cases::case::LawInput;
 
 pub struct Engine;
 
@@ -134,16 +137,16 @@ fn longest(longest: nobyaluk::Longest) -> (Ended, Queues) {
 
 impl Freeway for Engine {
     fn read(&self, record: &[u8]) -> Reading {
-        reading_of(nobyaluk::read(record))
+        reading_of(lent::read(record).value)
     }
 
     fn read_within(&self, record: &[u8], caller: Caller) -> Reading {
         let Caller { cells, bytes } = caller;
-        reading_of(nobyaluk::read_within(record, cells, bytes))
+        reading_of(lent::read_within(record, cells, bytes).value)
     }
 
     fn run(&self, record: &[u8], lanes: &[u8], list: &mut [u32]) -> Ended {
-        ended(nobyaluk::run_into(record, lanes, list))
+        ended(lent::run(record, lanes, list).value)
     }
 
     fn run_weighted(
@@ -153,37 +156,25 @@ impl Freeway for Engine {
         weights: &Weights,
         list: &mut [u32],
     ) -> (Ended, u64) {
-        let weighed = nobyaluk::run_weighted_into(record, lanes, weights_for(weights), list);
+        let weighed = lent::run_weighted(record, lanes, weights_for(weights), list).value;
         (ended(weighed.ended), weighed.weighted)
     }
 
     fn run_longest(&self, record: &[u8], lanes: &[u8], list: &mut [u32]) -> (Ended, Queues) {
-        longest(nobyaluk::run_longest_into(record, lanes, list))
+        longest(lent::run_longest(record, lanes, list).value)
     }
 
     fn judge(&self, record: &[u8], lanes: &[u8], schedule: &[u32]) -> Ended {
-        ended(nobyaluk::judge(record, lanes, schedule))
+        ended(lent::judge(record, lanes, schedule).value)
     }
 
     fn history(&self, record: &[u8], told: Told) -> Ended {
-        ended(nobyaluk::history_into(
-            record,
-            told.lanes,
-            told.schedule,
-            told.held,
-            told.queue,
-        ))
+        ended(lent::history(record, told.lanes, told.schedule, told.held, told.queue).value)
     }
 
     fn fill(&self, record: &mut [u8], laws: &Laws, lanes: &[u8], list: &mut [u32]) -> Ended {
         let (kinds, numbers): (Vec<u8>, Vec<[f64; 3]>) = laws.iter().map(flat).unzip();
-        ended(nobyaluk::fill_kinds_into(
-            record,
-            &kinds,
-            numbers.as_flattened(),
-            lanes,
-            list,
-        ))
+        ended(lent::fill_kinds(record, &kinds, numbers.as_flattened(), lanes, list).value)
     }
 
     fn fill_longest(
@@ -194,13 +185,7 @@ impl Freeway for Engine {
         list: &mut [u32],
     ) -> (Ended, Queues) {
         let (kinds, numbers): (Vec<u8>, Vec<[f64; 3]>) = laws.iter().map(flat).unzip();
-        longest(nobyaluk::fill_kinds_longest_into(
-            record,
-            &kinds,
-            numbers.as_flattened(),
-            lanes,
-            list,
-        ))
+        longest(lent::fill_kinds_longest(record, &kinds, numbers.as_flattened(), lanes, list).value)
     }
 
     fn step(&self, road: Road, state: State, row: &[u32], built: &Lanes, open: &Lanes) -> Stepped {
@@ -208,7 +193,7 @@ impl Freeway for Engine {
             built: *built,
             usable: *open,
         };
-        let stepped = nobyaluk::step(road_for(&road), state_for(state), row, lanes);
+        let stepped = lent::step(road_for(&road), state_for(state), row, lanes).value;
         Stepped {
             number: refusal(stepped.number),
             place: stepped.place as usize,
@@ -229,21 +214,15 @@ impl Freeway for Engine {
             held: start.held,
             queue: start.queue,
         };
-        written_of(nobyaluk::write_into(
-            road_for(road),
-            steps,
-            start,
-            rows,
-            target,
-        ))
+        written_of(lent::write(road_for(road), steps, start, rows, target).value)
     }
 
     fn rows(&self, record: &[u8], n: usize, steps: usize, list: &mut [u32]) -> usize {
-        nobyaluk::rows_into(record, n, steps, list)
+        lent::rows(record, n, steps, list)
     }
 
     fn row(&self, record: &[u8], n: usize, step: usize) -> Row {
-        nobyaluk::row_numbers(record, n, step).numbers
+        lent::row(record, n, step).numbers
     }
 
     fn wish(&self, law: &LawInput, last: u32, entered: u32, held: u32) -> f64 {
@@ -320,7 +299,7 @@ impl Freeway for Engine {
     }
 
     fn load(&self, seed: u32, peak: u32, list: &mut [u32]) -> Loaded {
-        let loaded = nobyaluk::load_into(seed, peak, list);
+        let loaded = lent::load(seed, peak, list).value;
         Loaded {
             number: refusal(loaded.number),
             last: u32::try_from(loaded.last).expect("the last number has 32 bits"),
@@ -334,21 +313,22 @@ impl Freeway for Engine {
             rate,
             arrivals,
         } = asked;
-        let wanted = nobyaluk::wanted_into(start, ceiling, rate, arrivals, table);
-        match (wanted.number, wanted.found) {
-            (23, 0) => Wanted::Refused,
-            (0, 0) => Wanted::NoTable,
-            (0, 1) => Wanted::Found,
+        let wanted = lent::wanted(start, ceiling, rate, arrivals, table).value;
+        let refused = Refusal::from_number(wanted.number) == Refusal::WantedInput;
+        match (refused, wanted.number, wanted.found) {
+            (true, _, 0) => Wanted::Refused,
+            (false, 0, 0) => Wanted::NoTable,
+            (false, 0, 1) => Wanted::Found,
             other => panic!("{other:?} is no answer of a search"),
         }
     }
 
     fn grant(&self, limit: u32, guarantees: &[u32], wishes: &[u32], grants: &mut [u32]) -> u32 {
-        refusal(nobyaluk::grant_into(limit, guarantees, wishes, grants).number)
+        refusal(lent::grant(limit, guarantees, wishes, grants).value.number)
     }
 
     fn put(&self, record: &mut [u8], step: usize, cell: usize, release: u32) -> Put {
-        let released = nobyaluk::put_into(record, step, cell, release);
+        let released = lent::put(record, step, cell, release).value;
         Put {
             number: refusal(released.number),
             place: released.place as usize,
@@ -356,6 +336,6 @@ impl Freeway for Engine {
     }
 
     fn join(&self, upstream: &[u8], downstream: &[u8], share: u16, target: &mut [u8]) -> Written {
-        written_of(nobyaluk::join_into(upstream, downstream, share, target))
+        written_of(lent::join(upstream, downstream, share, target).value)
     }
 }

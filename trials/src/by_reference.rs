@@ -1,5 +1,7 @@
 //! The second implementation.
 
+mod onward;
+
 use crate::freeway::{Ended, Freeway, Laws, Row, Told};
 use reference::answer::Answer;
 use reference::join;
@@ -10,11 +12,11 @@ use reference::put::{self, Put};
 use reference::record::{self, Caller, Reading};
 use reference::step::{self, Lanes, Stepped};
 use reference::street;
-use reference::trials::case::LawInput;
 use reference::wanted::{self, Asked, Wanted};
 use reference::weigh::{self, Weights};
 use reference::write::{self, Written};
-use reference::{fill, judge, lanes, meter, print, run};
+use reference::{fill, judge, lanes, meter, print, refusals, run};
+use trials::cases::case::LawInput;
 
 pub struct Reference;
 
@@ -74,7 +76,7 @@ impl Freeway for Reference {
             return ended(answer);
         }
         if told.held.len() < size || told.queue.len() < size {
-            return ended(Answer::without_state(11, 0));
+            return ended(Answer::without_state(refusals::LIST_LENGTH, 0));
         }
         let Reading {
             road, mut state, ..

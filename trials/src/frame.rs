@@ -76,6 +76,8 @@
 //!      u64 the caller's cells, u64 the caller's bytes
 //!      u32 B, B bytes of a record
 //!
+//! 'O', 'H', 'K', 'M' and 'V' are in frame/onward.rs.
+//!
 //! road     u32 n, u32 gate capacity, 64 x (u16 v, w, b, ramp mark), 64 x (u32 J, C),
 //!          u32 version (0 to 255), u32 seconds (0 to 65,535)
 //! state    u32 steps, u64 gate time, u64 road time, u64 ramp time,
@@ -95,19 +97,21 @@
 //! and Z at most 9,000; K of 'S' at most 200; K of 'W' and L of 'T' at most
 //! 16,512; L of 'W' and 'I' at most 65,600. Those of 'D', 'Q' and 'A' are at most 9,000.
 
+pub mod onward;
+
 use reference::model::{Road, Start, State};
 use reference::step::Lanes;
-use reference::trials::case::{
+use reference::weigh::Weights;
+use trials::cases::case::{
     Case, FillInput, LawInput, LeafInput, PresentInput, StepInput, WeighInput, WriteInput,
     MAX_LANES, MAX_LIST, MAX_RECORD, MAX_ROW, MAX_ROWS, MAX_TARGET,
 };
-use reference::trials::joins::JoinInput;
-use reference::trials::loads::LoadInput;
-use reference::trials::puts::PutInput;
-use reference::trials::streets::GrantInput;
-use reference::trials::wanted_queues::WantedInput;
-use reference::trials::within::WithinInput;
-use reference::weigh::Weights;
+use trials::cases::joins::JoinInput;
+use trials::cases::loads::LoadInput;
+use trials::cases::puts::PutInput;
+use trials::cases::streets::GrantInput;
+use trials::cases::wanted_queues::WantedInput;
+use trials::cases::within::WithinInput;
 
 /// Puts the frame of a case after what is there.
 pub fn encode(case: &Case, out: &mut Vec<u8>) {
@@ -212,6 +216,8 @@ pub fn encode(case: &Case, out: &mut Vec<u8>) {
         Case::Put(input) => put_put(out, input),
         Case::Join(input) => put_join(out, input),
         Case::Within(input) => put_within(out, input),
+        Case::On(input) => onward::put_stretch(out, input),
+        Case::Many(input) => onward::put_batch(out, input),
     }
 }
 
@@ -424,6 +430,8 @@ impl<'a> Reader<'a> {
             b'E' => Ok(Case::Put(self.put()?)),
             b'I' => Ok(Case::Join(self.join()?)),
             b'B' => Ok(Case::Within(self.within()?)),
+            kind @ (b'O' | b'H' | b'K') => Ok(Case::On(Box::new(self.stretch(kind)?))),
+            kind @ (b'M' | b'V') => Ok(Case::Many(Box::new(self.batch(kind)?))),
             kind => Err(format!("{kind} is not a kind of frame")),
         }
     }

@@ -1,5 +1,6 @@
 //! The operations that both implementations have, in the reference's own types.
 
+use crate::onward::Onward;
 use reference::answer::Answer;
 use reference::load::Loaded;
 use reference::longest::Queues;
@@ -7,10 +8,10 @@ use reference::model::{Road, Start, State};
 use reference::put::Put;
 use reference::record::{Caller, Reading};
 use reference::step::{Lanes, Stepped};
-use reference::trials::case::LawInput;
 use reference::wanted::{Asked, Wanted};
 use reference::weigh::Weights;
 use reference::write::Written;
+use trials::cases::case::LawInput;
 
 /// A law for each cell.
 pub type Laws = [LawInput; Road::MAX_CELLS];
@@ -35,7 +36,7 @@ pub struct Told<'a> {
     pub queue: &'a mut [u32],
 }
 
-pub trait Freeway {
+pub trait Freeway: Onward {
     fn read(&self, record: &[u8]) -> Reading;
     fn read_within(&self, record: &[u8], caller: Caller) -> Reading;
     fn run(&self, record: &[u8], lanes: &[u8], list: &mut [u32]) -> Ended;

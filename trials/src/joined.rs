@@ -3,10 +3,10 @@
 use crate::by_engine::Engine;
 use crate::by_reference::Reference;
 use crate::freeway::{Ended, Freeway};
-use reference::join;
-use reference::trials::all_cases;
-use reference::trials::case::Case;
 use reference::write::Written;
+use reference::{join, refusals};
+use trials::cases::all_cases;
+use trials::cases::case::Case;
 
 /// Longer records are not cut.
 const MAX_BYTES: usize = 6_000;
@@ -54,7 +54,7 @@ fn comes_back(freeway: &impl Freeway, record: &[u8], cell: usize) {
     assert_eq!((&target[..size], &target[size..]), (record, &[KEPT; 5][..]));
     // One byte too few.
     let (written, target) = joined(freeway, pair, share, size - 1);
-    assert_eq!(written, Written::refused(15, 0));
+    assert_eq!(written, Written::refused(refusals::TARGET_LENGTH, 0));
     assert!(target.iter().all(|&byte| byte == KEPT));
 }
 

@@ -30,6 +30,11 @@ pub fn numbers(length: usize) -> Lent<u32> {
     Lent::new(length, |i| 4_000_000_000 + i as u32)
 }
 
+/// For the answers of many studies.
+pub fn answers(length: usize) -> Lent<u64> {
+    Lent::new(length, |i| u64::MAX - i as u64)
+}
+
 pub fn bytes(length: usize) -> Lent<u8> {
     Lent::new(length, |i| (7 * i + 3) as u8)
 }

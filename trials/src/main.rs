@@ -20,6 +20,7 @@ mod freeway;
 #[cfg(test)]
 mod joined;
 mod lent;
+mod onward;
 mod options;
 mod show;
 #[cfg(test)]
@@ -32,13 +33,13 @@ mod trial;
 mod whole;
 
 use options::{Options, USAGE};
-use reference::trials::all_cases;
-use reference::trials::case::Case;
-use reference::trials::source::Source;
 use std::fs;
 use std::path::Path;
 use std::process::ExitCode;
 use tally::Tally;
+use trials::cases::all_cases;
+use trials::cases::case::Case;
+use trials::cases::source::Source;
 
 /// Failures told in words; all are counted.
 const TOLD: u64 = 5;

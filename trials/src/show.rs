@@ -1,18 +1,20 @@
 //! A case in words, for people.
 
+pub mod onward;
+
 use reference::as_text;
 use reference::model::Road;
-use reference::trials::case::{
-    Case, FillInput, LeafInput, PresentInput, StepInput, WeighInput, WriteInput,
-};
-use reference::trials::joins::JoinInput;
-use reference::trials::loads::LoadInput;
-use reference::trials::puts::PutInput;
-use reference::trials::streets::GrantInput;
-use reference::trials::wanted_queues::WantedInput;
-use reference::trials::within::WithinInput;
 use reference::weigh::Weights;
 use std::fmt::Display;
+use trials::cases::case::{
+    Case, FillInput, LeafInput, PresentInput, StepInput, WeighInput, WriteInput,
+};
+use trials::cases::joins::JoinInput;
+use trials::cases::loads::LoadInput;
+use trials::cases::puts::PutInput;
+use trials::cases::streets::GrantInput;
+use trials::cases::wanted_queues::WantedInput;
+use trials::cases::within::WithinInput;
 
 /// The operation that a case asks for.
 pub fn kind(case: &Case) -> &'static str {
@@ -35,6 +37,8 @@ pub fn kind(case: &Case) -> &'static str {
         Case::Put(_) => "put",
         Case::Join(_) => "join",
         Case::Within(_) => "read-within",
+        Case::On(input) => input.kind(),
+        Case::Many(input) => input.kind(),
     }
 }
 
@@ -85,6 +89,8 @@ pub fn case(case: &Case) -> String {
         Case::Put(input) => put_text(input),
         Case::Join(input) => join_text(input),
         Case::Within(input) => within_text(input),
+        Case::On(input) => onward::stretch_text(input),
+        Case::Many(input) => onward::batch_text(input),
     }
 }
 

@@ -2,8 +2,8 @@
 
 use crate::show;
 use crate::trial::{self, Failure};
-use reference::trials::case::Case;
 use std::collections::BTreeMap;
+use trials::cases::case::Case;
 
 #[derive(Default)]
 pub struct Tally {

@@ -7,9 +7,9 @@ use crate::lent;
 use crate::options::Options;
 use crate::show;
 use crate::whole::{answer, Whole};
-use reference::trials::all_cases;
-use reference::trials::case::Case;
-use reference::trials::source::Source;
+use trials::cases::all_cases;
+use trials::cases::case::Case;
+use trials::cases::source::Source;
 
 fn encoded(case: &Case) -> Vec<u8> {
     let mut bytes = Vec::new();
@@ -25,7 +25,7 @@ fn samples() -> Vec<Case> {
             found.push(case);
         }
     }
-    assert_eq!(found.len(), 18);
+    assert_eq!(found.len(), 23);
     found
 }
 

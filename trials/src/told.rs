@@ -3,10 +3,10 @@
 use crate::frame;
 use crate::show;
 use crate::trial::Failure;
-use reference::trials::case::Case;
 use std::fs;
 use std::io;
 use std::path::{Path, PathBuf};
+use trials::cases::case::Case;
 
 /// Where the files go.
 const FOLDER: &str = "target/trials";

@@ -4,9 +4,9 @@ use crate::by_engine::Engine;
 use crate::by_reference::Reference;
 use crate::freeway::Freeway;
 use crate::whole::{self, Difference, Whole};
-use reference::trials::case::Case;
 use std::fmt;
 use std::panic::{self, AssertUnwindSafe};
+use trials::cases::case::Case;
 
 /// How two answers fail to be the same.
 #[derive(Debug)]

@@ -1,6 +1,8 @@
 //! The whole answer of a case: every number that is returned and every list that was
 //! lent, by name.
 
+pub mod onward;
+
 use crate::freeway::{Ended, Freeway, Told};
 use crate::lent::{self, Lent};
 use reference::load::Loaded;
@@ -8,18 +10,19 @@ use reference::longest::Queues;
 use reference::model::{Road, State};
 use reference::put::Put;
 use reference::record::Reading;
+use reference::refusals;
 use reference::step::Stepped;
-use reference::trials::case::{
-    Case, FillInput, LeafInput, PresentInput, StepInput, WeighInput, WriteInput,
-};
-use reference::trials::joins::JoinInput;
-use reference::trials::loads::LoadInput;
-use reference::trials::puts::PutInput;
-use reference::trials::streets::GrantInput;
-use reference::trials::wanted_queues::WantedInput;
 use reference::wanted::Wanted;
 use reference::write::Written;
 use std::fmt;
+use trials::cases::case::{
+    Case, FillInput, LeafInput, PresentInput, StepInput, WeighInput, WriteInput,
+};
+use trials::cases::joins::JoinInput;
+use trials::cases::loads::LoadInput;
+use trials::cases::puts::PutInput;
+use trials::cases::streets::GrantInput;
+use trials::cases::wanted_queues::WantedInput;
 
 /// A part of an answer: numbers of one name.
 #[derive(Clone, Debug, PartialEq, Eq)]
@@ -263,6 +266,8 @@ pub fn answer(freeway: &impl Freeway, case: &Case) -> Whole {
         Case::Within(input) => {
             whole.put_reading(&freeway.read_within(&input.record, input.caller()));
         }
+        Case::On(input) => onward::stretch(freeway, input, &mut whole),
+        Case::Many(input) => onward::batch(freeway, input, &mut whole),
     }
     whole
 }
@@ -343,7 +348,7 @@ fn step(freeway: &impl Freeway, input: &StepInput, whole: &mut Whole) {
     whole.put("number", [number]);
     whole.put_size("place", place);
     whole.put_state(&next);
-    if number == 7 {
+    if number == refusals::STEP_INPUT {
         return;
     }
     let cells = 0..road.n.min(Road::MAX_CELLS);

@@ -1,9 +1,32 @@
-//! The functions of the archive, as bindings/c/nobyaluk.h has them.
+//! The functions of the archive, as bindings/c/nobyaluk.h has them, and the one place where they are called.
 
 use crate::types::{
-    Ended, Granted, Lanes, Loaded, Longest, Reading, Released, Road, Row, Start, State, Stepped,
-    Wanted, Weighed, Weights, Written,
+    Ended, Filled, Granted, Lanes, Loaded, Longest, Many, Progress, Reading, Released, Road, Row,
+    Start, State, Stepped, Tallied, Wanted, Weighed, Weights, Written,
 };
+
+/// Calls a function of the boundary. A list is passed as its pointer and its length: `[list]` to be read, `[mut list]` to be written.
+macro_rules! call {
+    (@ $name:ident($($ready:expr),*)) => {
+        // SAFETY: a list is a slice that is borrowed for the whole call, and its length is passed with its pointer; one that is written is
+        // borrowed alone. Structs are passed by value, laid out as in C. The function is proved to read and write nothing else, and to return.
+        unsafe { $crate::raw::$name($($ready),*) }
+    };
+    (@ $name:ident($($ready:expr),*) [mut $list:ident] $(, $($rest:tt)*)?) => {
+        $crate::raw::call!(@ $name($($ready,)* $list.as_mut_ptr(), $list.len()) $($($rest)*)?)
+    };
+    (@ $name:ident($($ready:expr),*) [$list:ident] $(, $($rest:tt)*)?) => {
+        $crate::raw::call!(@ $name($($ready,)* $list.as_ptr(), $list.len()) $($($rest)*)?)
+    };
+    (@ $name:ident($($ready:expr),*) $value:ident $(, $($rest:tt)*)?) => {
+        $crate::raw::call!(@ $name($($ready,)* $value) $($($rest)*)?)
+    };
+    ($name:ident($($arguments:tt)*)) => {
+        $crate::raw::call!(@ $name() $($arguments)*)
+    };
+}
+pub(crate) use call;
+
 extern "C" {
     pub fn nobyaluk_version() -> u32;
     pub fn nobyaluk_read(record: *const u8, bytes: usize) -> Reading;
@@ -82,6 +105,79 @@ extern "C" {
         list: *mut u32,
         count: usize,
     ) -> Longest;
+    pub fn nobyaluk_run_on(
+        record: *const u8,
+        bytes: usize,
+        lanes: *const u8,
+        lanes_count: usize,
+        weights: Weights,
+        from: State,
+        list: *mut u32,
+        count: usize,
+    ) -> Tallied;
+    pub fn nobyaluk_judge_on(
+        record: *const u8,
+        bytes: usize,
+        lanes: *const u8,
+        lanes_count: usize,
+        from: State,
+        schedule: *const u32,
+        count: usize,
+    ) -> Ended;
+    pub fn nobyaluk_history_on(
+        record: *const u8,
+        bytes: usize,
+        lanes: *const u8,
+        lanes_count: usize,
+        from: State,
+        schedule: *const u32,
+        count: usize,
+        held: *mut u32,
+        held_count: usize,
+        queue: *mut u32,
+        queue_count: usize,
+    ) -> Ended;
+    pub fn nobyaluk_fill_on(
+        record: *mut u8,
+        bytes: usize,
+        kinds: *const u8,
+        kinds_count: usize,
+        numbers: *const f64,
+        numbers_count: usize,
+        lanes: *const u8,
+        lanes_count: usize,
+        from: Progress,
+        list: *mut u32,
+        count: usize,
+    ) -> Filled;
+    pub fn nobyaluk_run_many(
+        record: *mut u8,
+        bytes: usize,
+        lanes: *const u8,
+        lanes_count: usize,
+        arrivals: *const u32,
+        arrivals_count: usize,
+        list: *mut u32,
+        count: usize,
+        answers: *mut u64,
+        answers_count: usize,
+    ) -> Many;
+    pub fn nobyaluk_fill_many(
+        record: *mut u8,
+        bytes: usize,
+        kinds: *const u8,
+        kinds_count: usize,
+        numbers: *const f64,
+        numbers_count: usize,
+        lanes: *const u8,
+        lanes_count: usize,
+        arrivals: *const u32,
+        arrivals_count: usize,
+        list: *mut u32,
+        count: usize,
+        answers: *mut u64,
+        answers_count: usize,
+    ) -> Many;
     pub fn nobyaluk_write(
         road: Road,
         steps: usize,

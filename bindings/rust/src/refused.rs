@@ -1,180 +1,240 @@
-//! A refusal in words, and answers as results.
+//! The engine's answers as results: a refusal by its name, with the words of the operation that was called.
+use crate::refusal::{Operation, Refusal, Where, REFUSALS, ROWS};
 use crate::types::{
-    Ended, Granted, Loaded, Longest, Reading, Released, Stepped, Wanted, Weighed, Written,
+    Ended, Filled, Granted, Loaded, Longest, Many, Reading, Released, Stepped, Study, Tallied,
+    Wanted, Weighed, Written,
 };
 use std::fmt;
 
-/// The table of refusals: number, what its place is, in words, who says it.
-const TABLE: &str = include_str!(concat!(env!("OUT_DIR"), "/refusals.tsv"));
+impl Refusal {
+    /// The refusal with this number, from 1 on; [`Refusal::Unknown`] where none has it.
+    pub fn from_number(number: u64) -> Refusal {
+        let index = usize::try_from(number).ok().and_then(|n| n.checked_sub(1));
+        let named = index.and_then(|index| REFUSALS.get(index));
+        named.copied().unwrap_or(Refusal::Unknown(number))
+    }
 
-/// A refusal by its number, with what the table says its place is.
+    /// Its number in docs/MODEL.md and in the boundary.
+    ///
+    /// ```
+    /// use nobyaluk::Refusal;
+    /// assert_eq!(Refusal::ReleaseAboveQueue.number(), 9);
+    /// assert_eq!(Refusal::from_number(9), Refusal::ReleaseAboveQueue);
+    /// ```
+    pub fn number(self) -> u64 {
+        match (self, REFUSALS.iter().position(|&one| one == self)) {
+            (Refusal::Unknown(number), _) => number,
+            (_, index) => index.map_or(0, |index| index as u64 + 1),
+        }
+    }
+
+    /// What was refused, in the words of an operation; in those of the first one that gives this refusal, if that operation never does.
+    pub fn words(self, operation: Operation) -> &'static str {
+        self.meaning(operation).1
+    }
+
+    /// What its place is and its words, where an operation gives it.
+    fn meaning(self, operation: Operation) -> (Where, &'static str) {
+        let rows = || ROWS.iter().filter(|row| row.0 == self);
+        rows()
+            .find(|row| row.1.contains(&operation))
+            .or_else(|| rows().next())
+            .map_or((Where::None, "not in the table of refusals"), |row| {
+                (row.2, row.3)
+            })
+    }
+}
+
+/// A refused call: the refusal, where it is, and what was called. Its text is the same in all languages of the package.
 ///
 /// ```
+/// use nobyaluk::Refusal;
 /// let refused = nobyaluk::run(b"no record", &[]).unwrap_err();
-/// assert_eq!(refused.number, 1);
+/// assert_eq!(refused.refusal, Refusal::Length);
 /// assert!(refused.words().starts_with("fewer than 16 bytes"));
 /// ```
 #[derive(Clone, Copy, Debug, PartialEq, Eq)]
+#[non_exhaustive]
 pub struct Refused {
-    pub number: u64,
-    /// The step that was refused; none where the answer has no step, as in stepping.
+    /// Why.
+    pub refusal: Refusal,
+    /// What was called.
+    pub operation: Operation,
+    /// The step that was refused, counted from 0; none where the answer has no step, as in stepping.
     pub step: Option<u64>,
-    /// A cell, a place (0 is the gate) or, for 6, a step; 0 where none is named.
+    /// A cell counted from 1, the gate (0) or a step, as the refusal says; 0 where it names none.
     pub place: u64,
 }
 
 impl Refused {
-    /// The refusal's row of the table, from its second column on.
-    fn row(&self) -> Option<[&'static str; 2]> {
-        let rows = TABLE.lines().skip(1).map(|line| line.split('\t'));
-        rows.map(|mut columns| [columns.next(), columns.next(), columns.next()])
-            .find_map(|row| match row {
-                [Some(number), Some(place), Some(words)] => {
-                    (number.parse() == Ok(self.number)).then_some([place, words])
-                }
-                _ => None,
-            })
+    /// The refusal's number.
+    pub fn number(&self) -> u64 {
+        self.refusal.number()
     }
 
-    /// What was refused, in words.
+    /// What was refused, in the words of the operation that was called.
     pub fn words(&self) -> &'static str {
-        self.row()
-            .map_or("not in the table of refusals", |row| row[1])
+        self.refusal.words(self.operation)
     }
 }
 
 impl fmt::Display for Refused {
     fn fmt(&self, f: &mut fmt::Formatter<'_>) -> fmt::Result {
-        write!(f, "refused {}: ", self.number)?;
-        match self.row().map_or("none", |row| row[0]) {
-            "none" => {}
-            one @ ("step" | "place" | "cell") => write!(f, "{one} {}: ", self.place)?,
-            both => {
-                if let Some(step) = self.step {
-                    write!(f, "step {step}, ")?;
-                }
-                let place = both.strip_prefix("step and ").unwrap_or(both);
-                write!(f, "{place} {}: ", self.place)?;
-            }
+        let (kind, words) = self.refusal.meaning(self.operation);
+        write!(f, "refused {}: ", self.number())?;
+        if let (Where::StepAndCell | Where::StepAndPlace, Some(step)) = (kind, self.step) {
+            write!(f, "step {step}, ")?;
         }
-        f.write_str(self.words())
+        match (kind, self.place) {
+            (Where::None, _) => {}
+            (Where::Step, step) => write!(f, "step {step}: ")?,
+            (Where::List, list) => write!(f, "list {list}: ")?,
+            (Where::Place | Where::StepAndPlace, 0) => f.write_str("gate: ")?,
+            (_, cell) => write!(f, "cell {cell}: ")?,
+        }
+        f.write_str(words)
     }
 }
 
 impl std::error::Error for Refused {}
 
-/// The answer, or its refusal.
-fn result<T>(answer: T, number: u64, step: Option<u64>, place: u64) -> Result<T, Refused> {
-    if number == 0 {
-        return Ok(answer);
-    }
-    Err(Refused {
-        number,
-        step,
-        place,
-    })
+/// The engine's own answer, refused or not, with what was called.
+///
+/// ```
+/// use nobyaluk::{lent, Refusal};
+/// let record = std::fs::read("../../examples/refused-09-release-above-queue.rec")?;
+/// let answer = lent::run(&record, &[], &mut [0; 9]);
+/// assert_eq!(answer.value.state.done, 1); // the state before the refused step
+/// assert_eq!(answer.into_result().unwrap_err().refusal, Refusal::ReleaseAboveQueue);
+/// # Ok::<(), Box<dyn std::error::Error>>(())
+/// ```
+#[must_use = "it may be a refusal: `into_result`"]
+#[derive(Clone, Copy, Debug, PartialEq, Eq)]
+pub struct Answer<T> {
+    /// What was called.
+    pub operation: Operation,
+    /// What the engine answered. Its `number` is 0 where nothing was refused.
+    pub value: T,
 }
 
-impl Reading {
-    /// What was read, or the refusal.
-    pub fn ok(self) -> Result<Self, Refused> {
-        result(self, self.number, None, self.place)
+impl<T: Refusable> Answer<T> {
+    pub(crate) fn new(operation: Operation, value: T) -> Self {
+        Answer { operation, value }
     }
-}
 
-impl Ended {
-    /// The end without a refusal, or the refusal; after 9, 10, 13 and 14 the answer itself has the state before.
-    pub fn ok(self) -> Result<Self, Refused> {
-        result(self, self.number, Some(self.step), self.place)
-    }
-}
-
-impl Weighed {
-    /// The weighted run without a refusal, or the refusal.
-    pub fn ok(self) -> Result<Self, Refused> {
-        self.ended.ok().map(|_| self)
-    }
-}
-
-impl Longest {
-    /// The run with its longest queues without a refusal, or the refusal.
-    pub fn ok(self) -> Result<Self, Refused> {
-        self.ended.ok().map(|_| self)
-    }
-}
-
-impl Stepped {
-    /// The step, or the refusal; it names no step, for stepping has none.
-    pub fn ok(self) -> Result<Self, Refused> {
-        result(self, self.number, None, self.place)
+    /// The value, or the refusal.
+    pub fn into_result(self) -> Result<T, Refused> {
+        match self.value.fault() {
+            (0, ..) => Ok(self.value),
+            (number, step, place) => Err(Refused {
+                refusal: Refusal::from_number(number),
+                operation: self.operation,
+                step,
+                place,
+            }),
+        }
     }
 }
 
-impl Written {
-    /// What was written, or the refusal.
-    pub fn ok(self) -> Result<Self, Refused> {
-        result(self, self.number, None, self.place)
-    }
+/// Answers of the engine, each of which has the number of a refusal.
+pub trait Refusable: sealed::Sealed {
+    /// The refusal's number (0 for none), its step where the answer has one, and its place.
+    fn fault(&self) -> (u64, Option<u64>, u64);
 }
 
-impl Loaded {
-    /// The load, or the refusal.
-    pub fn ok(self) -> Result<Self, Refused> {
-        result(self, self.number, None, 0)
-    }
+mod sealed {
+    /// No other crate has answers of the engine.
+    pub trait Sealed {}
 }
 
-impl Wanted {
-    /// Found or none, or the refusal.
-    pub fn ok(self) -> Result<Self, Refused> {
-        result(self, self.number, None, 0)
-    }
+macro_rules! refusable {
+    ($($type:ty: $self:ident => $fault:expr;)*) => {$(
+        impl sealed::Sealed for $type {}
+        impl Refusable for $type {
+            fn fault(&$self) -> (u64, Option<u64>, u64) {
+                $fault
+            }
+        }
+    )*};
 }
 
-impl Granted {
-    /// The grants, or the refusal.
-    pub fn ok(self) -> Result<Self, Refused> {
-        result(self, self.number, None, 0)
-    }
-}
-
-impl Released {
-    /// The release put, or the refusal.
-    pub fn ok(self) -> Result<Self, Refused> {
-        result(self, self.number, None, self.place)
-    }
+refusable! {
+    Reading: self => (self.number, None, self.place);
+    Ended: self => (self.number, Some(self.step), self.place);
+    Weighed: self => self.ended.fault();
+    Longest: self => self.ended.fault();
+    Tallied: self => self.longest.fault();
+    Filled: self => self.longest.fault();
+    Stepped: self => (self.number, None, self.place);
+    Written: self => (self.number, None, self.place);
+    Loaded: self => (self.number, None, 0);
+    Wanted: self => (self.number, None, 0);
+    Granted: self => (self.number, None, 0);
+    Released: self => (self.number, None, self.place);
+    Study: self => (self.number, Some(self.step), self.place);
+    Many: self => (self.number, None, self.place);
 }
 
 #[cfg(test)]
 mod tests {
     use super::*;
 
-    #[test]
-    fn every_refusal_has_its_words_and_its_place() {
-        let said = |number, step, place| {
-            Refused {
-                number,
-                step,
-                place,
-            }
-            .to_string()
-        };
-        let numbers = TABLE.lines().skip(1).map(|line| line.split('\t').next());
-        for number in numbers.map(|number| number.unwrap().parse().unwrap()) {
-            let words = said(number, None, 0);
-            assert!(!words.contains("not in the table"), "{number}");
-            assert!(number == 6 || !words.contains("step 0"), "{words}");
+    fn told(refusal: Refusal, operation: Operation, step: Option<u64>, place: u64) -> String {
+        Refused {
+            refusal,
+            operation,
+            step,
+            place,
         }
-        assert_eq!(said(6, None, 7), "refused 6: step 7: a row's number above 1,000,000, or one other than 0 for a cell without a ramp; a step from T on");
+        .to_string()
+    }
+
+    #[test]
+    fn every_refusal_has_its_number_and_words() {
+        for (index, &refusal) in REFUSALS.iter().enumerate() {
+            let number = index as u64 + 1;
+            assert_eq!(refusal.number(), number);
+            assert_eq!(Refusal::from_number(number), refusal);
+        }
+        for &(refusal, operations, _, words) in &ROWS {
+            for &operation in operations {
+                assert_eq!(refusal.words(operation), words);
+            }
+        }
+        for number in [0, 200, u64::MAX] {
+            assert_eq!(Refusal::from_number(number), Refusal::Unknown(number));
+            assert_eq!(Refusal::Unknown(number).number(), number);
+        }
+    }
+
+    #[test]
+    fn a_message_says_where() {
+        use Operation::{Judge, Put, Read, Run, Step};
         let supply = "a release above its cell's supply";
+        let of = Refusal::ReleaseAboveSupply;
         assert_eq!(
-            said(10, Some(3), 2),
+            told(of, Run, Some(3), 2),
             format!("refused 10: step 3, cell 2: {supply}")
         );
-        assert_eq!(said(10, None, 2), format!("refused 10: cell 2: {supply}"));
-        assert_eq!(said(2, None, 0), "refused 2: a version other than 1 or 2");
         assert_eq!(
-            said(99, None, 0),
+            told(of, Step, None, 2),
+            format!("refused 10: cell 2: {supply}")
+        );
+        assert_eq!(
+            told(Refusal::EnteringAboveRoom, Judge, Some(1), 0),
+            "refused 14: step 1, gate: an outflow that lets too much into the next cell"
+        );
+        assert_eq!(
+            told(Refusal::Version, Read, None, 0),
+            "refused 2: a version other than 1 or 2"
+        );
+        let rates = "refused 6: step 7: a row's number above 1,000,000, or one other than 0 for a cell without a ramp";
+        assert_eq!(told(Refusal::Rates, Read, None, 7), rates);
+        assert!(
+            told(Refusal::Rates, Put, None, 7).starts_with("refused 6: step 7: a step from T on")
+        );
+        assert_eq!(
+            told(Refusal::Unknown(99), Run, Some(0), 0),
             "refused 99: not in the table of refusals"
         );
     }

@@ -13,19 +13,29 @@ pub const RAMPS: usize = 8;
 /// The most numbers that a table of T rows of n + 1 outflows can have.
 pub const MOST_OUTFLOWS: usize = 8_799;
 
-/// What doesn't change during a run. Cell i stands at i - 1; entries from n on belong to no cell.
+/// What does not change during a run. Cell i is at index i - 1 of each array; entries from n on belong to no cell.
 #[repr(C)]
 #[derive(Clone, Copy, Debug, PartialEq, Eq)]
 pub struct Road {
+    /// The count of cells.
     pub n: usize,
+    /// Of the record: 1 or 2.
     pub version: u8,
+    /// A step's seconds, 0 in version 1.
     pub seconds: u16,
+    /// Parts a step.
     pub gate_capacity: u32,
+    /// Free speed, in thousandths of a cell a step.
     pub speed: [u16; CELLS],
+    /// Speed of the congestion wave, in thousandths of a cell a step.
     pub wave: [u16; CELLS],
+    /// The share of the outflow that enters the next cell, in thousandths.
     pub share: [u16; CELLS],
+    /// 1 where the cell has an on-ramp, 0 otherwise.
     pub ramp: [u16; CELLS],
+    /// The most that a cell can hold, in parts.
     pub jam: [u32; CELLS],
+    /// Parts a step.
     pub capacity: [u32; CELLS],
 }
 
@@ -33,14 +43,23 @@ pub struct Road {
 #[repr(C)]
 #[derive(Clone, Copy, Debug, PartialEq, Eq)]
 pub struct State {
+    /// Steps made since the start.
     pub done: usize,
+    /// Time spent at the gate, in part-steps.
     pub gate_time: u64,
+    /// Time spent on the road, in part-steps.
     pub road_time: u64,
+    /// Time spent at the on-ramps, in part-steps.
     pub ramp_time: u64,
+    /// What waits at the gate, in parts.
     pub gate_queue: u32,
+    /// What has left the gate since step 0, in parts.
     pub gate_cumulative: u32,
+    /// What each cell holds, in parts.
     pub held: [u32; CELLS],
+    /// What waits at each cell's on-ramp, in parts.
     pub queue: [u32; CELLS],
+    /// What has left each cell since step 0, in parts.
     pub cumulative: [u32; CELLS],
 }
 
@@ -48,8 +67,11 @@ pub struct State {
 #[repr(C)]
 #[derive(Clone, Copy, Debug, PartialEq, Eq)]
 pub struct Start {
+    /// What waits at the gate, in parts.
     pub gate_queue: u32,
+    /// What each cell holds, in parts.
     pub held: [u32; CELLS],
+    /// What waits at each cell's on-ramp, in parts.
     pub queue: [u32; CELLS],
 }
 
@@ -57,7 +79,9 @@ pub struct Start {
 #[repr(C)]
 #[derive(Clone, Copy, Debug, PartialEq, Eq)]
 pub struct Lanes {
+    /// Lanes built in each cell.
     pub built: [u8; CELLS],
+    /// Lanes open in each cell.
     pub usable: [u8; CELLS],
 }
 
@@ -65,7 +89,9 @@ pub struct Lanes {
 #[repr(C)]
 #[derive(Clone, Copy, Debug, PartialEq, Eq)]
 pub struct Weights {
+    /// Of the gate and each cell.
     pub places: [u8; CELLS + 1],
+    /// Of each cell's ramp queue.
     pub ramps: [u8; CELLS],
 }
 
@@ -73,10 +99,15 @@ pub struct Weights {
 #[repr(C)]
 #[derive(Clone, Copy, Debug, PartialEq, Eq)]
 pub struct Reading {
+    /// The refusal's number, 0 without one.
     pub number: u64,
+    /// The lowest place, or the first step, that is out of its limits; 0 otherwise.
     pub place: u64,
+    /// T, the count of steps.
     pub steps: u64,
+    /// The road.
     pub road: Road,
+    /// The state before step 0.
     pub state: State,
 }
 
@@ -84,13 +115,21 @@ pub struct Reading {
 #[repr(C)]
 #[derive(Clone, Copy, Debug, PartialEq, Eq)]
 pub struct Ended {
+    /// The refusal's number, 0 without one.
     pub number: u64,
+    /// The refused step, counted from 0.
     pub step: u64,
+    /// The refused place: the gate (0) or a cell.
     pub place: u64,
+    /// The total time spent, in part-steps: gate, road and ramp time together.
     pub total: u64,
+    /// What is in the system, in parts.
     pub present: u64,
+    /// What has left the system, in parts.
     pub exits: u64,
+    /// The road.
     pub road: Road,
+    /// After the last step, or before the refused one.
     pub state: State,
 }
 
@@ -98,7 +137,9 @@ pub struct Ended {
 #[repr(C)]
 #[derive(Clone, Copy, Debug, PartialEq, Eq)]
 pub struct Weighed {
+    /// The weighted total, in part-steps.
     pub weighted: u64,
+    /// The run's answer.
     pub ended: Ended,
 }
 
@@ -108,27 +149,156 @@ pub struct Weighed {
 #[repr(C)]
 #[derive(Clone, Copy, Debug, PartialEq, Eq)]
 pub struct Longest {
+    /// The longest queue at the gate, in parts.
     pub gate: u32,
+    /// The same without the step's arrivals.
     pub waiting: u32,
+    /// The longest queue of each cell's on-ramp, in parts.
     pub ramps: [u32; 64],
+    /// The run's answer.
     pub ended: Ended,
+}
+
+/// What running answers that goes on from a state. The weighted total and the longest queues are those of the record's own steps.
+#[repr(C)]
+#[derive(Clone, Copy, Debug, PartialEq, Eq)]
+pub struct Tallied {
+    /// The weighted total, in part-steps.
+    pub weighted: u64,
+    /// The longest queues, in parts, with the run's answer.
+    pub longest: Longest,
+}
+
+/// What filling goes on from: a state and the step before it. [`Progress::start`] is that of a study's start, [`Filled::progress`] that of a further
+/// record.
+#[repr(C)]
+#[derive(Clone, Copy, Debug, PartialEq, Eq)]
+pub struct Progress {
+    /// Before the record's first step.
+    pub state: State,
+    /// What each cell's on-ramp released in the step before, in parts; 0 before step 0.
+    pub releases: [u32; CELLS],
+    /// What entered each cell from upstream in the step before, in parts; 0 before step 0. At most what the cell holds.
+    pub entries: [u32; CELLS],
+}
+
+/// What filling answers that goes on: the longest queues of the record's own steps with the answer, and the last step's releases and entries, which are
+/// 0 after a refusal.
+#[repr(C)]
+#[derive(Clone, Copy, Debug, PartialEq, Eq)]
+pub struct Filled {
+    /// The longest queues, in parts, with filling's answer.
+    pub longest: Longest,
+    /// What each cell's on-ramp released in the last step, in parts.
+    pub releases: [u32; CELLS],
+    /// What entered each cell from upstream in the last step, in parts.
+    pub entries: [u32; CELLS],
+}
+
+impl Progress {
+    /// No step was before the state.
+    pub const fn start(state: State) -> Self {
+        Self {
+            state,
+            releases: [0; CELLS],
+            entries: [0; CELLS],
+        }
+    }
+}
+
+impl Filled {
+    /// What a further record goes on from.
+    pub const fn progress(&self) -> Progress {
+        Progress {
+            state: self.longest.ended.state,
+            releases: self.releases,
+            entries: self.entries,
+        }
+    }
+}
+
+/// One study of many: running's or filling's answer without road and state, and the longest queues as in [`Longest`].
+#[repr(C)]
+#[derive(Clone, Copy, Debug, PartialEq, Eq)]
+pub struct Study {
+    /// The refusal's number, 0 without one.
+    pub number: u64,
+    /// The refused step, counted from 0.
+    pub step: u64,
+    /// The refused place: the gate (0) or a cell.
+    pub place: u64,
+    /// Time spent at the gate, in part-steps.
+    pub gate_time: u64,
+    /// Time spent on the road, in part-steps.
+    pub road_time: u64,
+    /// Time spent at the ramps, in part-steps.
+    pub ramp_time: u64,
+    /// What has left the system, in parts.
+    pub exits: u64,
+    /// The longest gate queue, in parts.
+    pub gate: u64,
+    /// The longest gate queue without the step's arrivals, in parts.
+    pub waiting: u64,
+    /// The longest queue of each cell's on-ramp, in parts; 0 past cell n.
+    pub ramps: [u64; CELLS],
+}
+
+impl Study {
+    /// How many numbers it has.
+    pub const NUMBERS: usize = size_of::<Self>() / size_of::<u64>();
+    /// All 0, for a list of studies to lend.
+    pub const EMPTY: Self = Self {
+        number: 0,
+        step: 0,
+        place: 0,
+        gate_time: 0,
+        road_time: 0,
+        ramp_time: 0,
+        exits: 0,
+        gate: 0,
+        waiting: 0,
+        ramps: [0; CELLS],
+    };
+
+    /// The numbers of a list of studies, as the boundary takes them.
+    pub(crate) fn numbers_of(studies: &mut [Self]) -> &mut [u64] {
+        let count = studies.len() * Self::NUMBERS;
+        // SAFETY: a study is `NUMBERS` numbers of 64 bits, laid out as in C without padding, so the list is `count` of them; it is borrowed alone.
+        unsafe { std::slice::from_raw_parts_mut(studies.as_mut_ptr().cast(), count) }
+    }
+}
+
+/// What many studies answer as a whole; each study's own refusal is in its [`Study`].
+#[repr(C)]
+#[derive(Clone, Copy, Debug, PartialEq, Eq)]
+pub struct Many {
+    /// The refusal's number, 0 without one.
+    pub number: u64,
+    /// The list that does not fit: 1 for the arrivals, 2 for the studies; a refusal of reading has its own place.
+    pub place: u64,
 }
 
 /// What stepping answers; after a refusal the state is the one given.
 #[repr(C)]
 #[derive(Clone, Copy, Debug, PartialEq, Eq)]
 pub struct Stepped {
+    /// The refusal's number, 0 without one.
     pub number: u64,
+    /// The refused cell.
     pub place: u64,
+    /// After the step.
     pub state: State,
 }
 
-/// What writing answers: the count of bytes, 0 after a refusal.
+/// What writing and joining answer; after a refusal the count of bytes is 0.
 #[repr(C)]
 #[derive(Clone, Copy, Debug, PartialEq, Eq)]
 pub struct Written {
+    /// The refusal's number, 0 without one.
     pub number: u64,
+    /// The lowest place, or the first step, that is out of its limits; 0 otherwise.
     pub place: u64,
+    /// Bytes written.
     pub count: u64,
 }
 
@@ -136,15 +306,19 @@ pub struct Written {
 #[repr(C)]
 #[derive(Clone, Copy, Debug, PartialEq, Eq)]
 pub struct Loaded {
+    /// The refusal's number, 0 without one.
     pub number: u64,
+    /// The last number of the generator.
     pub last: u64,
 }
 
-/// What the search for releases answers; found is 1 or 0, and 0 with number 0 where no table keeps the queue.
+/// What the search for releases answers.
 #[repr(C)]
 #[derive(Clone, Copy, Debug, PartialEq, Eq)]
 pub struct Wanted {
+    /// The refusal's number, 0 without one.
     pub number: u64,
+    /// 1 where a table keeps the queue, 0 otherwise.
     pub found: u64,
 }
 
@@ -152,7 +326,9 @@ pub struct Wanted {
 #[repr(C)]
 #[derive(Clone, Copy, Debug, PartialEq, Eq)]
 pub struct Released {
+    /// The refusal's number, 0 without one.
     pub number: u64,
+    /// The refused cell or step.
     pub place: u64,
 }
 
@@ -160,6 +336,7 @@ pub struct Released {
 #[repr(C)]
 #[derive(Clone, Copy, Debug, PartialEq, Eq)]
 pub struct Row {
+    /// In parts a step.
     pub numbers: [u32; 1 + 2 * CELLS],
 }
 
@@ -167,6 +344,7 @@ pub struct Row {
 #[repr(transparent)]
 #[derive(Clone, Copy, Debug, PartialEq, Eq)]
 pub struct Granted {
+    /// The refusal's number, 0 without one.
     pub number: u64,
 }
 
@@ -220,7 +398,7 @@ impl Start {
 }
 
 impl Lanes {
-    /// One lane in every cell, and it is open: each capacity as it stands.
+    /// One lane in every cell, and it is open: each capacity is the road's.
     pub const OPEN: Lanes = Lanes {
         built: [1; CELLS],
         usable: [1; CELLS],
@@ -239,13 +417,24 @@ impl Weights {
 #[derive(Clone, Copy, Debug, PartialEq)]
 pub enum Law {
     /// The same wish in every step.
-    Fixed { rate: f64 },
+    Fixed {
+        /// In parts a step.
+        rate: f64,
+    },
     /// Feedback on what the cell holds.
-    Alinea { gain: f64, target: f64 },
+    Alinea {
+        /// The change of the release for each part below the target, a step.
+        gain: f64,
+        /// What the cell is to hold, in parts.
+        target: f64,
+    },
     /// Capacity less what entered, up to a critical count; above it the least rate.
     DemandCapacity {
+        /// In parts a step.
         capacity: f64,
+        /// The count above which the least rate applies, in parts.
         critical: f64,
+        /// In parts a step.
         least: f64,
     },
 }

@@ -1,5 +1,5 @@
 //! Every example through the safe calls. `trials/` holds the same calls to the reference.
-use nobyaluk::{join, judge, put_wanted, read, read_within, run, version, Run, VERSION};
+use nobyaluk::{join, judge, lent, put_wanted, run, version, Refusal, Run, VERSION};
 use std::collections::BTreeMap;
 use std::fs;
 use std::path::PathBuf;
@@ -25,12 +25,8 @@ fn a_run_s_own_rows_are_accepted_and_its_total_counts_everyone() {
             assert!(name.starts_with("refused-"), "{name}");
             continue;
         };
-        let judged = judge(&record, &[], &whole.outflow);
-        assert_eq!(
-            (judged.number, judged.total),
-            (0, whole.ended.total),
-            "{name}"
-        );
+        let judged = judge(&record, &[], &whole.outflow).unwrap();
+        assert_eq!(judged.total, whole.ended.total, "{name}");
         let waits = whole.held.iter().chain(&whole.queue).map(|&x| u64::from(x));
         assert_eq!(waits.sum::<u64>(), whole.ended.total, "{name}");
     }
@@ -46,7 +42,7 @@ fn a_refused_example_is_named_by_its_number() {
     for (name, record) in examples() {
         if let Some(rest) = name.strip_prefix("refused-") {
             let number: u64 = rest[..2].parse().unwrap();
-            assert_eq!(run(&record, &[]).unwrap_err().number, number, "{name}");
+            assert_eq!(run(&record, &[]).unwrap_err().number(), number, "{name}");
         }
     }
 }
@@ -60,8 +56,8 @@ fn a_town_s_ceiling_on_rocade_sud() {
     assert_eq!(
         put_wanted(&mut record, 15, 50_000, 3_750)
             .unwrap_err()
-            .number,
-        5
+            .refusal,
+        Refusal::Limits
     );
     assert!(record == records["rocade-sud-alinea"]);
     let table = put_wanted(&mut record, 16, 50_000, 3_750).unwrap().unwrap();
@@ -114,21 +110,37 @@ fn first_held_back(run: &Run, cell: usize) -> Option<usize> {
 }
 
 #[test]
-fn a_caller_s_limits_refuse_by_26_and_change_nothing_else() {
+fn a_caller_s_limits_refuse_larger_records_and_change_nothing_else() {
+    const EARLY: [Refusal; 5] = [
+        Refusal::Length,
+        Refusal::Version,
+        Refusal::Counts,
+        Refusal::Seconds,
+        Refusal::Size,
+    ];
     for (name, record) in examples() {
-        let (full, within) = (read(&record), read_within(&record, 8, 4096));
-        let early = [1, 2, 3, 19, 4].contains(&full.number);
+        let within = |cells, bytes| lent::read_within(&record, cells, bytes);
+        let over = |cells, bytes| {
+            let refused = within(cells, bytes).into_result().unwrap_err();
+            assert_eq!(
+                (refused.refusal, refused.place),
+                (Refusal::CallerLimits, 0),
+                "{name}"
+            );
+        };
+        let full = lent::read(&record).value;
+        let early = EARLY.contains(&Refusal::from_number(full.number));
         if !early && (record[5] > 8 || record.len() > 4096) {
-            assert_eq!((within.number, within.place), (26, 0), "{name}");
+            over(8, 4096);
         } else {
-            assert_eq!(within, full, "{name}");
+            assert_eq!(within(8, 4096).value, full, "{name}");
         }
         let (cells, bytes) = (usize::from(record[5]), record.len());
-        assert_eq!(read_within(&record, cells, bytes), full, "{name}");
-        assert_eq!(read_within(&record, usize::MAX, usize::MAX), full, "{name}");
+        assert_eq!(within(cells, bytes).value, full, "{name}");
+        assert_eq!(within(usize::MAX, usize::MAX).value, full, "{name}");
         if !early {
-            assert_eq!(read_within(&record, cells - 1, bytes).number, 26, "{name}");
-            assert_eq!(read_within(&record, cells, bytes - 1).number, 26, "{name}");
+            over(cells - 1, bytes);
+            over(cells, bytes - 1);
         }
     }
 }

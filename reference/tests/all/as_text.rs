@@ -2,9 +2,9 @@
 
 use crate::support::*;
 use reference::as_text::text_of;
-use reference::compare;
 use reference::draft::Draft;
 use reference::record::read;
+use trials::compare;
 
 /// Makes a record, tells it, and gives the text without its comments.
 fn told(record: &[u8]) -> String {

@@ -1,9 +1,9 @@
 //! The records on which a program is compared, and what is said of it.
 
-use reference::compare::{compare, difference, records, Named};
 use reference::print::{printed_run, printed_within};
 use reference::record::{read, Caller};
 use std::collections::BTreeSet;
+use trials::compare::{compare, difference, records, Named};
 
 #[test]
 fn records_have_every_refusal_line_the_longest_runs_and_all_sizes() {

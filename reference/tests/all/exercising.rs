@@ -1,10 +1,10 @@
 //! Reading and printing for a caller with its own limits, refusal 26.
 
 use crate::support::*;
-use reference::compare::{compare, records, Named};
 use reference::draft::{CellDraft, Draft};
 use reference::print::{printed_run, printed_within};
 use reference::record::{read, read_within, Caller, Reading};
+use trials::compare::{compare, records, Named};
 
 /// Number and place.
 fn verdict_within(record: &[u8], cells: usize, bytes: usize) -> (u32, usize) {

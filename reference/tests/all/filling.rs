@@ -7,8 +7,8 @@ use reference::meter::{release, Law};
 use reference::model::Road;
 use reference::record::{read, row, size};
 use reference::run::run as run_under;
-use reference::trials::all_cases;
-use reference::trials::case::Case;
+use trials::cases::all_cases;
+use trials::cases::case::Case;
 
 const fn fixed(rate: f64) -> Law {
     Law::Fixed { rate }

@@ -4,9 +4,9 @@ use crate::support::*;
 use reference::draft::{CellDraft, Draft};
 use reference::join::{cut, join};
 use reference::record::{read, size};
-use reference::trials::all_cases;
-use reference::trials::case::Case;
 use reference::write::Written;
+use trials::cases::all_cases;
+use trials::cases::case::Case;
 
 /// A byte of a target that nobody wrote.
 const KEPT: u8 = 0xA5;

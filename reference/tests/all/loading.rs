@@ -6,7 +6,7 @@ use reference::fill;
 use reference::load::{arrival_of, load, next, Loaded};
 use reference::meter::Law;
 use reference::model::Road;
-use reference::trials::dice::Dice;
+use trials::cases::dice::Dice;
 
 fn loaded(seed: u32, peak: u32, count: usize) -> (Loaded, Vec<u32>) {
     let mut list = vec![LENT; count];
@@ -103,7 +103,7 @@ fn a_list_goes_on_where_another_stopped() {
     }
 }
 
-/// The road of docs/LOAD.md, cell by cell.
+/// The road of docs/SPEED.md, cell by cell.
 fn stated_cell(i: usize, n: usize) -> CellDraft {
     let ramp = u16::from(i % 3 == 2);
     CellDraft {
@@ -125,7 +125,7 @@ fn stated_cell(i: usize, n: usize) -> CellDraft {
     }
 }
 
-/// The record that docs/LOAD.md makes from seed 0, peak 40,000, n 6 and T 30.
+/// The record that docs/SPEED.md makes from seed 0, peak 40,000, n 6 and T 30.
 #[test]
 fn the_example_of_the_stated_load() {
     let (n, steps) = (6, 30);

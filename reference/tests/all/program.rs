@@ -228,8 +228,8 @@ fn an_exercise_of_a_file() {
     assert!(said(&refused).starts_with("reference: refused 26 0 0: "));
     for wrong in [
         &["exercise", "road.rec", "more"][..],
-        &["compare", "--exercise"],
-        &["compare"],
+        &["compare", "road.rec"],
+        &["exercises"],
     ] {
         assert_eq!(folder.reference(wrong).status.code(), Some(2));
     }

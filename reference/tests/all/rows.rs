@@ -1,8 +1,8 @@
 //! All rows of a record in one list.
 
 use crate::support::*;
-use reference::compare;
 use reference::record::{read, row, rows};
+use trials::compare;
 
 /// The count, and a lent list of this length as it is left.
 fn listed(bytes: &[u8], n: usize, steps: usize, length: usize) -> (usize, Vec<u32>) {

@@ -5,7 +5,7 @@ use reference::draft::{CellDraft, Draft};
 use reference::put::{put, Put};
 use reference::record::{read, row};
 use reference::street::grant;
-use reference::trials::dice::Dice;
+use trials::cases::dice::Dice;
 
 /// The grants; none after refusal 24, which leaves the list as lent.
 fn granted(limit: u32, guarantees: &[u32], wishes: &[u32], length: usize) -> Option<Vec<u32>> {

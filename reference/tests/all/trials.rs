@@ -1,5 +1,6 @@
 //! The trials: what the cases hold.
 
+use crate::further_trials::{batch_numbers, stretch_number};
 use crate::support::*;
 use reference::join::join;
 use reference::print::printed_schedule;
@@ -7,13 +8,13 @@ use reference::put::put;
 use reference::record::{read, read_within};
 use reference::street::grant;
 use reference::text::schedule_of;
-use reference::trials::all_cases;
-use reference::trials::case::Case;
-use reference::trials::source::Source;
 use reference::wanted::{wanted, Wanted};
 use reference::{fill, judge, load, run, step, weigh, write};
 use std::collections::BTreeSet;
 use std::sync::OnceLock;
+use trials::cases::all_cases;
+use trials::cases::case::Case;
+use trials::cases::source::Source;
 
 /// All cases, made once for all tests.
 fn made() -> &'static [Case] {
@@ -21,9 +22,18 @@ fn made() -> &'static [Case] {
     MADE.get_or_init(all_cases)
 }
 
+/// An operation and the number that it answers.
+type Answered = (&'static str, u32);
+
+/// The answers to all cases, worked out once for all tests.
+fn answers() -> &'static [Answered] {
+    static ANSWERS: OnceLock<Vec<Answered>> = OnceLock::new();
+    ANSWERS.get_or_init(|| made().iter().map(answered).collect())
+}
+
 /// A case's operation and the number that it answers, 0 for one that refuses
 /// nothing.
-fn answered(case: &Case) -> (&'static str, u32) {
+fn answered(case: &Case) -> Answered {
     match case {
         Case::Read { record } => ("read", read(record).number),
         Case::Run {
@@ -87,37 +97,39 @@ fn answered(case: &Case) -> (&'static str, u32) {
             ("join", written.number)
         }
         Case::Within(x) => ("read within", read_within(&x.record, x.caller()).number),
+        Case::On(x) => (x.kind(), stretch_number(x)),
+        Case::Many(x) => (x.kind(), batch_numbers(x).0),
     }
 }
 
-/// How often each operation answers each number.
-fn count(cases: &[Case], kind: &str, number: Option<u32>) -> usize {
-    let answers = cases.iter().map(answered);
-    answers
-        .filter(|&(k, x)| k == kind && number.is_none_or(|number| x == number))
-        .count()
+/// How often an operation answers a number, or any.
+fn count(answers: &[Answered], kind: &str, number: Option<u32>) -> usize {
+    let found = |&&(k, x): &&Answered| k == kind && number.is_none_or(|number| x == number);
+    answers.iter().filter(found).count()
 }
 
 /// Where group 4 starts: at the first run right after a step.
-fn roads(cases: &[Case]) -> &[Case] {
+fn first_road(cases: &[Case]) -> usize {
     let last = cases
         .windows(2)
         .position(|pair| matches!(pair[0], Case::Step(_)) && matches!(pair[1], Case::Run { .. }));
-    &cases[last.unwrap() + 1..]
+    last.unwrap() + 1
 }
 
 #[test]
 fn the_first_cases_are_those_of_the_printed_run() {
-    let answers: Vec<_> = made()[..10].iter().map(answered).collect();
     let runs = [("run", 0), ("run", 11), ("run", 11), ("run", 0)];
     let judged = [0, 14, 0, 12, 12].map(|number| ("judge", number));
-    assert_eq!(answers, [&[("read", 0)][..], &runs, &judged].concat());
+    assert_eq!(
+        answers()[..10],
+        [&[("read", 0)][..], &runs, &judged].concat()
+    );
 }
 
 #[test]
 fn there_are_enough_cases_of_each_kind() {
-    let cases = made();
-    assert_eq!(cases.len(), 14_611);
+    let (cases, all) = (made(), answers());
+    assert_eq!(cases.len(), 17_356);
     for (kind, least) in [
         ("read", 400),
         ("step", 400),
@@ -135,14 +147,19 @@ fn there_are_enough_cases_of_each_kind() {
         ("put", 500),
         ("join", 700),
         ("read within", 1_500),
+        ("run-on", 700),
+        ("fill-on", 700),
+        ("judge-on", 700),
+        ("run-many", 250),
+        ("fill-many", 250),
     ] {
-        assert!(count(cases, kind, None) >= least, "{kind}");
+        assert!(count(all, kind, None) >= least, "{kind}");
     }
     for (kind, least) in [("step", 200), ("write", 150), ("fill", 400)] {
-        assert!(count(cases, kind, Some(0)) >= least, "{kind}");
+        assert!(count(all, kind, Some(0)) >= least, "{kind}");
     }
     // From the random roads on.
-    let roads = roads(cases);
+    let roads = &all[first_road(cases)..];
     assert!(count(roads, "run", None) >= 400 && count(roads, "judge", None) >= 120);
     for (kind, number, least) in [
         ("run", 9, 10),
@@ -157,16 +174,13 @@ fn there_are_enough_cases_of_each_kind() {
 }
 
 /// The numbers that an operation answers.
-fn numbers(cases: &[Case], kind: &str) -> BTreeSet<u32> {
-    let answers = cases.iter().map(answered);
-    answers
-        .filter(|&(k, _)| k == kind)
-        .map(|(_, x)| x)
-        .collect()
+fn numbers(answers: &[Answered], kind: &str) -> BTreeSet<u32> {
+    let of_kind = answers.iter().filter(|(k, _)| *k == kind);
+    of_kind.map(|&(_, x)| x).collect()
 }
 
-fn every_refusal_occurs(cases: &[Case]) {
-    let found = |kind| numbers(cases, kind);
+fn every_refusal_occurs(answers: &[Answered]) {
+    let found = |kind| numbers(answers, kind);
     assert_eq!(found("read"), (0..=6).chain([19]).collect());
     let run = (0..=6).chain(9..=11).chain(17..=19).collect();
     assert_eq!(found("run"), run);
@@ -189,20 +203,33 @@ fn every_refusal_occurs(cases: &[Case]) {
     assert_eq!(found("join"), join);
     let within = (0..=6).chain([19, 26]).collect();
     assert_eq!(found("read within"), within);
+    let on = (0..=11).chain(17..=19).collect();
+    assert_eq!(found("run-on"), on);
+    let on = (0..=8).chain([11]).chain(16..=19).collect();
+    assert_eq!(found("fill-on"), on);
+    let on = (0..=10).chain(12..=14).chain(17..=19).collect();
+    assert_eq!(found("judge-on"), on);
+    let many: BTreeSet<u32> = (0..=6).chain([19, 27]).collect();
+    assert_eq!(
+        [found("run-many"), found("fill-many")],
+        [many.clone(), many]
+    );
 }
 
 #[test]
 fn every_refusal_of_every_operation_occurs() {
-    every_refusal_occurs(made());
+    every_refusal_occurs(answers());
 }
 
 #[test]
 fn a_source_has_every_refusal_and_every_kind() {
     let source = Source::new(1);
-    let cases: Vec<Case> = (0..20_000).map(|number| source.case(number)).collect();
-    every_refusal_occurs(&cases);
-    let kinds = |cases: &[Case]| cases.iter().map(|case| answered(case).0).collect();
-    let (found, wanted): (BTreeSet<&str>, BTreeSet<&str>) = (kinds(&cases), kinds(made()));
+    let of_source: Vec<Answered> = (0..20_000)
+        .map(|number| answered(&source.case(number)))
+        .collect();
+    every_refusal_occurs(&of_source);
+    let kinds = |answers: &[Answered]| answers.iter().map(|&(kind, _)| kind).collect();
+    let (found, wanted): (BTreeSet<&str>, BTreeSet<&str>) = (kinds(&of_source), kinds(answers()));
     assert_eq!(found, wanted);
 }
 
@@ -230,7 +257,7 @@ fn joins_are_at_every_bound() {
         assert!(joined.iter().filter(found).count() > 3, "{version} {n}");
     }
     for (number, least) in [(0, 250), (5, 60), (15, 30), (20, 60), (21, 40), (22, 25)] {
-        let found = count(made(), "join", Some(number));
+        let found = count(answers(), "join", Some(number));
         assert!(found >= least, "{number}: {found}");
     }
 }
@@ -239,7 +266,7 @@ fn joins_are_at_every_bound() {
 fn random_roads_have_every_n_and_the_longest_table() {
     let mut sizes = BTreeSet::new();
     let mut longest = 0;
-    for case in roads(made()) {
+    for case in &made()[first_road(made())..] {
         let Case::Run { length, record, .. } = case else {
             continue;
         };

@@ -7,9 +7,9 @@ use reference::meter::Law;
 use reference::print::printed_run;
 use reference::record::{read, row_numbers, size};
 use reference::step::step as step_under;
-use reference::trials::all_cases;
-use reference::trials::case::Case;
 use reference::write::write;
+use trials::cases::all_cases;
+use trials::cases::case::Case;
 
 fn timed(seconds: u16) -> Draft {
     example_draft().timed(seconds)

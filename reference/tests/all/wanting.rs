@@ -2,10 +2,10 @@
 
 use crate::support::*;
 use reference::draft::{CellDraft, Draft};
-use reference::trials::dice::Dice;
 use reference::wanted::{
     are_few, obeys, running_sums, searched, wanted, worked_out, Asked, Wanted,
 };
+use trials::cases::dice::Dice;
 
 fn asked(numbers: [u32; 3], arrivals: &[u32]) -> Asked<'_> {
     let [start, ceiling, rate] = numbers;

@@ -10,9 +10,9 @@ use reference::longest;
 use reference::model::{Road, State};
 use reference::record::{head_bytes, read, version_of};
 use reference::run::run as run_under;
-use reference::trials::all_cases;
-use reference::trials::case::Case;
 use reference::weigh::{self, after_steps, Weights};
+use trials::cases::all_cases;
+use trials::cases::case::Case;
 
 /// The weights of gate, cell 1 and cell 2 and of their ramps, and 255 past them.
 fn weights(places: [u8; 3], ramps: [u8; 2]) -> Weights {

@@ -1,10 +1,10 @@
 //! Writing a record, reading it back, and the numbers of rows.
 
 use crate::support::*;
-use reference::compare;
 use reference::model::{Road, Start};
 use reference::record::{read, row, row_numbers, size};
 use reference::write::{write, Written};
+use trials::compare;
 
 /// A byte that no small record ends with.
 const SPARE: u8 = 0xA5;

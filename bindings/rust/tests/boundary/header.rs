@@ -61,7 +61,9 @@ pub fn declarations(header: &str) -> Vec<Declaration> {
     let code = without_preprocessor(&without_comments(header));
     let mut found = vec![];
     for statement in statements(&code) {
-        if let Some(constants) = statement.strip_prefix("enum {") {
+        if let (true, Some((_, constants))) =
+            (statement.starts_with("enum "), statement.split_once('{'))
+        {
             let constants = constants.trim_end_matches('}').split(',').map(str::trim);
             found.extend(
                 constants

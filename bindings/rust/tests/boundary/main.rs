@@ -3,8 +3,8 @@ mod header;
 
 use header::{declarations, Declaration};
 use nobyaluk::{
-    Ended, Lanes, Loaded, Longest, Reading, Released, Road, Row, Start, State, Stepped, Wanted,
-    Weighed, Weights, Written,
+    Ended, Filled, Lanes, Loaded, Longest, Many, Progress, Reading, Released, Road, Row, Start,
+    State, Stepped, Study, Tallied, Wanted, Weighed, Weights, Written,
 };
 use std::fs;
 use std::io::Write;
@@ -19,7 +19,7 @@ const RAW: &str = include_str!("../../src/raw.rs");
 
 const CHANGED: &str = "A caller that was built before would misread the library. Raise the number: NOBYALUK_VERSION in bindings/c/nobyaluk.h, \
 VERSION in crates/exports/src/lib.rt with boundaryVersion in its specs, VERSION in bindings/rust/src/types.rs and in \
-bindings/python/nobyaluk/engine.py. Then add the header's lines, under the new number, to bindings/c/versions.tsv; this test prints them.";
+bindings/python/nobyaluk/library.py. Then add the header's lines, under the new number, to bindings/c/versions.tsv; this test prints them.";
 
 const NEW: &str = "The header has declarations that bindings/c/versions.tsv has not under this number. One more leaves callers as they are; \
 add:";
@@ -93,6 +93,7 @@ fn a_change_needs_a_new_number() {
             "NOBYALUK_ALINEA = 3",
             "NOBYALUK_ALINEA",
         ),
+        ("= 25,", "= 35,", "NOBYALUK_REFUSAL_PEAK"),
     ] {
         let said = changed(from, to);
         let start = format!("{name} is not what it was under number");
@@ -149,11 +150,16 @@ fn rust_layout() -> Vec<String> {
         layout!("nobyaluk_ended", Ended, number step place total present exits road state),
         layout!("nobyaluk_weighed", Weighed, weighted ended),
         layout!("nobyaluk_longest", Longest, gate waiting ramps ended),
+        layout!("nobyaluk_tallied", Tallied, weighted longest),
+        layout!("nobyaluk_progress", Progress, state releases entries),
+        layout!("nobyaluk_filled", Filled, longest releases entries),
         layout!("nobyaluk_stepped", Stepped, number place state),
         layout!("nobyaluk_written", Written, number place count),
         layout!("nobyaluk_loaded", Loaded, number last),
         layout!("nobyaluk_wanted_answer", Wanted, number found),
         layout!("nobyaluk_released", Released, number place),
+        layout!("nobyaluk_answer", Study, number step place gate_time road_time ramp_time exits gate waiting ramps),
+        layout!("nobyaluk_many", Many, number place),
         layout!("nobyaluk_row_answer", Row, numbers),
     ].concat()
 }
@@ -269,10 +275,14 @@ fn functions_take_what_they_take_in_c() {
 
 #[test]
 fn every_function_is_called() {
-    let calls = include_str!("../../src/lent.rs");
+    let calls = [
+        include_str!("../../src/lent.rs"),
+        include_str!("../../src/rules.rs"),
+    ];
+    let calls: String = calls.concat().split_whitespace().collect();
     for (name, ..) in raw_functions() {
         assert!(
-            calls.contains(&format!("raw::{name}(")),
+            calls.contains(&format!("call!({name}(")),
             "{name} is out of reach"
         );
     }
