@@ -13,7 +13,7 @@ test: ## tests all that is beside the proofs: reference, programs, C, Rust, Pyth
 	./run examples/printed-run.rec >/dev/null && ./run --exercise examples/printed-run.rec >/dev/null
 	bindings/check
 
-check: ## the checks that a change must pass before it lands: proofs from nothing, wrong programs, all tests; about half an hour
+check: ## the checks that a change must pass before it lands: proofs from nothing, wrong programs, all tests; about 47 minutes
 	.ci/run
 
 page: ## target/wasm/nobyaluk.html, one file for a browser
@@ -27,12 +27,12 @@ wheel: ## target/python: wheel and source archive
 bench: ## the engine beside Rust and C: compared, then timed
 	bench/run
 
-docs: ## what is written by tools: docs/contracts.txt, the version, pictures; the names of docs/TRACE.md and README's tables are compared
+docs: ## writes docs/contracts.txt, the version and the pictures; compares the documents with the sources
 	tools/contracts --write
 	tools/trace
 	tools/version --write
 	bindings/build --unless-built && bindings/pictures
-	tools/definitions && tools/refusals
+	tools/documents && tools/definitions && tools/refusals
 
 release: ## dist/, all that a user takes, of a clean tree that is proved and tested
 	./release

@@ -1,5 +1,5 @@
-"""What pyproject.toml can't say: the engine's library and the words of refusals come from the checkout around this folder, where bindings/build makes
-the library unless it is built; a source archive has both. The library makes the wheel one of its platform, for any Python 3.
+"""What pyproject.toml can't say: the engine's library comes from the checkout around this folder, where bindings/build makes it unless it is built; a
+source archive has it. The library makes the wheel one of its platform, for any Python 3.
 
 NOBYALUK_LIB_DIR names an archive proved elsewhere, NOBYALUK_ROOT a checkout elsewhere.
 """
@@ -19,18 +19,17 @@ except ImportError:  # before setuptools 70
 
 HERE = Path(__file__).resolve().parent
 ROOT = Path(os.environ.get("NOBYALUK_ROOT") or HERE.parent.parent)
-ADDED = {"libnobyaluk.so": "target/bindings/libnobyaluk.so", "refusals.tsv": "docs/refusals.tsv"}
+LIBRARY = "libnobyaluk.so"
 
 
 def add(package):
-    """Puts what the checkout has into a package's folder; what is there already came with a source archive."""
-    missing = [name for name in ADDED if not (HERE / "nobyaluk" / name).exists()]
-    if missing and not (ROOT / "bindings/build").exists():
+    """Puts the library into a package's folder, unless it came with a source archive."""
+    if (HERE / "nobyaluk" / LIBRARY).exists():
+        return
+    if not (ROOT / "bindings/build").exists():
         raise SystemExit("nobyaluk: not in its repository: set NOBYALUK_ROOT to a checkout")
-    if "libnobyaluk.so" in missing:
-        subprocess.run([ROOT / "bindings/build", "--unless-built"], check=True)
-    for name in missing:
-        shutil.copyfile(ROOT / ADDED[name], package / name)
+    subprocess.run([ROOT / "bindings/build", "--unless-built"], check=True)
+    shutil.copyfile(ROOT / "target/bindings" / LIBRARY, package / LIBRARY)
 
 
 class Package(build_py):

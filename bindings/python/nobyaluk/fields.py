@@ -1,53 +1,82 @@
-"""Densities, speeds and flows of a run: the library's counts divided by lengths and times, of the cells alone.
+"""Densities, speeds and flows of a run.
 
-No number of the model is computed here. A density is the library's count in a cell divided by the cell's length; a flow is the
-library's count in a step divided by the step's time; a speed is an outflow divided by the count before the step, times the length.
-All are arrays of shape (T, n): a row a step, and column i - 1 is cell i.
+The library's counts divided by lengths and times, of the cells alone.
+
+No number of the model is computed here. A density is the library's count in a cell divided by the
+cell's length; a flow is the library's count in a step divided by the step's time; a speed is an
+outflow divided by the count before the step, times the length. All are arrays of shape (T, n): a
+row a step, and column i - 1 is cell i.
 """
+from __future__ import annotations
+
+from typing import TYPE_CHECKING
+
 import numpy as np
 
 from . import engine
 from .engine import Run
-from .faults import StudyError
-from .study import Study
+from .errors import StudyError
 from .summary import speeds
+
+if TYPE_CHECKING:
+    from .study import Study
 
 _entering = np.frompyfunc(engine.entering, 3, 1)
 
 
 def density(study: Study, run: Run) -> np.ndarray:
-    """Of each cell after each step, veh/km of all lanes."""
+    """Return the density of each cell after each step, veh/km of all lanes: shape (T, n)."""
     if not study.lengths:
-        raise StudyError(f"{study.name}: a density in veh/km needs the cells' lengths, which a .toml study has")
+        raise StudyError(
+            f"{study.name}: a density in veh/km needs the cells' lengths, which a .toml study has"
+        )
     return run.held[:, 1:] / 1000 / np.array(study.lengths)
 
 
 def speed(study: Study, run: Run) -> np.ndarray:
-    """Of each cell in each step, km/h; the free speed where nobody is there."""
+    """Return the mean speed of each cell in each step, km/h: shape (T, n).
+
+    In an empty cell it is the free speed.
+    """
     if not study.lengths or not study.seconds:
-        raise StudyError(f"{study.name}: a speed needs the cells' lengths and the step's seconds, which a .toml study has")
+        raise StudyError(
+            f"{study.name}: a speed needs the cells' lengths and the step's seconds, which a .toml"
+            " study has"
+        )
     return speeds(study, run)
 
 
 def inflow(study: Study, run: Run) -> np.ndarray:
-    """What enters each cell from upstream in each step, veh/h; a ramp's release is not in it."""
+    """Return what enters each cell from upstream in each step, veh/h.
+
+    A ramp's release is not in it.
+    """
     return entered(run) / 1000 * per_hour(study)
 
 
 def outflow(study: Study, run: Run) -> np.ndarray:
-    """What leaves each cell in each step, onward and by its off-ramp, veh/h."""
+    """Return what leaves each cell in each step, onward and by its off-ramp, veh/h."""
     return run.outflow[:, 1:] / 1000 * per_hour(study)
 
 
 def per_hour(study: Study) -> float:
-    """Steps an hour."""
+    """Step an hour."""
     if not study.seconds:
-        raise StudyError(f"{study.name}: a flow in veh/h needs the step's seconds, which a .toml study and a record of version 2 have")
+        raise StudyError(
+            f"{study.name}: a flow in veh/h needs the step's seconds, which a .toml study and a"
+            " record of version 2 have"
+        )
     return 3600 / float(study.seconds)
 
 
 def entered(run: Run) -> np.ndarray:
-    """What enters each cell from upstream in each step, in parts, by the library's `entering`."""
+    """Return what enters each cell from upstream in each step, in parts: shape (T, n).
+
+    It is the library's `entering`.
+    """
     n, sent = run.record.road.n, run.outflow[:, :-1].astype(np.int64)
     share = np.array([engine.WHOLE, *run.record.road.share[: n - 1]])
-    return _entering(share, np.cumsum(sent, axis=0) - sent, sent).astype(np.int64)
+    before = np.cumsum(sent, axis=0) - sent
+    for k in range(engine.STEPS, len(sent), engine.STEPS):  # where a part begins
+        before[k:] -= before[k]
+    return _entering(share, before, sent).astype(np.int64)

@@ -1,307 +1,233 @@
-"""Many studies at once: on this machine's processors by threads, or by any executor of `concurrent.futures`, a cluster's too.
+"""Studies that differ in their arrivals alone, many of them by one call of the engine.
 
-A call of the engine gives up Python's lock and the engine keeps no state, so threads run side by side. A run is short, though: where
-variants are made in Python on the way, processes do more. Studies travel to them as their records' bytes, variants as recipes.
+`nobyaluk.map` and `sweep` take it by themselves for recipes of `Study.scaled` and
+`Study.with_stated_load` of one study, where a record holds it, every ramp goes by a law or by the
+record's releases, and nothing is weighted. The arrivals of some studies at a time are made by numpy
+in one table, and no study of its own is made of them. Each answer is what running or filling gives
+of the study by itself; what can't be made is made by itself, so that its fault has its words.
 """
-import logging
-import pickle
-import sys
+import math
 import threading
-import time
-from collections import deque
-from collections.abc import Callable, Iterable, Iterator
-from concurrent.futures import CancelledError, Executor, Future, ThreadPoolExecutor
-from contextlib import suppress
+from collections.abc import Callable, Iterator, Sequence
 from fractions import Fraction
 from functools import partial
-from itertools import islice
 from typing import Any, NamedTuple
 
 import numpy as np
 
-from . import engine
-from .engine import Refused
-from .faults import StudyError, shown
-from .study import Study, load
-from .summary import longest_queues
-from .workers import Batches, Workers, processors
+from . import engine, library
+from .arrays import lend, to_bytes, to_unsigned
+from .engine import Record, Refused
+from .errors import StudyError
+from .study import Study, load_factor, load_name, seed_name, times_factor
+from .totals import Totals, outflows, totals, totals_and_queues
 
-TIMEOUT = 20  # seconds until a scheduler has answered
-PATIENCE = 60  # seconds that a cluster may be without workers
-PATROL = 5  # seconds between two looks at a cluster whose answer is waited for
-PAYS = 0.25  # seconds of work left for which processes are started
-LOGGERS = ("distributed", "concurrent.futures", "tornado", "asyncio")  # of Dask
-DASK_TASK = 0.05  # seconds that a task of a cluster should take
+TABLES = 1 << 20  # bytes of the arrivals that one call is given
+MOST = 512  # studies of one call
+QUEUES: dict[Callable[[Study], Any], bool] = {
+    totals: False,
+    totals_and_queues: True,
+}  # what the batch gives, with the longest queues or without
+
+_kept = threading.local()
 
 
-class Totals(NamedTuple):
-    """What a study costs: part-steps and parts, as the engine gives them; or the refusal, or the fault in making it."""
+class Member(NamedTuple):
+    """A study of a batch: what it is called, and the number that its arrivals are made by."""
+
     name: str
-    total: int = 0
-    gate: int = 0
-    road: int = 0
-    ramp: int = 0
-    exits: int = 0
-    present: int = 0
-    weighted: int | None = None
-    longest_gate_queue: int | None = None  # parts, without the step's arrivals; where they were asked for
-    longest_ramp_queue: int | None = None
-    refused: Refused | None = None
-    seconds: Fraction | None = None  # of a step
-    fault: str | None = None  # why the study could not be made, in words
+    number: Any  # a load's Fraction, or a seed
 
 
-_lent = threading.local()
+def kind_of(x: Any) -> tuple[str, int] | None:
+    """Return what a recipe does to which study, alike for those of one batch; None for others."""
+    if not isinstance(x, partial) or x.keywords:
+        return None
+    made, base = getattr(x.func, "__func__", None), getattr(x.func, "__self__", None)
+    if type(base) is not Study:
+        return None
+    if made is Study.scaled and len(x.args) == 1:
+        return "load", id(base)
+    if made is Study.with_stated_load and len(x.args) == 3:
+        return f"seed {x.args[1:]}", id(base)
+    return None
 
 
-def _outflows() -> tuple[int, int]:
-    """A list of this thread's for outflows that nobody keeps: where it is, and how long."""
+def fits(base: Study) -> bool:
+    """Return whether the engine's batch takes studies of this one with other arrivals."""
+    return (
+        isinstance(base.record, Record)
+        and base.plan is None
+        and base.weights is None
+        and (not base.laws or base.all_by_laws)
+    )
+
+
+def run_together(
+    group: Sequence[Any], queues: bool, alone: Callable[[Any], Totals]
+) -> list[Totals]:
+    """Return the totals of recipes of one kind, with their longest queues or without.
+
+    `alone` gives those of a recipe whose arrivals can't be made here, or whose study has a fault.
+    """
+    base = group[0].func.__self__
+    if not fits(base):
+        return [alone(x) for x in group]
     try:
-        return _lent.at
-    except AttributeError:
-        _lent.list = np.empty(engine.MOST_OUTFLOWS, np.uint32)
-        _lent.at = engine._lent(_lent.list)
-        return _lent.at
+        batch = _Batch(base, queues)
+        make: _Loads | _Seeds = (
+            _Loads(base) if group[0].func.__func__ is Study.scaled else _Seeds(base, group[0])
+        )
+    except (StudyError, ValueError, TypeError):
+        return [alone(x) for x in group]
+    members = [make.member(x.args[0]) for x in group]
+    found = batch.totals(make, [x for x in members if x is not None])
+    return [alone(x) if member is None else next(found) for x, member in zip(group, members)]
 
 
-def totals(study: Study) -> Totals:
-    """The totals of a study alone; its tables are not kept."""
-    record = study.record
-    try:
-        if study.laws or study.plan is not None or study.weights or not isinstance(record, engine.Record):
-            r = study._run()
-            return Totals(study.name, r.total, r.gate, r.road, r.ramp, r.exits, r.present, r.weighted, seconds=study.seconds)
-        data, lanes = engine._data(record), engine._plain(study.lanes)
-        at, size = _outflows()
-        e = engine._run(data, len(data), lanes, len(lanes), at, size)
-        if e.number:
-            return Totals(study.name, refused=Refused(e.number, e.step, e.place))
-        s = e.state
-        return Totals(study.name, e.total, s.gate_time, s.road_time, s.ramp_time, e.exits, e.present, seconds=study.seconds)
-    except Refused as e:
-        return Totals(study.name, refused=e)
+class _Loads:
+    """Tables of a study's arrivals times numbers, each rounded to the nearest part, halves up."""
 
+    def __init__(self, base: Study) -> None:
+        self.name, self.table = base.name, base.record.arrivals
+        self.most = int(self.table.max())
 
-def totals_and_queues(study: Study) -> Totals:
-    """The totals of a study with its longest queues."""
-    try:
-        r = study._run()
-    except Refused as e:
-        return Totals(study.name, refused=e)
-    return Totals(study.name, r.total, r.gate, r.road, r.ramp, r.exits, r.present, r.weighted, *longest_queues(r), seconds=study.seconds)
-
-
-Recipe = Callable[[], Study]  # as functools.partial(study.scaled, 1.05)
-
-
-def _all(each: Callable[[Study], Any], group: list[Study | str | Recipe]) -> list[Any]:
-    return [_one(each, x) for x in group]
-
-
-def _one(each: Callable[[Study], Any], x: Study | str | Recipe) -> Any:
-    """What `each` gives of a study; where totals are wanted, a study that can't be made or run has its fault in them."""
-    try:
-        return each(x if isinstance(x, Study) else x() if callable(x) else load(x))
-    except Exception as e:  # noqa: BLE001 whatever is wrong with one study, the others go on
-        if each not in (totals, totals_and_queues):
-            raise
-        known = isinstance(e, (StudyError, Refused))
-        return Totals(_name(x), refused=e if isinstance(e, Refused) else None, fault=str(e) if known else f"{type(e).__name__}: {e}"[:300])
-
-
-def _name(x: Study | str | Recipe) -> str:
-    """What a study is called before it is made."""
-    if isinstance(x, Study):
-        return x.name
-    if not isinstance(x, partial):
-        return str(x)
-    of = getattr(getattr(x.func, "__self__", None), "name", "")
-    return " ".join(filter(None, [of, getattr(x.func, "__name__", ""), *(f"{float(v):g}" if isinstance(v, Fraction) else str(v)[:60] for v in x.args)]))
-
-
-def lost(x: Study | str | Recipe, how: str) -> Totals:
-    """The totals of a study at which processes died."""
-    return Totals(_name(x), fault=f"two processes ended at it, the last {how}; it may need more memory than there is")
-
-
-def _result(future: Future, watch: Callable[[], None] | None) -> Any:
-    """A task's answer; while it is waited for, `watch` looks whether anybody works on it."""
-    while True:
+    def member(self, load: Any) -> Member | None:
+        """Return a load's name and factor; None where it is none, or a step would have too many."""
         try:
-            return future.result(PATROL if watch else None)
-        except TimeoutError:
-            if watch is None or future.done():
-                raise
-            watch()
+            factor = load_factor(load)
+        except (StudyError, TypeError, ValueError, OverflowError):
+            return None
+        top, whole = 2 * self.most * factor.numerator, 2 * factor.denominator
+        if top + factor.denominator >= whole * (engine.RATE + 1):
+            return None
+        return Member(load_name(self.name, factor), factor)
 
-
-def map(studies: Iterable[Study | str | Recipe], executor: Executor | None = None, *, each: Callable[[Study], Any] = totals,
-        workers: int | None = None, batch: int = 16, progress: Callable[[int], None] | None = None,
-        watch: Callable[[], None] | None = None) -> Iterator[Any]:
-    """What `each` gives of every study, path or recipe of one, in their order; by threads of this machine, or by the executor given.
-
-    Studies are taken as they are needed, `batch` of them a task, so that thousands need no memory at once. A study that is refused,
-    or that can't be made, has that in its `Totals`, and the others go on. `watch` is called while an answer is waited for, and may raise.
-    """
-    if batch < 1:
-        raise ValueError(f"a task has at least one study, not {batch}")
-    workers = min(workers or processors(), processors())
-    pool = executor or ThreadPoolExecutor(workers)
-    ahead, done = 4 * (workers if executor is None else getattr(executor, "_max_workers", None) or 16), 0
-    pending: deque = deque()
-
-    def finished() -> Iterator[Any]:
-        nonlocal done
-        out = _result(pending.popleft(), watch)
-        done += len(out)
-        if progress:
-            progress(done)
-        yield from out
-
-    try:
-        taken = iter(studies)
-        while group := list(islice(taken, batch)):
-            pending.append(pool.submit(_all, each, group))
-            if len(pending) > ahead:
-                yield from finished()
-        while pending:
-            yield from finished()
-    finally:
-        for future in pending:
-            future.cancel()
-        if executor is None:
-            pool.shutdown(cancel_futures=True)
-
-
-def spread(studies: Iterable[Study | str | Recipe], count: int, each: Callable[[Study], Any] = totals, workers: int | None = None) -> Iterator[list[Any]]:
-    """What `each` gives of so many studies, in groups in their order: here, or by processes as soon as the time that is left pays for them.
-
-    There are at most as many processes as processors and studies.
-    """
-    most, batches, done = min(workers or processors(), processors(), count), Batches(studies), 0
-    while group := batches.next():
-        began = time.perf_counter()
-        out = _all(each, group)
-        batches.took(len(out), time.perf_counter() - began)
-        done += len(out)
-        yield out
-        if most > 1 and (count - done) * batches.each > PAYS:
-            with Workers(most, partial(_all, each), lost) as pool:
-                yield from pool.map(batches)
+    def fill(self, factors: Sequence[Fraction], out: np.ndarray) -> None:
+        """Make the tables of these factors: by one division of all, or one by one."""
+        whole = math.lcm(*(x.denominator for x in factors))
+        times = [2 * x.numerator * (whole // x.denominator) for x in factors]
+        if self.most * max(times) + whole >= 1 << 32:
+            for table, factor in zip(out, factors):
+                table[:] = times_factor(self.table, factor)
             return
+        np.multiply(self.table, np.array(times, np.uint32)[:, None, None], out=out)
+        out += np.uint32(whole)
+        out //= np.uint32(2 * whole)
 
 
-class NoCluster(Exception):
-    """A cluster that does not answer, has no workers or was lost."""
+class _Seeds:
+    """Tables of a study's arrivals under the stated loads of seeds."""
 
+    def __init__(self, base: Study, first: partial) -> None:
+        self.name, self.table = base.name, base.record.arrivals
+        self.cells = list(base.ramps.values())
+        self.peaks = [to_unsigned(x, 32) for x in first.args[1:]]
+        if max(self.peaks) > engine.RATE:
+            raise ValueError("a peak above its limit is refused by itself")
 
-class Cluster:
-    """A Dask cluster: an executor over its workers, which need this package too, and a look at whether they are there."""
-
-    def __init__(self, address: str) -> None:
-        self.address, self.without = address, None
+    def member(self, seed: Any) -> Member | None:
+        """Return a seed and its study's name; None where it is none."""
         try:
-            import distributed
-            from distributed.comm import resolve_address
-        except ImportError:
-            raise ImportError("a cluster needs Dask: apt-get install python3-distributed, or pip install distributed") from None
-        for name in (*LOGGERS, *(x for x in logging.root.manager.loggerDict if x.startswith(LOGGERS))):  # their tracebacks; what is lost is reported here
-            logging.getLogger(name).setLevel(logging.CRITICAL + 1)
-        try:
-            resolve_address(address)
-        except (ValueError, TypeError):
-            raise StudyError(f"--scheduler is {shown(address)}; it is an address like tcp://10.0.0.1:8786") from None
-        except OSError as e:
-            raise NoCluster(f"the scheduler at {address} is not found: {e}") from None
+            return Member(seed_name(self.name, seed), to_unsigned(seed, 32))
+        except (TypeError, ValueError):
+            return None
 
-        class Client(distributed.Client):
-            """Closed here, never when Python drops it, which would print a traceback for one that was never open."""
-
-            def __del__(self) -> None:
-                pass
-
-        try:
-            self.client = Client(address, timeout=f"{TIMEOUT}s")
-        except OSError:
-            raise NoCluster(f"the scheduler at {address} does not answer within {TIMEOUT} s") from None
-        self.executor = self.client.get_executor(pure=False)  # a task's key by chance, not by all bytes of its studies
-
-    def watch(self) -> None:
-        """NoCluster where the scheduler is gone, or workers have been missing for too long."""
-        try:
-            workers = len(self.client.scheduler_info()["workers"]) if self.client.status != "closed" else None
-        except (OSError, TimeoutError, CancelledError, RuntimeError, ValueError):
-            workers = None
-        if workers is None:
-            raise NoCluster(f"the scheduler at {self.address} was lost")
-        now = time.monotonic()
-        if workers:
-            self.without = None
-        elif self.without is None:
-            self.without = now
-            print(f"nobyaluk: the cluster at {self.address} has no workers; waiting for one up to {PATIENCE} s", file=sys.stderr)
-        elif now - self.without >= PATIENCE:
-            raise NoCluster(f"the cluster at {self.address} has no workers, and none came within {PATIENCE} s")
-
-    def spread(self, studies: Iterable[Study | str | Recipe], each: Callable[[Study], Any] = totals) -> Iterator[list[Any]]:
-        """What `each` gives of every study, in groups in their order, by its workers; NoCluster where they are lost on the way.
-
-        A task takes some milliseconds. The studies of one at which workers die are run again one by one, and then named.
-        """
-        from distributed import KilledWorker
-        from distributed.protocol.pickle import dumps  # which takes functions of a notebook too
-
-        self.watch()
-        while self.without is not None:
-            time.sleep(min(1, PATIENCE / 4))
-            self.watch()
-        batches, pending = Batches(studies, DASK_TASK), deque()
-        ahead = max(8, 4 * sum(self.client.nthreads().values()))
-        submit = lambda group: self.client.submit(_packed, dumps((each, group)), pure=False)
-        try:
-            more = True
-            while True:
-                while more and len(pending) < ahead:
-                    if more := bool(group := batches.next()):
-                        pending.append((submit(group), group))
-                if not pending:
-                    return
-                future, group = pending.popleft()
-                try:
-                    seconds, out = _result(future, self.watch)
-                    batches.took(len(out), seconds)
-                except KilledWorker:
-                    out = [self._alone(each, x, submit([x]), KilledWorker) for x in group]
-                yield out
-        except (CancelledError, OSError) as e:
-            raise NoCluster(f"the cluster at {self.address} was lost: {str(e) if isinstance(e, OSError) and str(e) else 'its scheduler is gone'}") from None
-        finally:
-            with suppress(Exception):  # whatever a lost connection raises
-                self.client.cancel([future for future, _ in pending])
-
-    def _alone(self, each: Callable[[Study], Any], x: Study | str | Recipe, future: Future, killed: type[Exception]) -> Any:
-        """A study of a task at which workers died, by itself."""
-        try:
-            return _result(future, self.watch)[1][0]
-        except killed:
-            if each not in (totals, totals_and_queues):
-                raise
-            return Totals(_name(x), fault="workers of the cluster ended at it, again and again; it may need more memory than they have")
-
-    def close(self) -> None:
-        """Closes the connection; one that is lost is left."""
-        with suppress(Exception):  # whatever a lost connection raises
-            self.client.close(timeout=2)
+    def fill(self, seeds: Sequence[int], out: np.ndarray) -> None:
+        """Make the tables of these seeds: the gate's arrivals, then each ramp's."""
+        steps, (peak, ramp_peak) = len(self.table), self.peaks
+        drawn = np.empty((len(seeds), 1 + len(self.cells), steps), np.uint32)
+        at, _ = lend(drawn)
+        for seed in seeds:
+            last = library.load(seed, peak, at, steps).last
+            library.load(last, ramp_peak, at + 4 * steps, steps * len(self.cells))
+            at += drawn.strides[0]
+        out[:] = self.table
+        for k, cell in enumerate([0, *self.cells]):
+            out[:, :, cell] = drawn[:, k]
 
 
-def _packed(task: bytes) -> tuple[float, list[Any]]:
-    """A task's answers, with the seconds that they took; as bytes, so that Dask looks through none of its studies."""
-    wall, own = time.perf_counter(), time.thread_time()
-    out = _all(*pickle.loads(task))
-    return max(time.thread_time() - own, (time.perf_counter() - wall) / 4), out  # beside other work the time of the clock is longer
+class _Batch:
+    """A study's record, lanes and laws, as the engine's batch takes them."""
+
+    def __init__(self, base: Study, queues: bool) -> None:
+        record = base.record
+        self.base, self.queues, self.steps, self.n = base, queues, record.steps, record.road.n
+        self.lanes = to_bytes(base.lanes)
+        self.laws: tuple[np.ndarray, np.ndarray] | None = None
+        if base.laws:
+            engine.check_laws(record, base.laws)
+            self.laws = engine.encode_laws(base.laws)
+        data = engine.record_data(record)
+        self.record = np.frombuffer(data, np.uint8).copy()  # the engine puts arrivals into it
+        start = record.start
+        self.started = (
+            start.gate_queue + sum(start.held[: self.n]) + sum(start.queue[: self.n])
+        )  # parts
+
+    def totals(self, make: _Loads | _Seeds, members: Sequence[Member]) -> Iterator[Totals]:
+        """Yield the totals of studies, some of them by each call."""
+        size = self.steps * (self.n + 1)
+        most = max(1, min(MOST, TABLES // (4 * size)))
+        for at in range(0, len(members), most):
+            some = members[at : at + most]
+            tables = _buffer(len(some) * size).reshape(len(some), self.steps, self.n + 1)
+            make.fill([x.number for x in some], tables)
+            answers = self.call(tables)
+            yield from self.told(some, answers, _sums(tables.reshape(len(some), size)))
+
+    def call(self, tables: np.ndarray) -> np.ndarray:
+        """Return the entries of studies with these arrivals."""
+        answers = np.empty((len(tables), library.ENTRY), np.uint64)
+        after = (self.lanes, len(self.lanes), *lend(tables), *outflows(), *lend(answers))
+        if self.laws is None:
+            a = library.run_many(*lend(self.record), *after)
+            engine.raise_if_refused(a, "run_many", step=0)
+        else:
+            kinds, numbers = self.laws
+            a = library.fill_many(
+                *lend(self.record), kinds.tobytes(), engine.CELLS, *lend(numbers), *after
+            )
+            engine.raise_if_refused(a, "fill_many", step=0)
+        return answers
+
+    def told(
+        self, some: Sequence[Member], answers: np.ndarray, arrived: list[int]
+    ) -> Iterator[Totals]:
+        """Yield the totals of each entry; present is what was there or came and has not left."""
+        seconds, queues = self.base.seconds, self.queues
+        operation = "run" if self.laws is None else "fill"
+        longest = answers[:, 9 : 9 + self.n].max(axis=1).tolist()
+        for member, entry, ramp_queue, came in zip(some, answers[:, :9].tolist(), longest, arrived):
+            number, step, place, gate, road, ramp, exits, _, waiting = entry
+            if number:
+                yield Totals(member.name, refused=Refused(number, step, place, operation))
+                continue
+            yield Totals(
+                member.name,
+                gate + road + ramp,
+                gate,
+                road,
+                ramp,
+                exits,
+                self.started + came - exits,
+                None,
+                waiting if queues else None,
+                ramp_queue if queues else None,
+                None,
+                seconds,
+            )
 
 
-def cluster(address: str) -> tuple[Executor, Any]:
-    """An executor over a Dask cluster, and its client to be closed; its workers need this package too."""
-    c = Cluster(address)
-    return c.executor, c.client
+def _sums(tables: np.ndarray) -> list[int]:
+    """Return the sum of each table; in 32 bits, which is faster, where no sum passes them."""
+    narrow = int(tables.max()) * tables.shape[1] < 1 << 32
+    return tables.sum(axis=1, dtype=np.uint32 if narrow else np.uint64).tolist()
+
+
+def _buffer(count: int) -> np.ndarray:
+    """Return a list of this thread's for so many arrivals, kept for the next call."""
+    kept = getattr(_kept, "list", None)
+    if kept is None or kept.size < count:
+        kept = _kept.list = np.empty(max(count, TABLES // 4), np.uint32)
+    return kept[:count]

@@ -1,4 +1,7 @@
-"""How far long work is, on standard error: a bar with rate and time left on a terminal (tqdm), a line every few seconds elsewhere."""
+"""How far long work is, on standard error.
+
+A bar with rate and time left on a terminal (tqdm), a line every few seconds elsewhere.
+"""
 import sys
 import time
 from collections.abc import Callable
@@ -8,14 +11,28 @@ EVERY = 3  # seconds between two lines
 
 
 class Progress:
-    """Called with how many are done. `begun` were done before; they and the time until the first call are not in the rate. It is closed at the end."""
+    """Called with how many are done.
+
+    `begun` were done before; they and the time until the first call are not in the rate. It is
+    closed at the end.
+    """
 
     def __init__(self, of: int, what: str, begun: int = 0, bar: bool = True) -> None:
         self.of, self.what, self.bar = of, what, None
         self.began = self.last = time.monotonic()
         self.first: tuple[float, int] | None = None
         if bar and sys.stderr.isatty() and (make := _tqdm()):
-            self.bar = make(total=of, initial=begun, unit=f" {what}", desc="nobyaluk", file=sys.stderr, dynamic_ncols=True, leave=False, delay=1, mininterval=0.2)
+            self.bar = make(
+                total=of,
+                initial=begun,
+                unit=f" {what}",
+                desc="nobyaluk",
+                file=sys.stderr,
+                dynamic_ncols=True,
+                leave=False,
+                delay=1,
+                mininterval=0.2,
+            )
 
     def __enter__(self) -> "Progress":
         return self
@@ -25,6 +42,7 @@ class Progress:
             self.bar.close()
 
     def __call__(self, done: int) -> None:
+        """Show that so many are done."""
         if self.bar is not None:
             self.bar.update(done - self.bar.n)
             return
@@ -35,17 +53,20 @@ class Progress:
             print(f"nobyaluk: {self.line(done, now)}", file=sys.stderr)
 
     def line(self, done: int, now: float) -> str:
-        """How many of how many after which time, how many a second, and how long the others take."""
+        """Return a line: how many are done, the time, the rate and the time left."""
         since, before = self.first or (now, done)
         said = f"{done:,} of {self.of:,} {self.what}, {_clock(now - self.began)}"
         if done == before or now <= since:
             return said
         rate = (done - before) / (now - since)
-        return f"{said}, {rate:,.{0 if rate >= 10 else 1}f} a second, {_clock((self.of - done) / rate)} left"
+        return (
+            f"{said}, {rate:,.{0 if rate >= 10 else 1}f} a second,"
+            f" {_clock((self.of - done) / rate)} left"
+        )
 
 
 def _tqdm() -> Callable[..., Any] | None:
-    """What makes a bar; None where tqdm is not installed."""
+    """Return what makes a bar; None where tqdm is not installed."""
     try:
         from tqdm import tqdm
     except ImportError:
@@ -57,4 +78,8 @@ def _tqdm() -> Callable[..., Any] | None:
 def _clock(seconds: float) -> str:
     """59 s, 12:30 min or 3:05 h."""
     s = round(seconds)
-    return f"{s} s" if s < 60 else f"{s // 60}:{s % 60:02d} min" if s < 3600 else f"{s // 3600}:{s // 60 % 60:02d} h"
+    return (
+        f"{s} s"
+        if s < 60
+        else f"{s // 60}:{s % 60:02d} min" if s < 3600 else f"{s // 3600}:{s // 60 % 60:02d} h"
+    )

@@ -1,4 +1,8 @@
-"""A report redone from itself: the studies that its page has are taken out, run, and their totals compared with those that it states."""
+"""A report redone from itself.
+
+The studies that its page has are taken out, run, and their totals compared with those that it
+states.
+"""
 import base64
 import binascii
 import re
@@ -8,19 +12,20 @@ from html.parser import HTMLParser
 from pathlib import Path
 
 from .engine import Refused
-from .faults import StudyError, shown
-from .inputs import read_text
-from .output import check, make_folder, write_file
+from .errors import StudyError, show
+from .input_files import read_text
+from .output_files import make_folder, write_files
 from .study import load
-from .summary import sum_of
+from .summary import record_sha256
 
 MOST = 256 << 20  # bytes of a page
 _NAME = re.compile(r"[\w.+-]{1,200}\.(toml|rec)")
 
 
 @dataclass
-class Stated:
+class ReportedStudy:
     """What a page has of one study: its files, the totals and the sum of its record."""
+
     totals: str
     sum: str = ""
     files: dict[str, str] = field(default_factory=dict)
@@ -31,7 +36,7 @@ class _Page(HTMLParser):
 
     def __init__(self) -> None:
         super().__init__(convert_charrefs=True)
-        self.found: list[Stated] = []
+        self.found: list[ReportedStudy] = []
         self.inside: tuple[str, str] | None = None
         self.text: list[str] = []
 
@@ -49,15 +54,15 @@ class _Page(HTMLParser):
             return
         (kind, name), text, self.inside = self.inside, "".join(self.text), None
         if kind == "totals":
-            self.found.append(Stated(text))
+            self.found.append(ReportedStudy(text))
         elif self.found and kind == "sum":
             self.found[-1].sum = text
         elif self.found:
             self.found[-1].files[name] = text
 
 
-def studies_of(path: str | Path) -> list[Stated]:
-    """The studies that a report has; a fault where it has none."""
+def read_report(path: str | Path) -> list[ReportedStudy]:
+    """Return the studies that a report has; a fault where it has none."""
     page = _Page()
     page.feed(read_text(path, MOST))
     page.close()
@@ -66,36 +71,71 @@ def studies_of(path: str | Path) -> list[Stated]:
         raise StudyError(f"{path}: it has no studies; a report of `nobyaluk report` has them")
     for name in (name for x in found for name in x.files):
         if not _NAME.fullmatch(name):
-            raise StudyError(f"{path}: {shown(name)} is no name of a study's file")
+            raise StudyError(f"{path}: {show(name)} is no name of a study's file")
     return found
 
 
-def redo(path: str | Path, folder: str | Path | None = None) -> list[tuple[str, str]]:
-    """Runs each study of a report again: its name, and what differs from what the report states, or nothing. The files are left in the folder."""
+def redo_report(
+    path: str | Path, folder: str | Path | None = None, force: bool = False
+) -> list[tuple[str, str]]:
+    """Run each study of a report again and compares its totals with those of the report.
+
+    Parameters
+    ----------
+    path : str or Path
+        The report's page.
+    folder : str or Path, optional
+        Where the studies are left as files. A file that is there and says the same is kept.
+    force : bool, default False
+        Replace files that are there and say something else.
+
+    Returns
+    -------
+    list of (str, str)
+        Each study's name, and what differs from the report; nothing where all is the same.
+
+    Raises
+    ------
+    StudyError
+        Where the page has no studies, or the folder has another file of a study's name.
+    """
     out = []
+    taken: set[Path] = set()  # files of this report
     with tempfile.TemporaryDirectory() as own:
-        for k, x in enumerate(studies_of(path)):
+        for k, x in enumerate(read_report(path)):
             place = Path(folder) if folder is not None else Path(own) / str(k)
             make_folder(place)
-            study = next(Path(place, name) for name in _put(x, place, path) if name.endswith(".toml"))
+            files = _study_files(x, place, path, taken)
+            write_files(files, [], force)
+            taken.update(files)
+            study = next(file for file in files if file.suffix == ".toml")
             out.append((study.stem, _difference(study, x)))
     return out
 
 
-def _put(x: Stated, folder: Path, path: str | Path) -> list[str]:
-    """Writes the files of a study; of two studies of one name, one after the other, a number is added."""
-    number = next(i for i in range(1, 10_000) if not any((folder / _numbered(name, i)).exists() for name in x.files))
-    names = {name: _numbered(name, number) for name in x.files}
+def _study_files(
+    x: ReportedStudy, folder: Path, path: str | Path, taken: set[Path]
+) -> dict[Path, str | bytes]:
+    """Return the files of a study.
+
+    Of two studies of one name, one after the other, a number is added.
+    """
+    number = 1
+    while any(folder / _numbered(name, number) in taken for name in x.files):
+        number += 1
+    out: dict[Path, str | bytes] = {}
     for name, text in x.files.items():
-        try:
-            data = base64.b64decode(text) if name.endswith(".rec") else text
-        except binascii.Error:
-            raise StudyError(f"{path}: the record {name} is damaged") from None
-        for old, new in names.items() if isinstance(data, str) and number > 1 else ():
-            data = data.replace(f'record = "{old}"', f'record = "{new}"', 1)
-        check(folder / names[name])
-        write_file(folder / names[name], data)
-    return list(names.values())
+        file = folder / _numbered(name, number)
+        if name.endswith(".rec"):
+            try:
+                out[file] = base64.b64decode(text)
+            except binascii.Error:
+                raise StudyError(f"{path}: the record {name} is damaged") from None
+            continue
+        for old in x.files:
+            text = text.replace(f'record = "{old}"', f'record = "{_numbered(old, number)}"', 1)
+        out[file] = text
+    return out
 
 
 def _numbered(name: str, number: int) -> str:
@@ -103,15 +143,25 @@ def _numbered(name: str, number: int) -> str:
     return name if number == 1 else f"{stem}-{number}{dot}{kind}"
 
 
-def _difference(study: Path, x: Stated) -> str:
-    """What the run of a study has otherwise than its report; nothing where all is the same."""
+def _difference(study: Path, x: ReportedStudy) -> str:
+    """Return what the run of a study has otherwise than its report.
+
+    Nothing where all is the same.
+    """
     s = load(study)
     try:
         run = s.run()
     except Refused as e:
-        return s.told(e)
+        return s.describe_refusal(e)
     weighted = f" weighted {run.weighted}" if run.weighted is not None else ""
-    totals = f"total {run.total} gate {run.gate} road {run.road} ramp {run.ramp} exits {run.exits}{weighted}"
+    totals = (
+        f"total {run.total} gate {run.gate} road {run.road} ramp {run.ramp} exits"
+        f" {run.exits}{weighted}"
+    )
     if totals != x.totals:
         return f"the run has {totals}; the report says {x.totals}"
-    return "" if sum_of(run) == x.sum else f"the run's record has the sum {sum_of(run)}; the report says {x.sum}"
+    return (
+        ""
+        if record_sha256(run) == x.sum
+        else f"the run's record has the sum {record_sha256(run)}; the report says {x.sum}"
+    )

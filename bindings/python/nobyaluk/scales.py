@@ -1,28 +1,60 @@
-"""Colours and scales of pictures: the same colour for a place in every picture, and one scale for all studies that are compared."""
+"""Colours and scales of pictures.
+
+The same colour for a place in every picture, and one scale for all studies that are compared.
+"""
+from __future__ import annotations
+
 from dataclasses import dataclass
-from typing import Any
+from typing import TYPE_CHECKING, Any
 
 import numpy as np
 from matplotlib.colors import FuncNorm, LinearSegmentedColormap
 
 from . import fields
 from .engine import Run
-from .study import Study
-from .summary import per_hour, waiting
+from .summary import gate_waiting, per_hour
 
-# Colours that people with colour blindness can tell apart (Okabe and Ito), the same for a place in every picture.
+if TYPE_CHECKING:
+    from .study import Study
+
+# Colours that people with colour blindness can tell apart (Okabe and Ito). A place has the same
+# colour in every picture.
 GATE, ROAD, RAMP, WORKS = "#0072B2", "#999999", "#D55E00", "#5b2a86"
 ARRIVING = "#9ccbe6"  # of the gate's colour, lighter
-LINES = ["#D55E00", "#009E73", "#CC79A7", "#E69F00", "#56B4E9", "#000000", "#8B6914"]  # of ramps; the gate has its own
-# Blues up to the critical density, yellow to nearly black above it: told apart with any colour blindness, and ever darker, so that they also read in grey.
-_FILLING = [(0, "#fcfdff"), (0.25, "#e3eef7"), (0.485, "#c6e0f1"), (0.494, "#fdd585"), (0.6, "#fcae4f"), (0.7, "#ee7033"), (0.8, "#c8322b"), (0.9, "#7f0f2b"), (1, "#27001a")]
+LINES = [
+    "#D55E00",
+    "#009E73",
+    "#CC79A7",
+    "#E69F00",
+    "#56B4E9",
+    "#000000",
+    "#8B6914",
+]  # of ramps; the gate has its own
+# Blues up to the critical density, yellow to nearly black above it: they differ with any colour
+# blindness, and get darker throughout, so that they also read in grey.
+_FILLING = [
+    (0, "#fcfdff"),
+    (0.25, "#e3eef7"),
+    (0.485, "#c6e0f1"),
+    (0.494, "#fdd585"),
+    (0.6, "#fcae4f"),
+    (0.7, "#ee7033"),
+    (0.8, "#c8322b"),
+    (0.9, "#7f0f2b"),
+    (1, "#27001a"),
+]
 FILLING = LinearSegmentedColormap.from_list("filling", _FILLING)
-SPEED = LinearSegmentedColormap.from_list("speed", ["#4d0723", "#c8322b", "#fcae4f", "#fdd585", "#f5efd6", "#eaf3fa"])
-MOST_CRITICAL = 10  # times the critical density; the jam density is 1 + speed / wave times it, rarely more than 8
+SPEED = LinearSegmentedColormap.from_list(
+    "speed", ["#4d0723", "#c8322b", "#fcae4f", "#fdd585", "#f5efd6", "#eaf3fa"]
+)
+MOST_CRITICAL = 10  # times the critical density; the jam density is rarely more than 8 times it
 
 
 def _stretched(x: Any) -> Any:
-    """Up to the critical density as it is, above it by its logarithm, so that 5 and 6 times differ as 2 and 2.4 do."""
+    """Return densities up to the critical one unchanged, above it by their logarithm.
+
+    So 5 and 6 times the critical density differ as 2 and 2.4 times do.
+    """
     x = np.asarray(x, float)
     return np.where(x <= 1, x, 1 + np.log10(np.maximum(x, 1)))
 
@@ -33,7 +65,7 @@ def _shrunk(y: Any) -> Any:
 
 
 def critical_norm() -> FuncNorm:
-    """The scale of densities against the critical one, the same for every study."""
+    """Return the scale of densities against the critical one, the same for every study."""
     return FuncNorm((_stretched, _shrunk), 0, MOST_CRITICAL)
 
 
@@ -41,23 +73,26 @@ CRITICAL_TICKS = [0, 0.25, 0.5, 0.75, 1, 1.5, 2, 3, 4, 5, 7, 10]
 
 
 def round_ticks(top: float, most: int = 12) -> np.ndarray:
-    """Round numbers from 0 up to `top`, at most so many."""
+    """Return round numbers from 0 up to `top`, at most so many."""
     steps = (m * 10.0**e for e in range(-3, 16) for m in (1, 2, 5))
     step = next(x for x in steps if top / x <= most)
     return np.arange(0, top + step / 2, step)
 
 
 def round_up(x: float, least: float) -> float:
-    """The next round number from x on: 1, 1.5, 2, 3, 4, 5, 6 or 8 times a power of ten."""
+    """Return the next round number from x on: 1, 1.5, 2, 3, 4, 5, 6 or 8 times a power of ten."""
     if x <= least:
         return least
     power = 10.0 ** np.floor(np.log10(x))
-    return float(next(m * power for m in (1, 1.5, 2, 3, 4, 5, 6, 8, 10) if x <= m * power * (1 + 1e-9)))
+    return float(
+        next(m * power for m in (1, 1.5, 2, 3, 4, 5, 6, 8, 10) if x <= m * power * (1 + 1e-9))
+    )
 
 
 @dataclass(frozen=True)
 class Curves:
-    """Vehicles in the system at the beginning and after each step, where they are, and how many had arrived until then."""
+    """Vehicles in the system at the start and after each step: where they are, and who arrived."""
+
     gate: np.ndarray
     waiting: np.ndarray  # at the gate, without those who arrived in the step
     road: np.ndarray
@@ -66,26 +101,31 @@ class Curves:
 
     @property
     def present(self) -> np.ndarray:
+        """Vehicles in the system."""
         return self.gate + self.road + self.ramp
 
     @property
     def left(self) -> np.ndarray:
+        """Vehicles that have left the system."""
         return self.came - self.present
 
 
 def curves(study: Study, run: Run) -> Curves:
-    """The curves of a run, in vehicles, all sums of the library's counts."""
+    """Return the curves of a run, in vehicles, all sums of the library's counts."""
     start, rows, n = study.record.start, run.record.rows.astype(np.int64), study.n
     ramp = np.concatenate([[sum(start.queue[:n])], run.queue.astype(np.int64).sum(1)]) / 1000
     gate = np.concatenate([[start.gate_queue], run.held[:, 0].astype(np.int64)]) / 1000
     road = np.concatenate([[sum(start.held[:n])], run.held[:, 1:].astype(np.int64).sum(1)]) / 1000
-    stay = np.concatenate([gate[:1], waiting(run) / 1000])
+    stay = np.concatenate([gate[:1], gate_waiting(run) / 1000])
     came = np.concatenate([[0], np.cumsum(rows[:, 0] + rows[:, 1::2].sum(1))]) / 1000
     return Curves(gate, stay, road, ramp, gate[0] + road[0] + ramp[0] + came)
 
 
 def oblique(study: Study, run: Run, rate: float) -> tuple[np.ndarray, np.ndarray]:
-    """Arrived and left, less what a steady flow would have brought: `rate` in veh/h, or in vehicles a step where nobody says its seconds."""
+    """Return arrived and left, less what a steady flow would have brought.
+
+    `rate` in veh/h, or in vehicles a step where its seconds are unknown.
+    """
     c = curves(study, run)
     steady = rate * np.arange(len(c.came)) * (float(study.seconds) / 3600 if study.seconds else 1)
     return c.came - steady, c.left - steady
@@ -94,6 +134,7 @@ def oblique(study: Study, run: Run, rate: float) -> tuple[np.ndarray, np.ndarray
 @dataclass(frozen=True)
 class Scales:
     """Where the axes of pictures end, the same for all studies that are compared."""
+
     density: float  # veh/km
     speed: float  # km/h
     queue: float  # vehicles
@@ -104,22 +145,44 @@ class Scales:
 
 
 def scales_of(pairs: list[tuple[Study, Run]]) -> Scales:
-    """The scales of studies that are compared; of one alone, where there is one."""
+    """Return the scales of studies that are compared; of one alone, where there is one."""
     with_km = [(s, r) for s, r in pairs if s.lengths]
     timed = [(s, r) for s, r in with_km if s.seconds]
     dense = max((float(fields.density(s, r).max()) for s, r in with_km), default=0.0)
     fast = max((float(fields.speed(s, r).max()) for s, r in timed), default=0.0)
-    queue = max(max(float(waiting(r).max()), float(r.queue.max()), r.record.start.gate_queue, *r.record.start.queue) for _, r in pairs) / 1000
+    queue = (
+        max(
+            max(
+                float(gate_waiting(r).max()),
+                float(r.queue.max()),
+                r.record.start.gate_queue,
+                *r.record.start.queue,
+            )
+            for _, r in pairs
+        )
+        / 1000
+    )
     found = [curves(s, r) for s, r in pairs]
     rate = _steady(pairs[0][0], found[0])
     bent = [x for s, r in pairs for x in oblique(s, r, rate)]
-    return Scales(round_up(dense, 10), float(max(10, np.ceil((fast - 1) / 10) * 10)), queue, max(float(c.present.max()) for c in found), rate,
-                  min(float(x.min()) for x in bent), max(float(x.max()) for x in bent))
+    return Scales(
+        round_up(dense, 10),
+        float(max(10, np.ceil((fast - 1) / 10) * 10)),
+        queue,
+        max(float(c.present.max()) for c in found),
+        rate,
+        min(float(x.min()) for x in bent),
+        max(float(x.max()) for x in bent),
+    )
 
 
 def _steady(study: Study, c: Curves) -> float:
-    """A round rate near the mean of what arrives."""
-    mean = (c.came[-1] - c.came[0]) / (len(c.came) - 1) / (1000 * per_hour(study.seconds)[0] if study.seconds else 1)
+    """Return a round rate near the mean of what arrives."""
+    mean = (
+        (c.came[-1] - c.came[0])
+        / (len(c.came) - 1)
+        / (1000 * per_hour(study.seconds)[0] if study.seconds else 1)
+    )
     if mean <= 0:
         return 0.0
     power = 10.0 ** np.floor(np.log10(mean)) / 10

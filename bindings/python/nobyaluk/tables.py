@@ -1,7 +1,10 @@
-"""Arrivals and releases: lists of a study, a spreadsheet's columns or a detector's rows, of any length in time.
+"""Arrivals and releases.
 
-A row holds from its time until the next one. What comes in a step is the growth of the exact running sum, rounded down to whole
-parts, so that sums are right to a part however rows and steps lie. A name that is not known is a fault that shows names like it.
+Lists of a study, a spreadsheet's columns or a detector's rows, of any length in time.
+
+A row holds from its time until the next one. What comes in a step is the growth of the exact
+running sum, rounded down to whole parts, so that sums are right to a part however rows and steps
+lie. A name that is not known is a fault that shows names like it.
 """
 import csv
 import difflib
@@ -10,7 +13,6 @@ import itertools
 import re
 from collections.abc import Callable, Collection, Iterator
 from dataclasses import dataclass, field
-from datetime import date
 from decimal import Decimal
 from fractions import Fraction
 from pathlib import Path
@@ -18,25 +20,52 @@ from typing import Any
 
 import numpy as np
 
-from . import engine, inputs, readings
-from .faults import Faults, StudyError, Table, clock, exact, shown
-from .readings import Filled, Grid, Rows, number
-from .study import clock_time
+from . import engine, gaps, input_files
+from .clock import DAY, MOMENT, Clock
+from .errors import FaultList, StudyError, TomlTable, show
+from .gaps import Filled, Grid, TableRows, parse_count
 
-UNITS = ("veh/h", "veh", "count", "parts")  # a rate; vehicles a step; vehicles in the row's own time; parts a step
+UNITS = (
+    "veh/h",
+    "veh",
+    "count",
+    "parts",
+)  # a rate; vehicles a step; vehicles in the row's own time; parts a step
 KEYS = {"file", "unit", "columns", "gaps"}
 PLACES = ("place", "detector", "station")  # the heading that makes a file a detector's
-VALUES = {"veh/h": "veh/h", "flow": "veh/h", "veh": "count", "count": "count", "vehicles": "count", "parts": "parts"}
+VALUES = {
+    "veh/h": "veh/h",
+    "flow": "veh/h",
+    "veh": "count",
+    "count": "count",
+    "vehicles": "count",
+    "parts": "parts",
+}
 CLOCKS = ("time", "step", "seconds", "minutes")
 DATE = "date"  # the heading of a column with the day of each time
-TAKEN = ("gate", "all", *CLOCKS, "file", "unit", "columns", "gaps", "cap", "-")  # names that no ramp may have
-LEFT_OUT = "-"  # in `columns`: a column that is not looked at
+TAKEN = (
+    "gate",
+    "all",
+    *CLOCKS,
+    "file",
+    "unit",
+    "columns",
+    "gaps",
+    "cap",
+    "-",
+)  # names that no ramp may have
+LEFT_OUT = "-"  # in `columns`: a column that is ignored
 MOST = 16 << 20  # bytes of a CSV file
 
 
 @dataclass
-class Given:
-    """What a table gives: parts a step of each name, the names in its file that stand for none, notes, and the gaps that were filled."""
+class TableParts:
+    """What a table gives.
+
+    Parts a step of each name, the names in its file that stand for none, notes, and the gaps that
+    were filled.
+    """
+
     where: str
     parts: dict[str, np.ndarray]
     others: list[str] = field(default_factory=list)
@@ -44,132 +73,81 @@ class Given:
     filled: list[Filled] = field(default_factory=list)
 
 
-def like(word: str, names: Collection[str]) -> str:
-    """Names like a word, as the end of a fault; nothing where there are none."""
+def suggest(word: str, names: Collection[str]) -> str:
+    """Return names like a word, as the end of a fault; nothing where there are none."""
     names = list(itertools.islice(names, 2000))
-    found = [x for x in names if x.lower() == word.lower()] or difflib.get_close_matches(word[:200], names, 3, 0.6)
+    found = [x for x in names if x.lower() == word.lower()] or difflib.get_close_matches(
+        word[:200], names, 3, 0.6
+    )
     return f"; did you mean {' or '.join(map(repr, found))}?" if found else ""
 
 
-def fitting(word: str, names: Collection[str]) -> str:
-    """Names like a word, or else the names that there are, as the end of a fault."""
+def suggest_or_list(word: str, names: Collection[str]) -> str:
+    """Return names like a word, or else the names that there are, as the end of a fault."""
     shown = ", ".join(x[:40] for x in list(names)[:12]) + (", .." if len(names) > 12 else "")
-    return like(word, names) or (f"; there are {shown}" if names else "")
+    return suggest(word, names) or (f"; there are {shown}" if names else "")
 
 
-_DAY = r"(?P<year>[0-9]{4})(?P<mark>[-/])(?P<month>[0-9]{1,2})(?P=mark)(?P<day>[0-9]{1,2})|(?P<first>[0-9]{1,2})\.(?P<second>[0-9]{1,2})\.(?P<last>[0-9]{4})"
-_ZONE = r"(?P<zone>Z|[+-][0-9]{2}:?[0-9]{2})"
-_MOMENT = re.compile(rf"(?:(?:{_DAY})(?:T| +))?(?P<clock>[0-9]{{1,2}}:[0-9]{{2}}(?::[0-9]{{2}}(?:\.(?P<part>[0-9]{{1,9}}))?)?)(?: ?{_ZONE})?")
-_EITHER = re.compile(r"[0-9]{1,2}([-/])[0-9]{1,2}\1[0-9]{2,4}\b.*")
+def read_table(
+    table: TomlTable, folder: Path, default: str, entries: list[str], clock: Clock
+) -> TableParts:
+    """Return parts a step of each entry that the table names.
 
-
-@dataclass(frozen=True)
-class Moment:
-    """A clock time, with its day and its offset from UTC where they are written."""
-    second: Fraction
-    day: int | None
-    zone: int | None
-
-
-def moment(text: str, where: str) -> Moment:
-    """07:30, 07:30:20, and both after 2026-05-12, 2026/05/12 or 12.05.2026, with `T` or a blank between; Z or an offset may follow."""
-    m = _MOMENT.fullmatch(text)
-    if m is None:
-        if _EITHER.fullmatch(text):
-            raise StudyError(f"{where}: {shown(text)} may have the day or the month first; write 2026-05-12 or 12.05.2026")
-        raise StudyError(f"{where}: {shown(text)} is no clock time like 07:30 or 07:30:20, alone or after a date like 2026-05-12 or 12.05.2026")
-    at = clock(m["clock"].partition(".")[0], where) + (Fraction(int(m["part"]), 10 ** len(m["part"])) if m["part"] else 0)
-    year = m["year"] or m["last"]
-    if year is None:
-        if m["zone"]:
-            raise StudyError(f"{where}: {text!r} has an offset from UTC and no date")
-        return Moment(at, None, None)
-    try:
-        day = date(int(year), int(m["month"] or m["second"]), int(m["day"] or m["first"])).toordinal()
-    except ValueError:
-        raise StudyError(f"{where}: {text!r}: there is no such day") from None
-    return Moment(at, day, _offset(m["zone"]))
-
-
-def _offset(zone: str | None) -> int | None:
-    """Seconds ahead of UTC."""
-    if zone is None:
-        return None
-    return 0 if zone == "Z" else (1 if zone[0] == "+" else -1) * (3600 * int(zone[1:3]) + 60 * int(zone[-2:]))
-
-
-class Clock:
-    """The study's time: step 0 begins at second 0, or at a clock time, which may have a date."""
-
-    def __init__(self, seconds: Fraction, start: Fraction | None, steps: int, day: int | None = None, zone: int | None = None) -> None:
-        self.seconds, self.start, self.steps, self.day, self.zone = seconds, start, steps, day, zone
-        self.zoned = zone is not None  # whether it is known if times have an offset
-        self.taken, self.latest = False, Fraction(0)  # whether the day is a file's first, and the latest time with a date
-
-    def second(self, kind: str, text: str, where: str) -> Fraction:
-        """Seconds after the beginning of step 0 of a field under `time`, `step`, `seconds` or `minutes`."""
-        if kind != "time":
-            try:
-                x = Fraction(int(text)) if text.isascii() and text.isdigit() and len(text) < 16 else exact(text)
-                return x * {"step": self.seconds, "seconds": 1, "minutes": 60}[kind]
-            except ValueError:
-                raise StudyError(f"{where}: {shown(text)} under `{kind}` is no number") from None
-        if self.start is None:
-            raise StudyError(f"{where}: {shown(text)} is a clock time, which needs `start`, the clock time of step 0; or count by `step`, `seconds` or `minutes`")
-        at = moment(text.strip(), where)
-        if at.day is None:
-            return at.second - self.start
-        if self.day is None:
-            self.day, self.taken = at.day, True
-        self.zone, self.zoned = (self.zone if self.zoned else at.zone), True
-        if (at.zone is None) != (self.zone is None):
-            raise StudyError(f"{where}: {text!r}: some times have an offset from UTC and some have none")
-        second = at.second + 86400 * (at.day - self.day) - ((at.zone or 0) - (self.zone or 0)) - self.start
-        self.latest = max(self.latest, second)
-        return second
-
-    def told(self, second: Fraction) -> str:
-        """A time of the study in words: of the clock where the study has it, with the day where that is another."""
-        if self.start is None:
-            return f"{float(second):g} s"
-        days, at = divmod(second + self.start, 86400)
-        day = f"{date.fromordinal(self.day + int(days))} " if self.day is not None and days else ""
-        return day + clock_time(at)
-
-    def step(self, text: object, where: str) -> int:
-        """The step that begins then; a whole number is a step."""
-        if isinstance(text, int) and not isinstance(text, bool) or re.fullmatch(r"[0-9]{1,9}", str(text).strip()):
-            if int(text) < 0:
-                raise StudyError(f"{where}: {text} is no step; steps are counted from 0")
-            return int(text)
-        k = self.second("time", str(text), where) / self.seconds
-        if k.denominator != 1 or k < 0:
-            raise StudyError(f"{where}: {text} lies before `start` or within a step of {self.seconds} s")
-        return int(k)
-
-
-def read(table: Table, folder: Path, default: str, entries: list[str], clock: Clock) -> Given:
-    """Parts a step of each entry that the table names: in lists, in a CSV file, or by a 0 for all steps."""
-    shut = {key: np.zeros(clock.steps, np.uint32) for key, x in table.values.items() if key in entries and _is_zero(x)}
-    inline, more = next((kind for kind in CLOCKS if kind in table), None), {"unit"} if entries[:1] == ["gate"] else {"unit", "cap"}
+    In lists, in a CSV file, or by a 0 for all steps.
+    """
+    shut = {
+        key: np.zeros(clock.steps, np.uint32)
+        for key, x in table.values.items()
+        if key in entries and _is_zero(x)
+    }
+    inline, more = next((kind for kind in CLOCKS if kind in table), None), (
+        {"unit"} if entries[:1] == ["gate"] else {"unit", "cap"}
+    )
     if inline and "file" not in table:
-        rows, given = _inline(table, inline, more, entries, clock), Given(table.where, shut)
-    elif "file" not in table and shut and table.values.keys() - shut.keys() <= more and (entries[:1] != ["gate"] or len(shut) == len(entries)):
-        return Given(table.where, shut)
+        rows, given = _inline(table, inline, more, entries, clock), TableParts(table.where, shut)
+    elif (
+        "file" not in table
+        and shut
+        and table.values.keys() - shut.keys() <= more
+        and (entries[:1] != ["gate"] or len(shut) == len(entries))
+    ):
+        return TableParts(table.where, shut)
     else:
         if "file" not in table and any(isinstance(table.values.get(x), list) for x in entries):
-            raise StudyError(f"{table.where}: the lists have no times: add a list {', '.join(CLOCKS[:-1])} or {CLOCKS[-1]}")
-        path = folder / file_name(table, "file", default)
+            raise StudyError(
+                f"{table.where}: the lists have no times: add a list {', '.join(CLOCKS[:-1])} or"
+                f" {CLOCKS[-1]}"
+            )
+        path = folder / get_file_name(table, "file", default)
         for key, x in table.values.items():
             if key in entries and key not in shut:
-                raise table.fault(key, f"is {shown(x)}; beside a file it is 0, where nothing comes in any step")
+                raise table.fault(
+                    key, f"is {show(x)}; beside a file it is 0, where nothing comes in any step"
+                )
             if key not in (*KEYS, *more, *entries):
-                raise table.fault(key, f"is not known beside a file; known are {', '.join(sorted(KEYS))}, and names with 0{like(key, entries)}")
+                raise table.fault(
+                    key,
+                    (
+                        f"is not known beside a file; known are {', '.join(sorted(KEYS))}, and"
+                        f" names with 0{suggest(key, entries)}"
+                    ),
+                )
         clock.latest = Fraction(0)
         rows, others, filled = _file(table, path, entries, clock)
-        given = Given(str(path), shut, others, readings.notes(str(path), filled, sum(x < clock.steps * clock.seconds for x in rows.begins)), filled)
-        if clock.taken and clock.latest >= max(86400, clock.steps * clock.seconds):
-            given.notes.append(f"{path}: it has rows of several days, and the study is of the first; `start` with a date picks another")
+        given = TableParts(
+            str(path),
+            shut,
+            others,
+            gaps.gap_notes(
+                str(path), filled, sum(x < clock.steps * clock.seconds for x in rows.begins)
+            ),
+            filled,
+        )
+        if clock.taken and clock.latest >= max(Fraction(86400), clock.steps * clock.seconds):
+            given.notes.append(
+                f"{path}: it has rows of several days, and the study is of the first; `start` with"
+                " a date picks another"
+            )
     for name in rows.names:
         if name in shut:
             raise table.fault(name, f"has 0 and a column in {given.where}; keep one")
@@ -178,8 +156,8 @@ def read(table: Table, folder: Path, default: str, entries: list[str], clock: Cl
     return given
 
 
-def file_name(table: Table, key: str, default: str | None = None) -> str:
-    """The name of a file in a table."""
+def get_file_name(table: TomlTable, key: str, default: str | None = None) -> str:
+    """Return the name of a file in a table."""
     name = table.text(key, default)
     if not name or "\0" in name:
         raise table.fault(key, f"is {name!r}, which is no name of a file")
@@ -190,29 +168,54 @@ def _is_zero(x: Any) -> bool:
     return isinstance(x, (int, Decimal, Fraction)) and not isinstance(x, bool) and x == 0
 
 
-def _inline(table: Table, kind: str, more: set[str], entries: list[str], clock: Clock) -> Rows:
-    """Columns that stand in the TOML file itself, as lists."""
+def _inline(
+    table: TomlTable, kind: str, more: set[str], entries: list[str], clock: Clock
+) -> TableRows:
+    """Return columns that stand in the TOML file itself, as lists."""
     unit = table.choice("unit", UNITS, "veh/h")
     named = {key: x for key, x in table.values.items() if key != kind and key not in more}
     for key, x in {kind: table.values[kind], **named}.items():
         if key != kind and key not in entries:
-            raise table.fault(key, f"is no column; columns are {', '.join(entries)}{like(key, entries)}")
-        if not (key != kind and _is_zero(x)) and (not isinstance(x, list) or len(x) != len(table.values[kind]) or not x):
-            raise table.fault(key, f"is {shown(x)}; it is a list as long as `{kind}`" + (", or 0" if key != kind and not isinstance(x, list) else ""))
+            raise table.fault(
+                key, f"is no column; columns are {', '.join(entries)}{suggest(key, entries)}"
+            )
+        if not (key != kind and _is_zero(x)) and (
+            not isinstance(x, list) or len(x) != len(table.values[kind]) or not x
+        ):
+            raise table.fault(
+                key,
+                f"is {show(x)}; it is a list as long as `{kind}`"
+                + (", or 0" if key != kind and not isinstance(x, list) else ""),
+            )
     named = {key: x for key, x in named.items() if isinstance(x, list)}
     begins = [clock.second(kind, str(x), f"{table.where}: `{kind}`") for x in table.values[kind]]
-    values = [[number(str(x[i]), f"{table.where}: number {i + 1} of `{key}`") for key, x in named.items()] for i in range(len(begins))]
-    return Rows(list(named), begins, values, [f"{table.where}: number {i + 1} of `{kind}`" for i in range(len(begins))], unit)
+    values = [
+        [
+            parse_count(str(x[i]), f"{table.where}: number {i + 1} of `{key}`")
+            for key, x in named.items()
+        ]
+        for i in range(len(begins))
+    ]
+    return TableRows(
+        list(named),
+        begins,
+        values,
+        [f"{table.where}: number {i + 1} of `{kind}`" for i in range(len(begins))],
+        unit,
+    )
 
 
 def _lines(path: Path) -> list[tuple[int, list[str]]]:
-    """The fields of each line of a CSV file that is neither empty nor a comment, with its number."""
+    """Return number and fields of each line of a CSV file that is neither empty nor a comment."""
     return _separated(path)[1]
 
 
 def _separated(path: Path) -> tuple[str, list[tuple[int, list[str]]]]:
-    """The separator of a CSV file, and the fields of each line that is neither empty nor a comment, with its number."""
-    text = inputs.read_text(path, MOST)
+    """Return the separator of a CSV file, and number and fields of each of its lines.
+
+    Lines that are empty or a comment are left out.
+    """
+    text = input_files.read_text(path, MOST)
     head = next((x for x in text.splitlines() if x.strip() and not x.lstrip().startswith("#")), "")
     fits = (x for x in "\t;," if _even(path, text, x))
     separator = next(fits, None) or max(",;\t", key=head.count)
@@ -220,7 +223,7 @@ def _separated(path: Path) -> tuple[str, list[tuple[int, list[str]]]]:
 
 
 def _even(path: Path, text: str, separator: str) -> bool:
-    """Whether the heading and the first row have as many fields, more than one, by this separator."""
+    """Return whether a separator gives heading and first row as many fields, more than one."""
     try:
         first = [len(row) for _, row in itertools.islice(_rows(path, text, separator), 2)]
     except StudyError:
@@ -241,18 +244,22 @@ def _rows(path: Path, text: str, separator: str) -> Iterator[tuple[int, list[str
 
 @dataclass
 class _Sheet:
-    """A CSV file: its headings as they are written and as what they stand for, its rows with their numbers, and where the times are."""
+    """A CSV file: its headings, its rows with their numbers, and where the times are.
+
+    Headings are kept as they are written and as what they stand for.
+    """
+
     path: Path
     separator: str
     written: list[str]
     heading: list[str]
     rows: list[tuple[int, list[str]]]
-    faults: Faults
+    faults: FaultList
     times: int = 0
     day: int | None = None  # the column of the days, where they have one of their own
 
     def second(self, row: list[str], number: int, clock: Clock) -> Fraction | None:
-        """When a row begins; None after a fault."""
+        """Return when a row begins; None after a fault."""
         text = row[self.times] if self.day is None else f"{row[self.day]} {row[self.times]}"
         try:
             return clock.second(self.heading[self.times], text, f"{self.path}, row {number}")
@@ -261,53 +268,90 @@ class _Sheet:
             return None
 
 
-def _file(table: Table, path: Path, entries: list[str], clock: Clock) -> tuple[Rows, list[str], list[Filled]]:
-    """The rows of a CSV file, the names in it that stand for nothing, and what was filled; all faults of the file are told at once."""
+def _file(
+    table: TomlTable, path: Path, entries: list[str], clock: Clock
+) -> tuple[TableRows, list[str], list[Filled]]:
+    """Return the rows of a CSV file, the names in it without a use, and what was filled.
+
+    All faults of the file are raised together.
+    """
     separator, found = _separated(path)
     if len(found) < 2:
-        raise StudyError(f"{path}: a heading and at least one row are needed; the first column is {', '.join(CLOCKS)}")
-    (_, written), rows, faults = found[0], found[1:], Faults(str(path))
+        raise StudyError(
+            f"{path}: a heading and at least one row are needed; the first column is"
+            f" {', '.join(CLOCKS)}"
+        )
+    (_, written), rows, faults = found[0], found[1:], FaultList(str(path))
     for number, row in rows:
         if len(row) != len(written):
             faults.add(number, f": {len(row)} fields under {len(written)} headings")
     rows = [(number, row) for number, row in rows if len(row) == len(written)]
     called = _called(table, entries)
-    sheet = _Sheet(path, separator, written, [_heading(x, i, called, entries) for i, x in enumerate(written)], rows, faults)
+    sheet = _Sheet(
+        path,
+        separator,
+        written,
+        [_heading(x, i, called, entries) for i, x in enumerate(written)],
+        rows,
+        faults,
+    )
     _find_times(sheet, called)
     places = _named(sheet.heading, written, called, [x for x in PLACES if x not in entries])
     if len(places) > 1:
-        raise StudyError(f"{path}: columns {', '.join(repr(written[i]) for i in places)} may all be places; `columns` says which one is, or leaves the others out")
-    grid, others = _detectors(sheet, places[0], table, called, entries, clock) if places else (_columns(sheet, table, called, entries, clock), [])
+        raise StudyError(
+            f"{path}: columns {', '.join(repr(written[i]) for i in places)} may all be places;"
+            " `columns` says which one is, or leaves the others out"
+        )
+    grid, others = (
+        _detectors(sheet, places[0], table, called, entries, clock)
+        if places
+        else (_columns(sheet, table, called, entries, clock), [])
+    )
     whole = not faults.found  # else a row that was left out may be what is lacking
-    out, filled = readings.read(grid, table.choice("gaps", readings.RULES) if "gaps" in table else None, clock, faults)
+    out, filled = gaps.fill_gaps(
+        grid, table.choice("gaps", gaps.RULES) if "gaps" in table else None, clock, faults
+    )
     for says in _lacking(out, clock) if whole and out.begins else ():
         faults.add(None, says)
     faults.check()
     return out, others, filled
 
 
-def _named(heading: list[str], written: list[str], called: Table, words: Collection[str]) -> list[int]:
-    """The columns with one of these headings: those that `columns` names, where it does."""
+def _named(
+    heading: list[str], written: list[str], called: TomlTable, words: Collection[str]
+) -> list[int]:
+    """Return the columns with one of these headings: those that `columns` names, where it does."""
     found = [i for i, x in enumerate(heading) if x in words]
     return [i for i in found if written[i] in called] or found
 
 
-def _columns(sheet: _Sheet, table: Table, called: Table, entries: list[str], clock: Clock) -> Grid:
-    """A spreadsheet's form: a column for each place."""
+def _columns(
+    sheet: _Sheet, table: TomlTable, called: TomlTable, entries: list[str], clock: Clock
+) -> Grid:
+    """Return a spreadsheet's form: a column for each place."""
     path, heading, written, faults = sheet.path, sheet.heading, sheet.written, sheet.faults
     for name in called.values:
         if name not in written:
-            raise called.fault(name, f"is no column of {path}{fitting(name, written)}")
+            raise called.fault(name, f"is no column of {path}{suggest_or_list(name, written)}")
     unit = table.choice("unit", UNITS, "veh/h")
     taken = {}
     for i, name in enumerate(heading):
         if i in (sheet.times, sheet.day) or name == LEFT_OUT:
             continue
         if name not in entries:
-            more = f"`columns` may say what it is, or columns = {{ {_key(name)} = \"{LEFT_OUT}\" }} that it is not looked at"
-            faults.add(None, f": column {shown(name)} is not one of {', '.join(entries)}{like(name, entries)}; {more}")
+            more = (
+                f'`columns` may say what it is, or columns = {{ {toml_key(name)} = "{LEFT_OUT}" }}'
+                " that it is ignored"
+            )
+            faults.add(
+                None,
+                (
+                    f": column {show(name)} is not one of"
+                    f" {', '.join(entries)}{suggest(name, entries)}; {more}"
+                ),
+            )
         elif name in taken:
-            faults.add(None, f": column {name!r} stands there twice")
+            faults.add(None, f": column {name!r} is there twice; keep one")
         else:
             taken[name] = i
     _marks(sheet, sheet.rows, list(taken.values()))
@@ -320,22 +364,38 @@ def _columns(sheet: _Sheet, table: Table, called: Table, entries: list[str], clo
         elif begin is not None:
             begins.append(begin)
             kept.append((number, row))
-    cells: dict[str, list] = {name: [(number, row[i]) for number, row in kept] for name, i in taken.items()}
-    return Grid(str(path), list(taken), {name: written[i] for name, i in taken.items()}, begins, [number for number, _ in kept], cells, unit)
+    cells: dict[str, list] = {
+        name: [(number, row[i]) for number, row in kept] for name, i in taken.items()
+    }
+    return Grid(
+        str(path),
+        list(taken),
+        {name: written[i] for name, i in taken.items()},
+        begins,
+        [number for number, _ in kept],
+        cells,
+        unit,
+    )
 
 
-def _called(table: Table, entries: list[str]) -> Table:
-    """The table `columns`: what names of the file stand for."""
-    called = Table(table.values.get("columns", {}), f"{table.where}: columns")
+def _called(table: TomlTable, entries: list[str]) -> TomlTable:
+    """Return the table `columns`: what names of the file stand for."""
+    called = TomlTable(table.values.get("columns", {}), f"{table.where}: columns")
     for name in called.values:
         if called.text(name) not in (*entries, *CLOCKS, DATE, *PLACES, *VALUES, LEFT_OUT):
-            words = f"it is one of {', '.join(entries)}, a heading ({', '.join((*CLOCKS, DATE, *PLACES, *VALUES))}), or {LEFT_OUT!r}"
-            raise called.fault(name, f"is {shown(called.values[name])}; {words}{like(called.text(name), entries)}")
+            words = (
+                f"it is one of {', '.join(entries)}, a heading"
+                f" ({', '.join((*CLOCKS, DATE, *PLACES, *VALUES))}), or {LEFT_OUT!r}"
+            )
+            raise called.fault(
+                name,
+                f"is {show(called.values[name])}; {words}{suggest(called.text(name), entries)}",
+            )
     return called
 
 
-def _heading(word: str, i: int, called: Table, entries: list[str]) -> str:
-    """What a column's heading stands for."""
+def _heading(word: str, i: int, called: TomlTable, entries: list[str]) -> str:
+    """Return what a column's heading means."""
     if word in called:
         return called.values[word]
     lower = word.lower()
@@ -344,69 +404,117 @@ def _heading(word: str, i: int, called: Table, entries: list[str]) -> str:
     return lower if lower in (*CLOCKS, DATE, *PLACES, *VALUES) else word
 
 
-def _find_times(sheet: _Sheet, called: Table) -> None:
-    """Where the times are: where `columns` or a heading says so, or in the only column of clock times; and where their days are."""
+def _find_times(sheet: _Sheet, called: TomlTable) -> None:
+    """Find the columns of the times and of their days.
+
+    `columns` or a heading names them; otherwise the only column of clock times is taken.
+    """
     path, heading, written = sheet.path, sheet.heading, sheet.written
     found = _named(heading, written, called, CLOCKS)
     if not found:
-        found = _looking(sheet, lambda x: _MOMENT.fullmatch(x) is not None)
+        found = _looking(sheet, lambda x: MOMENT.fullmatch(x) is not None)
         for i in found if len(found) == 1 else ():
             heading[i] = "time"
     if found and (found[0] == 0 and heading[0] in CLOCKS or len(found) == 1):
         sheet.times = found[0]
     elif found:
-        more = f"put one first, or leave the others out by `columns`, as columns = {{ {_key(written[found[0]])} = \"time\" }}"
-        raise StudyError(f"{path}: columns {', '.join(repr(written[i]) for i in found)} are all times; {more}")
+        more = (
+            "put one first, or leave the others out by `columns`, as columns = {"
+            f' {toml_key(written[found[0]])} = "time" }}'
+        )
+        raise StudyError(
+            f"{path}: columns {', '.join(repr(written[i]) for i in found)} are all times; {more}"
+        )
     else:
-        more = f"`columns` may say which one is, as columns = {{ {_key(written[0])} = \"time\" }}"
-        raise StudyError(f"{path}: the first column is {shown(written[0])}; it is {', '.join(CLOCKS)}; {more}")
-    days = _named(heading, written, called, [DATE]) or _looking(sheet, lambda x: re.fullmatch(_DAY, x) is not None)
-    if days and heading[sheet.times] == "time" and sheet.rows and re.match(rf"(?:{_DAY})(?:T| )", sheet.rows[0][1][sheet.times]) is None:
+        more = f'`columns` may say which one is, as columns = {{ {toml_key(written[0])} = "time" }}'
+        raise StudyError(
+            f"{path}: the first column is {show(written[0])}; it is {', '.join(CLOCKS)}; {more}"
+        )
+    days = _named(heading, written, called, [DATE]) or _looking(
+        sheet, lambda x: re.fullmatch(DAY, x) is not None
+    )
+    if (
+        days
+        and heading[sheet.times] == "time"
+        and sheet.rows
+        and re.match(rf"(?:{DAY})(?:T| )", sheet.rows[0][1][sheet.times]) is None
+    ):
         sheet.day = days[0]
 
 
 def _looking(sheet: _Sheet, fits: Callable[[str], bool]) -> list[int]:
-    """The columns without a name of the study in which most of the first rows look so."""
+    """Return the columns without a name of the study in which most of the first rows look so."""
     first = [row for _, row in sheet.rows[:100]]
-    return [i for i, x in enumerate(sheet.heading) if x != LEFT_OUT and first and 2 * sum(fits(row[i]) for row in first) > len(first)]
+    return [
+        i
+        for i, x in enumerate(sheet.heading)
+        if x != LEFT_OUT and first and 2 * sum(fits(row[i]) for row in first) > len(first)
+    ]
 
 
-def _key(name: str) -> str:
-    """A name as a key of TOML."""
+def toml_key(name: str) -> str:
+    """Return a name as a key of TOML."""
     return name if re.fullmatch(r"[A-Za-z0-9_-]+", name) else f'"{name[:40]}"'
 
 
 def _marks(sheet: _Sheet, rows: list[tuple[int, list[str]]], columns: list[int]) -> None:
-    """A fault where a point or a comma may set thousands apart, and no number of the file shows that it does not."""
+    """Add a fault where a point or comma may set thousands apart and the file does not show it."""
     marked: dict[str, list[tuple[str, int, str]]] = {",": [], ".": []}
     for number, row in rows:
         for i in columns:
             text = row[i]
             if "," in text or "." in text:
-                marked["," if "," in text else "."].append((text, number, f", column {sheet.written[i]!r}"))
+                marked["," if "," in text else "."].append(
+                    (text, number, f", column {sheet.written[i]!r}")
+                )
     if marked[","] and marked["."]:
         text, number, where = marked["."][0]
-        sheet.faults.add(number, f"{where} is {shown(text)}, with a point, and other numbers have a comma, as {shown(marked[','][0][0])}: keep one of the two, as decimal mark")
+        sheet.faults.add(
+            number,
+            (
+                f"{where} is {show(text)}, with a point, and other numbers have a comma, as"
+                f" {show(marked[','][0][0])}: keep one of the two, as decimal mark"
+            ),
+        )
         return
     for mark, found in marked.items():
-        if found and (mark == "," or sheet.separator != ",") and all(re.fullmatch(r"[1-9][0-9]{0,2}([.,][0-9]{3})+", text) for text, _, _ in found):
+        if (
+            found
+            and (mark == "," or sheet.separator != ",")
+            and all(re.fullmatch(r"[1-9][0-9]{0,2}([.,][0-9]{3})+", text) for text, _, _ in found)
+        ):
             text, number, where = found[0]
             word = "comma" if mark == "," else "point"
-            sheet.faults.add(number, f"{where} is {text}: the {word} may set thousands apart or be the decimal mark; write {text.replace(mark, '')} or {text}0")
+            sheet.faults.add(
+                number,
+                (
+                    f"{where} is {text}: the {word} may set thousands apart or be the decimal mark;"
+                    f" write {text.replace(mark, '')} or {text}0"
+                ),
+            )
 
 
-def _detectors(sheet: _Sheet, at: int, table: Table, called: Table, entries: list[str], clock: Clock) -> tuple[Grid, list[str]]:
-    """A detector's form: a row for each time and place, with a count or a flow; other columns are not looked at."""
+def _detectors(
+    sheet: _Sheet, at: int, table: TomlTable, called: TomlTable, entries: list[str], clock: Clock
+) -> tuple[Grid, list[str]]:
+    """Return a detector's form: a row for each time and place, with a count or a flow.
+
+    Other columns are not looked at.
+    """
     path, (what, unit) = sheet.path, _value(sheet, at, table, called)
     stands = _stands(sheet, at, called, entries)
-    named = any(x in stands and name in (*entries, LEFT_OUT) for x, name in called.values.items())  # then detectors without a name are not looked at
+    named = any(
+        x in stands and name in (*entries, LEFT_OUT) for x, name in called.values.items()
+    )  # then detectors without a name are ignored
     kept = []
     for number, row in sheet.rows:
         if stands[row[at]] in entries:
             kept.append((number, row))
         elif not named:
-            more = f"`columns` may say which detector stands for which{like(row[at], entries)}"
-            sheet.faults.add(number, f": {shown(row[at])} is not one of {', '.join(entries)}; {more}")
+            more = f"`columns` can name what each detector counts{suggest(row[at], entries)}"
+            sheet.faults.add(
+                number, f": {show(row[at])} is not one of {', '.join(entries)}; {more}"
+            )
     _marks(sheet, kept, [what])
     found: dict[str, dict[Fraction, tuple[int, str]]] = {}
     where: dict[Fraction, int] = {}
@@ -421,36 +529,67 @@ def _detectors(sheet: _Sheet, at: int, table: Table, called: Table, entries: lis
     begins, names = sorted(where), [x for x in entries if x in found]
     cells = {name: [found[name].get(begin) for begin in begins] for name in names}
     others = [x for x, name in stands.items() if name not in entries]
-    return Grid(str(path), names, dict.fromkeys(names, sheet.written[what]), begins, [where[x] for x in begins], cells, unit), others
+    return (
+        Grid(
+            str(path),
+            names,
+            dict.fromkeys(names, sheet.written[what]),
+            begins,
+            [where[x] for x in begins],
+            cells,
+            unit,
+        ),
+        others,
+    )
 
 
-def _stands(sheet: _Sheet, at: int, called: Table, entries: list[str]) -> dict[str, str]:
-    """What each detector of a file stands for; every name in `columns` is a heading or a detector."""
+def _stands(sheet: _Sheet, at: int, called: TomlTable, entries: list[str]) -> dict[str, str]:
+    """Return what each detector of a file counts.
+
+    Every name in `columns` is a heading or a detector.
+    """
     seen = dict.fromkeys(row[at] for _, row in sheet.rows)
     words = (*entries, LEFT_OUT)
     for name, x in called.values.items():
         if name not in seen and (x in entries or name not in sheet.written):
-            raise called.fault(name, f"is no {sheet.heading[at]} in {sheet.path}{fitting(name, seen)}")
+            raise called.fault(
+                name, f"is no {sheet.heading[at]} in {sheet.path}{suggest_or_list(name, seen)}"
+            )
     return {x: called.values[x] if called.values.get(x) in words else x for x in seen}
 
 
-def _value(sheet: _Sheet, place: int, table: Table, called: Table) -> tuple[int, str]:
-    """Which column has a detector's numbers, and their unit."""
+def _value(sheet: _Sheet, place: int, table: TomlTable, called: TomlTable) -> tuple[int, str]:
+    """Return which column has a detector's numbers, and their unit."""
     heading, found = sheet.heading, _named(sheet.heading, sheet.written, called, VALUES)
     if "unit" in table and len(found) > 1:
         found = [i for i in found if VALUES[heading[i]] == table.choice("unit", UNITS)]
     if len(found) > 1:
-        raise StudyError(f"{sheet.path}: columns {', '.join(heading[i] for i in found)} may all be the numbers; `unit` (\"veh/h\" or \"count\") or `columns` says which are")
+        raise StudyError(
+            f"{sheet.path}: columns {', '.join(heading[i] for i in found)} may all be the numbers;"
+            ' `unit` ("veh/h" or "count") or `columns` says which are'
+        )
     if not found:
-        others = [x for i, x in enumerate(sheet.written) if i not in (place, sheet.times, sheet.day) and heading[i] != LEFT_OUT]
-        more = f"; `columns` may say which one has the numbers, as columns = {{ {_key(others[0])} = \"count\" }}" if others else ""
+        others = [
+            x
+            for i, x in enumerate(sheet.written)
+            if i not in (place, sheet.times, sheet.day) and heading[i] != LEFT_OUT
+        ]
+        more = (
+            "; `columns` may say which one has the numbers, as columns = {"
+            f' {toml_key(others[0])} = "count" }}'
+            if others
+            else ""
+        )
         unit = f" of unit {table.values['unit']!r}" if "unit" in table else ""
-        raise StudyError(f"{sheet.path}: beside `{heading[place]}` there is no column {', '.join(VALUES)}{unit}{more}")
+        raise StudyError(
+            f"{sheet.path}: beside `{heading[place]}` there is no column"
+            f" {', '.join(VALUES)}{unit}{more}"
+        )
     return found[0], table.choice("unit", UNITS, VALUES[heading[found[0]]])
 
 
-def _steps(rows: Rows, clock: Clock) -> dict[str, np.ndarray]:
-    """Whole parts of each step, from rows that begin anywhere."""
+def _steps(rows: TableRows, clock: Clock) -> dict[str, np.ndarray]:
+    """Return whole parts of each step, from rows that begin anywhere."""
     if not rows.begins:
         return {}
     for k in range(1, len(rows.begins)):
@@ -459,55 +598,101 @@ def _steps(rows: Rows, clock: Clock) -> dict[str, np.ndarray]:
     for says in _lacking(rows, clock):
         raise StudyError(says)
     ends = rows.begins[1:] + [_end(rows, clock)]
-    a_second = {"veh/h": Fraction(1000, 3600), "veh": 1000 / clock.seconds, "parts": 1 / clock.seconds}
+    a_second = {
+        "veh/h": Fraction(1000, 3600),
+        "veh": 1000 / clock.seconds,
+        "parts": 1 / clock.seconds,
+    }
     edges = [k * clock.seconds for k in range(clock.steps + 1)]
     out = {}
     for j, name in enumerate(rows.names):
-        rates = [v[j] * (a_second[rows.unit] if rows.unit != "count" else 1000 / (e - b)) for v, b, e in zip(rows.values, rows.begins, ends)]
+        rates = [
+            v[j] * (a_second[rows.unit] if rows.unit != "count" else 1000 / (e - b))
+            for v, b, e in zip(rows.values, rows.begins, ends)
+        ]
         sums = _running(rates, rows.begins, edges)
         parts = [int(b) - int(a) for a, b in zip(sums, sums[1:])]
         if max(parts) > engine.RATE:
-            k, file = parts.index(max(parts)), re.split(", row [0-9]|: number [0-9]", rows.places[0])[0]
-            raise StudyError(f"{file}: {name!r} has {float(Fraction(max(parts), 1000)):,.1f} vehicles in step {k}; a step takes at most {engine.RATE // 1000:,}")
+            k, file = (
+                parts.index(max(parts)),
+                re.split(", row [0-9]|: number [0-9]", rows.places[0])[0],
+            )
+            raise StudyError(
+                f"{file}: {name!r} has {float(Fraction(max(parts), 1000)):,.1f} vehicles in step"
+                f" {k}; a step takes at most {engine.RATE // 1000:,}"
+            )
         out[name] = np.array(parts, np.uint32)
     return out
 
 
-def _lacking(rows: Rows, clock: Clock) -> list[str]:
-    """What rows lack to say what comes in every step."""
+def _lacking(rows: TableRows, clock: Clock) -> list[str]:
+    """Return what rows lack to say what comes in every step."""
     out = []
     if rows.begins[0] > 0:
-        out.append(f"{rows.places[0]}: the first row begins {float(rows.begins[0]):g} s after step 0; step 0 needs a row")
+        out.append(
+            f"{rows.places[0]}: the first row begins {float(rows.begins[0]):g} s after step 0; step"
+            " 0 needs a row"
+        )
     if rows.unit == "count" and len(rows.begins) == 1:
-        return [*out, f"{rows.places[0]}: nothing says how long the only row of counts is; add a row where it ends"]
+        return [
+            *out,
+            (
+                f"{rows.places[0]}: nothing says how long the only row of counts is; add a row"
+                " where it ends"
+            ),
+        ]
     if rows.unit == "count" and (end := _end(rows, clock)) < clock.steps * clock.seconds:
         whole = f"{clock.steps} steps last {float(clock.steps * clock.seconds):g} s"
-        out.append(f"{rows.places[-1]}: counts end {float(end):g} s after the beginning of step 0; {whole}")
+        out.append(
+            f"{rows.places[-1]}: counts end {float(end):g} s after the beginning of step 0; {whole}"
+        )
     return out
 
 
-def _end(rows: Rows, clock: Clock) -> Fraction:
-    """Where the last row ends: a rate at the end of the study, a count after as long as the row before it."""
+def _end(rows: TableRows, clock: Clock) -> Fraction:
+    """Return where the last row ends.
+
+    A rate at the end of the study, a count after as long as the row before it.
+    """
     end = clock.steps * clock.seconds
-    return max(end, rows.begins[-1] + 1) if rows.unit != "count" else 2 * rows.begins[-1] - rows.begins[-2]
+    return (
+        max(end, rows.begins[-1] + 1)
+        if rows.unit != "count"
+        else 2 * rows.begins[-1] - rows.begins[-2]
+    )
 
 
-def _gaps(rows: Rows, clock: Clock) -> list[str]:
-    """Notes on rows that may be missing: rates of which all begin before the study, and counts within it that differ in length."""
+def _gaps(rows: TableRows, clock: Clock) -> list[str]:
+    """Return notes on rows that may be missing.
+
+    Rates of which all begin before the study, and counts within it that differ in length.
+    """
     if rows.unit != "count":
         if len(rows.begins) < 2 or rows.begins[-1] >= 0:
             return []
-        return [f"{rows.places[-1]}: it is the last row and begins {float(-rows.begins[-1]):g} s before step 0; its numbers are those of every step"]
+        return [
+            f"{rows.places[-1]}: it is the last row and begins {float(-rows.begins[-1]):g} s before"
+            " step 0; its numbers are those of every step"
+        ]
     end = clock.steps * clock.seconds
-    spans = [(b - a, place) for a, b, place in zip(rows.begins, rows.begins[1:], rows.places) if b > 0 and a < end]
+    spans = [
+        (b - a, place)
+        for a, b, place in zip(rows.begins, rows.begins[1:], rows.places)
+        if b > 0 and a < end
+    ]
     if not spans or min(spans)[0] == max(spans)[0]:
         return []
     (short, _), (long, place) = min(spans), max(spans, key=lambda x: x[0])
-    return [f"{place}: its count is spread over {float(long):g} s, and other rows last {float(short):g} s"]
+    return [
+        f"{place}: its count is spread over {float(long):g} s, and other rows last"
+        f" {float(short):g} s"
+    ]
 
 
-def _running(rates: list[Fraction], begins: list[Fraction], edges: list[Fraction]) -> list[Fraction]:
-    """The running sum at each edge, from the first edge on."""
+def _running(
+    rates: list[Fraction], begins: list[Fraction], edges: list[Fraction]
+) -> list[Fraction]:
+    """Return the running sum at each edge, from the first edge on."""
     sums, total, i = [], Fraction(0), 0
     last = edges[0]
     for edge in edges:

@@ -1,7 +1,10 @@
-"""Processes of this machine that run studies, each by a pipe of its own, so that one that dies takes nobody with it.
+"""Processes of this machine that run studies, each by a pipe of its own.
 
-The studies of a process that dies (killed, or out of memory) are run again, one by one; a study at which two have died is given as
-lost, and the others go on. When the parent ends, however it does, its processes end too.
+One that dies takes no other with it.
+
+The studies of a process that dies (killed, or out of memory) are run again, one by one; a study at
+which two have died is given as lost, and the others go on. When the parent ends, however it does,
+its processes end too.
 """
 import multiprocessing
 import os
@@ -27,7 +30,7 @@ Run = Callable[[list[Any]], list[Any]]
 
 
 def processors() -> int:
-    """How many processors this process may use."""
+    """Return how many processors this process may use."""
     return len(os.sched_getaffinity(0)) if hasattr(os, "sched_getaffinity") else os.cpu_count() or 1
 
 
@@ -38,18 +41,25 @@ class Batches:
         self.studies, self.seconds, self.size, self.each = iter(studies), seconds, 1, 0.0
 
     def next(self) -> list[Any]:
-        """The next task's studies; none at the end."""
+        """Return the next task's studies; none at the end."""
         return list(islice(self.studies, self.size))
 
     def took(self, count: int, seconds: float) -> None:
-        """So many studies took so long; each later task has at most four times as many as this one."""
+        """Note that so many studies took so many seconds.
+
+        Each later task has at most four times as many as this one.
+        """
         self.each = seconds / count
         wanted = int(self.seconds / self.each) if self.each > 0 else MOST
         self.size = max(1, min(wanted, 4 * max(count, self.size), MOST))
 
 
 class Piece(NamedTuple):
-    """A task, or a part of one that is run again: the task's number, where the part begins, its studies, and who died at it."""
+    """A task, or a part of one that is run again.
+
+    The task's number, where the part begins, its studies, and who died at it.
+    """
+
     number: int
     at: int
     studies: list[Any]
@@ -63,9 +73,13 @@ class _Worker:
         context = multiprocessing.get_context("fork")
         self.pipe, theirs = context.Pipe()
         self.piece: Piece | None = None
-        was = signal.pthread_sigmask(signal.SIG_BLOCK, SIGNALS)  # until the process has handlers of its own
+        was = signal.pthread_sigmask(
+            signal.SIG_BLOCK, SIGNALS
+        )  # until the process has handlers of its own
         try:
-            self.process = context.Process(target=_serve, args=(theirs, [self.pipe, *others], run, os.getpid()), daemon=True)
+            self.process = context.Process(
+                target=_serve, args=(theirs, [self.pipe, *others], run, os.getpid()), daemon=True
+            )
             self.process.start()
         except BaseException:
             self.pipe.close()
@@ -81,8 +95,13 @@ class _Worker:
 
 
 def _serve(pipe: Connection, others: list[Connection], run: Run, parent: int) -> None:
-    """A process's work: a task by the pipe, its answer with the seconds it took, until the pipe is closed or the parent is gone."""
-    signal.signal(signal.SIGINT, signal.SIG_IGN)  # Ctrl-C is for the parent, which ends its processes
+    """Serve tasks: take one from the pipe, send its answer and its seconds.
+
+    It ends when the pipe is closed or the parent is gone.
+    """
+    signal.signal(
+        signal.SIGINT, signal.SIG_IGN
+    )  # Ctrl-C is for the parent, which ends its processes
     signal.signal(signal.SIGTERM, signal.SIG_DFL)
     signal.pthread_sigmask(signal.SIG_UNBLOCK, SIGNALS)
     for other in others:
@@ -100,17 +119,21 @@ def _serve(pipe: Connection, others: list[Connection], run: Run, parent: int) ->
 
 
 def _watch(parent: int) -> None:
-    """Ends this process when its parent is gone, also in the midst of a long study."""
+    """End this process when its parent is gone, also in the midst of a long study."""
     while os.getppid() == parent:
         time.sleep(PATROL)
     os._exit(1)
 
 
 class Workers:
-    """So many processes that run tasks; `lost` gives the answer of a study at which processes die."""
+    """So many processes that run tasks.
+
+    `lost` gives the answer of a study at which processes die.
+    """
 
     def __init__(self, count: int, run: Run, lost: Callable[[Any, str], Any]) -> None:
-        self.run, self.lost, self.workers = run, lost, []
+        self.run, self.lost = run, lost
+        self.workers: list[_Worker] = []
         try:
             for _ in range(count):
                 self._start()
@@ -125,29 +148,29 @@ class Workers:
         self.close()
 
     def close(self) -> None:
-        """Ends all processes."""
+        """End all processes."""
         while self.workers:
             self.workers.pop().end()
 
     def _start(self) -> None:
-        """One more process; where the system has no room for it, there are fewer."""
+        """Start one more process; where the system has no room for it, there are fewer."""
         with suppress(OSError):
             self.workers.append(_Worker(self.run, [w.pipe for w in self.workers]))
 
     def map(self, batches: Batches) -> Iterator[list[Any]]:
-        """The answers of all studies, task by task in their order."""
+        """Return the answers of all studies, task by task in their order."""
         tasks = _Tasks(batches)
         while not tasks.over:
             self._give(tasks)
             if not self.workers and (p := tasks.next()):  # no process can be had
                 tasks.answered(p, self.run(p.studies))
-            busy = {w.pipe: w for w in self.workers if w.piece is not None}
+            busy: dict[Any, _Worker] = {w.pipe: w for w in self.workers if w.piece is not None}
             for pipe in wait(list(busy)) if busy else ():
                 self._take(busy[pipe], tasks)
-            yield from tasks.told()
+            yield from tasks.finished()
 
     def _give(self, tasks: "_Tasks") -> None:
-        """A task for each process that has none."""
+        """Give a task to each process that has none."""
         for w in [w for w in self.workers if w.piece is None]:
             w.piece = tasks.next()
             if w.piece is None:
@@ -158,7 +181,7 @@ class Workers:
                 self._died(w, tasks)
 
     def _take(self, w: _Worker, tasks: "_Tasks") -> None:
-        """The answer of a process, or what becomes of its studies where it has died."""
+        """Take the answer of a process; where it has died, plan its studies again."""
         try:
             seconds, found = w.pipe.recv()
         except (EOFError, OSError):
@@ -167,11 +190,15 @@ class Workers:
             raise found
         answers = pickle.loads(found)
         tasks.batches.took(len(answers), seconds)
-        tasks.answered(w.piece, answers)
+        if w.piece is not None:
+            tasks.answered(w.piece, answers)
         w.piece = None
 
     def _died(self, w: _Worker, tasks: "_Tasks") -> None:
-        """Another process in its place, and its studies again, each by itself; one at which others died before is lost."""
+        """Replace a process that died, and plan its studies again, one by one.
+
+        A study at which others died before is lost.
+        """
         w.process.join(1)
         self.workers.remove(w)
         w.end()
@@ -184,7 +211,7 @@ class Workers:
 
 
 class _Tasks:
-    """Tasks that are given out, those to be run again, and the answers, which are told in the tasks' order."""
+    """Tasks that are given out, those to be run again, and answers in the tasks' order."""
 
     def __init__(self, batches: Batches) -> None:
         self.batches, self.again = batches, deque[Piece]()
@@ -195,11 +222,11 @@ class _Tasks:
 
     @property
     def over(self) -> bool:
-        """Whether all answers are told."""
+        """Whether all answers are given."""
         return not self.more and self.done == self.given
 
     def next(self) -> Piece | None:
-        """What is to be run next, if anything is."""
+        """Return what is to be run next, if anything is."""
         if self.again:
             return self.again.popleft()
         studies = self.batches.next() if self.more and self.given - self.done < AHEAD else None
@@ -211,16 +238,19 @@ class _Tasks:
         return Piece(number, 0, studies)
 
     def alone(self, p: Piece) -> list[Piece]:
-        """A piece's studies one by one; a death counts for a study that was alone."""
-        return [Piece(p.number, p.at + k, [x], p.deaths + (len(p.studies) == 1)) for k, x in enumerate(p.studies)]
+        """Return a piece's studies one by one; a death counts for a study that was alone."""
+        return [
+            Piece(p.number, p.at + k, [x], p.deaths + (len(p.studies) == 1))
+            for k, x in enumerate(p.studies)
+        ]
 
     def answered(self, p: Piece, found: list[Any]) -> None:
-        """Keeps the answers of a piece."""
+        """Keep the answers of a piece."""
         self.answers[p.number][p.at : p.at + len(found)] = found
         self.missing[p.number] -= len(found)
 
-    def told(self) -> Iterator[list[Any]]:
-        """The answers of the next tasks that are whole."""
+    def finished(self) -> Iterator[list[Any]]:
+        """Return the answers of the next tasks that are whole."""
         while self.done < self.given and not self.missing[self.done]:
             del self.missing[self.done]
             self.done += 1
@@ -228,7 +258,7 @@ class _Tasks:
 
 
 def _why(code: int | None) -> str:
-    """How a process ended, in words."""
+    """Return how a process ended, in words."""
     if code is not None and code < 0:
         try:
             return f"by {signal.Signals(-code).name}"

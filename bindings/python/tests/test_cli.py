@@ -9,7 +9,10 @@ from fractions import Fraction
 
 import numpy as np
 import pytest
-from nobyaluk import Gate, Study, __version__, cells, cli, engine, load, summary
+import text_form
+from nobyaluk import Gate, Study, __version__, cells, engine, load, summary
+from nobyaluk.cli.entry import COMMANDS
+from nobyaluk.refusals import meaning
 
 
 def test_run_says_who_waits_where(examples, told):
@@ -49,7 +52,7 @@ def test_csv(examples, told, tmp_path):
 
 
 def test_judge(examples, told, tmp_path):
-    status, out, _ = told("judge", examples / "classroom.rec", examples / "classroom-cut.schedule.txt", "--seconds", 36)
+    status, out, _ = told("judge", examples / "classroom.rec", examples / "classroom-cut.schedule.csv", "--seconds", 36)
     assert (status, out) == (0, "accepted total 8123346 gate 1756916 road 6366430 ramp 0 exits 627782\n"
                                 "  81.23 vehicle-hours, where the engine's run has 30.00: it loses 51.23 (+170.8 %)\n"
                                 "  it departs first at step 10, 6:00 min, cell 2: it sends 0.000 vehicles, and 20.000 could go\n")
@@ -60,18 +63,19 @@ def test_judge(examples, told, tmp_path):
 
 
 def test_judge_names_the_first_broken_rule(examples, told, tmp_path):
-    record, path = examples / "printed-run.rec", tmp_path / "s.txt"
-    status, out, err = told("judge", record, examples / "printed-run-934.schedule.txt")
+    record, path = examples / "printed-run.rec", tmp_path / "s.csv"
+    path.write_text(text_form.schedule_csv(examples / "printed-run-934.schedule.txt", 2))
+    status, out, err = told("judge", record, path)
     assert (status, out) == (1, "") and "refused 14: step 1, cell 1: an outflow that lets too much into the next cell (the outflow is 934; the greatest that fits is 933," in err
-    path.write_text("2001 0 0\n0 0 0\n0 0 0\n")
+    path.write_text("2001,0,0\n0,0,0\n0,0,0\n")
     assert "refused 13: step 0, the gate: an outflow above the demand of its place (the outflow is 2001; the place can send 2000," in told("judge", record, path)[2]
-    path.write_text("1501 0 0\n0 0 0\n0 0 0\n")
+    path.write_text("1501,0,0\n0,0,0\n0,0,0\n")
     assert "the outflow is 1501; the greatest that fits is 1500" in told("judge", record, path)[2]
-    path.write_text("1 2 3\n")
+    path.write_text("1,2,3\n")
     assert "(3 steps of 3 outflows are 9; the schedule has 3)" in told("judge", record, path)[2]
-    path.write_text("1 2 x\n")
+    path.write_text("1,2,x\n")
     assert told("judge", record, path)[0] == 2
-    path.write_text("0 0 0\n" * 2)
+    path.write_text("0,0,0\n" * 2)
     status, _, err = told("judge", examples / "refused-09-release-above-queue.rec", path)
     assert status == 1 and re.search(r"refused 9: step 1, cell 2: .*\(the release is \d+; \d+ wait and \d+ arrive", err)
 
@@ -119,9 +123,9 @@ def test_street(examples, told, tmp_path):
     assert together.max() == 7000 and (south.record.rows[:, 8] >= np.minimum(1667, together - north.record.rows[:, 8])).all()
     assert north.run().queue.max() == 0 < south.run().queue.max()  # the first has what it wishes, the second waits
     (tmp_path / "street.toml").write_text("limit = 100\n" + ramp.format("north") + ramp.format("south"))
-    assert told("street", tmp_path / "street.toml")[::2] == (1, f"nobyaluk: refused 24: {engine.MEANING[24]}\n")
+    assert told("street", tmp_path / "street.toml")[::2] == (1, f"nobyaluk: refused 24: {meaning(24, 'grant').words}\n")
     (tmp_path / "street.toml").write_text("limit = 100\n" + ramp.format("north") + ramp.format("north"))
-    assert "which stands there already" in told("street", tmp_path / "street.toml")[2]
+    assert "which is there already" in told("street", tmp_path / "street.toml")[2]
 
 
 def test_join(examples, told, tmp_path):
@@ -129,15 +133,15 @@ def test_join(examples, told, tmp_path):
     both = tmp_path / "both.rec"
     assert told("join", up, down, "--share", 890, "-o", both) == (0, f"{both}: 21 cells, 9 and 12; 378 steps, 65,536 bytes\n", "")
     assert both.read_bytes() == whole.read_bytes()
-    assert told("join", up.with_suffix(".txt"), down.with_suffix(".txt"), "--share", 889, "-o", both)[0] == 0
+    assert told("join", up, down, "--share", 889, "-o", both, "--force")[0] == 0
     assert both.read_bytes() != whole.read_bytes()
     pair = f"{down} and {up}"
     assert told("join", down, up, "--share", 0, "-o", both)[::2] == (
-        1, f"nobyaluk: {pair}: refused 21: {engine.MEANING[21]} (queue 15.000, arrivals 6,030.000 vehicles)\n")
+        1, f"nobyaluk: {pair}: refused 21: {meaning(21, 'join').words} (queue 15.000, arrivals 6,030.000 vehicles)\n")
     assert "(378 steps of version 1; 377 steps of version 2, 20 s each)" in told("join", up, examples / "rocade-sud-seconds.rec", "--share", 0, "-o", both)[2]
     assert "(21 and 12 cells, 378 steps)" in told("join", whole, down, "--share", 0, "-o", both)[2]
     refused = examples / "refused-05-held-above-jam.rec"
-    assert told("join", up, refused, "--share", 0, "-o", both)[::2] == (1, f"nobyaluk: {refused}: refused 5: place 2: {engine.MEANING[5]}\n")
+    assert told("join", up, refused, "--share", 0, "-o", both)[::2] == (1, f"nobyaluk: {refused}: refused 5: cell 2: {meaning(5, 'read').words}\n")
     for share in ("0.8905", "1001", "-1", "x"):
         assert told("join", up, down, f"--share={share}", "-o", both)[0] == 2
     assert told("join", up, down, "--share", "0.89", "-o", both)[0] == 0 and both.read_bytes() == whole.read_bytes()
@@ -155,9 +159,9 @@ def test_load(examples, told, tmp_path):
     lines = (tmp_path / "a.csv").read_text().splitlines()
     assert lines[:4] == ["step,gate,Mill Street", f"0,236,{lines[1].split(',')[2]}", f"1,278,{lines[2].split(',')[2]}", f"2,820,{lines[3].split(',')[2]}"]
     (tmp_path / "b.toml").write_text(f'base = "{path}"\n[arrivals]\nfile = "a.csv"\nunit = "parts"\n')
-    gate, last = engine.load(0, 1000, 225)
+    gate, last = engine.stated_load(0, 1000, 225)
     assert (load(tmp_path / "b.toml").record.rows[:, 0] == gate).all()
-    assert (load(tmp_path / "b.toml").record.rows[:, 7] == engine.load(last, 500, 225)[0]).all()
+    assert (load(tmp_path / "b.toml").record.rows[:, 7] == engine.stated_load(last, 500, 225)[0]).all()
     assert told("load", path, "--seed", 1, "--peak", 180_001)[::2] == (2, "nobyaluk: --peak is 180001; it is 0 to 180,000 veh/h, 1,000 vehicles a step\n")
     assert told("load", path, "--seed", "x", "--peak", 1)[0] == told("load", path, "--seed", 1 << 32, "--peak", 1)[0] == 2
 
@@ -168,14 +172,15 @@ def test_exercise(examples, told):
         status, out, err = told("exercise", examples / name)
         assert (status, err) == (0, "") and out == told("run", examples / name, "--listing")[1]
     for name in ("rocade-sud.rec", "studies/rocade-sud.toml"):
-        assert told("exercise", examples / name) == (1, "refused 26 0 0\n", f"nobyaluk: {examples}/{name}: refused 26: {engine.MEANING[26]}\n")
+        assert told("exercise", examples / name) == (1, "refused 26 0 0\n", f"nobyaluk: {examples}/{name}: refused 26: {meaning(26, 'read_within').words}\n")
     assert told("exercise", examples / "printed-run.rec", "--cells", 1)[1] == "refused 26 0 0\n"
     assert told("exercise", examples / "refused-09-release-above-queue.rec")[:2] == (1, "refused 9 1 2\n")
 
 
 def test_fill_and_convert(examples, told, tmp_path):
-    laws = examples / "rocade-sud-alinea.laws.txt"
-    assert told("fill", examples / "rocade-sud.rec", laws, "-o", tmp_path / "f.rec", "--seconds", 20)[0] == 0
+    laws = text_form.laws_toml(examples / "rocade-sud-alinea.laws.txt")
+    (tmp_path / "laws.toml").write_text(f'record = "{examples}/rocade-sud.rec"\nstep = 20\n{laws}')
+    assert told("fill", tmp_path / "laws.toml", "-o", tmp_path / "f.rec")[0] == 0
     assert (tmp_path / "f.rec").read_bytes() == (examples / "rocade-sud-alinea.rec").read_bytes() and load(tmp_path / "f.toml").laws
     assert told("fill", examples / "studies/rocade-sud-alinea.toml", "-o", tmp_path / "g.rec")[0] == 0
     assert told("convert", examples / "studies/rocade-sud-alinea.toml", tmp_path / "h.rec")[0] == 0
@@ -213,7 +218,7 @@ def test_statuses(examples, told, tmp_path):
     """As ./run's: 1 after a refusal, 2 for what can't be read, 4 for what can't be written."""
     record = examples / "printed-run.rec"
     assert told("run", examples / "refused-09-release-above-queue.rec")[::2] == (
-        1, f"nobyaluk: {examples}/refused-09-release-above-queue.rec: refused 9: step 1, cell 2: {engine.MEANING[9]}\n")
+        1, f"nobyaluk: {examples}/refused-09-release-above-queue.rec: refused 9: step 1, cell 2: {meaning(9, 'run').words}\n")
     assert told("run", tmp_path / "none.toml")[::2] == (2, f"nobyaluk: there is no {tmp_path}/none.toml\n")
     assert told("run", examples)[::2] == (2, f"nobyaluk: {examples} is a directory, not a file\n")
     assert told("run")[0] == told("walk", record)[0] == 2
@@ -237,7 +242,7 @@ def test_what_whole_parts_cost(examples):
 
 def test_help_has_examples(told):
     status, out, _ = told("--help")
-    for name in cli.EXAMPLES:
+    for name in (x.name for x in COMMANDS):
         assert f"nobyaluk {name} " in out
         status, page, _ = told(name, "--help")
         assert status == 0 and "examples:\n  nobyaluk " + name in page

@@ -6,7 +6,8 @@ import tomllib
 
 import numpy as np
 import pytest
-from nobyaluk import Refused, Study, StudyError, convert, engine, load, text
+import text_form as text
+from nobyaluk import Refused, Study, StudyError, engine, load, template
 from nobyaluk.cli import main
 
 
@@ -221,13 +222,15 @@ def test_names_in_tables_are_quoted(told, tmp_path):
 def test_fill_keeps_laws_and_works_beside_a_record(examples, told, tmp_path):
     """The laws by which a record is filled, and the table of lanes, are not in it: a study beside it keeps both, and fills it anew."""
     lanes, laws = examples / "rocade-sud-works.lanes.txt", examples / "rocade-sud-alinea.laws.txt"
-    words = ("fill", examples / "rocade-sud.rec", laws, "-o", tmp_path / "f.rec")
-    for more in ((), ("--seconds", 20), ("--seconds", 20, "--lanes", lanes)):
-        status, out, _ = told(*words, *more, "--force")
-        assert status == 0 and f"{tmp_path}/f.toml" in out and "meter laws" in out and ("works and" in out) is ("--lanes" in more)
+    works = "".join(f"[[cell]]\nlanes = {3 if i == 19 else 1}\n" for i in range(1, 22)) + "[[closure]]\ncell = 19\nlanes = 1\nfrom = 0\nto = 90\n"
+    for more in ("", "step = 20\n", "step = 20\n" + works):
+        (tmp_path / "given.toml").write_text(f'record = "{examples}/rocade-sud.rec"\n{more}{text.laws_toml(laws)}')
+        status, out, _ = told("fill", tmp_path / "given.toml", "-o", tmp_path / "f.rec", "--force")
+        assert status == 0 and f"{tmp_path}/f.toml" in out and "meter laws" in out and ("works and" in out) is (works in more)
         s = load(tmp_path / "f.toml")
         assert s.laws == text.laws_of(laws.read_text()) and s.seconds == (20 if more else None)
-        table = text.lanes_of(lanes.read_text()) if "--lanes" in more else b""
+        table = load(tmp_path / "given.toml").lanes
+        assert [x.bit_count() for x in table[19 - 1 :: 21]] == ([x.bit_count() for x in text.lanes_of(lanes.read_text())[19 - 1 :: 21]] if works in more else [])
         filled = engine.fill(load(examples / "rocade-sud.rec").record, s.laws, table)
         assert s.run().record.data == filled.record.data == (tmp_path / "f.rec").read_bytes() and s.run().total == filled.total
         assert bits(s) == [x.bit_count() for x in table]
@@ -278,24 +281,12 @@ def test_every_example_is_saved(examples, tmp_path):
 
 def test_what_is_not_saved(examples, tmp_path):
     s = load(examples / "printed-run.rec")
-    with pytest.raises(StudyError, match=r"doesn't say a step's seconds, which a study needs: say --seconds N, or load\(path, seconds=N\)"):
+    with pytest.raises(StudyError, match=r"the record has no step's seconds, which a study needs: add --seconds N, or load\(path, seconds=N\)"):
         s.save(tmp_path / "a.toml")
     with pytest.raises(StudyError, match=r"a.rec: a study is saved as .toml"):
         s.save(tmp_path / "a.rec")
     assert not list(tmp_path.iterdir())
     same_runs(s, load(load(examples / "printed-run.rec", 20).save(tmp_path / "a.toml")))
-
-
-def test_fill_needs_a_law_for_each_ramp(examples, told, tmp_path):
-    laws = (examples / "rocade-sud-alinea.laws.txt").read_text().splitlines()
-    some = [x for x in laws if not x.startswith(("ramp 7 ", "ramp 16 "))]
-    assert len(some) == len(laws) - 2
-    (tmp_path / "l.txt").write_text("\n".join(some))
-    status, _, err = told("fill", examples / "rocade-sud.rec", tmp_path / "l.txt", "-o", tmp_path / "f.rec", "--seconds", 20)
-    assert status == 2 and "7" in err and "16" in err and not (tmp_path / "f.rec").exists()
-    (tmp_path / "l.txt").write_text("\n".join([*laws, "ramp 3 fixed 5"]))
-    status, _, err = told("fill", examples / "rocade-sud.rec", tmp_path / "l.txt", "-o", tmp_path / "f.rec", "--seconds", 20)
-    assert status == 2 and "3" in err and not (tmp_path / "f.rec").exists()
 
 
 # Joining.
@@ -449,7 +440,7 @@ def test_the_template_follows_the_rules(told, tmp_path):
     assert told("new", tmp_path / "road")[0] == 0
     s = load(tmp_path / "road/road.toml")
     assert s.run().total > 0 and not s.notes
-    assert "nothing here means" not in convert.TEMPLATE
+    assert "nothing here means" not in template.TEMPLATE
 
 
 def test_a_title_that_can_be_printed(examples, tmp_path):

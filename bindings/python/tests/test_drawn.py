@@ -5,7 +5,8 @@ import shutil
 import subprocess
 
 import pytest
-from nobyaluk import Refused, drawn, engine, summary
+from nobyaluk import Refused, engine, summary
+from nobyaluk.teaching import seeded_roads
 
 SIZES = [(1, 3), (2, 3), (3, 12), (4, 6), (8, 10)]
 
@@ -13,7 +14,7 @@ SIZES = [(1, 3), (2, 3), (3, 12), (4, 6), (8, 10)]
 def test_roads_are_exercises():
     for cells, steps in SIZES:
         for seed in range(120):
-            record = drawn.road_of(seed, cells, steps)
+            record = seeded_roads.draw_road(seed, cells, steps)
             assert engine.read_within(record.data).road.n == cells and record.steps == steps
             run = engine.run(record)
             assert (run.outflow < summary.demands(run)).any() and record.ramps and run.ramp > 0 and run.gate > 0
@@ -22,15 +23,15 @@ def test_roads_are_exercises():
 
 def test_roads_stay_as_they_are():
     """A sheet that was handed out is drawn again with the same numbers."""
-    sums = [hashlib.sha256(drawn.road_of(seed, 4, 6).data).hexdigest()[:16] for seed in (0, 7, 4294967295)]
+    sums = [hashlib.sha256(seeded_roads.draw_road(seed, 4, 6).data).hexdigest()[:16] for seed in (0, 7, 4294967295)]
     assert sums == ["a4f856af3427ee0d", "04db47a1172c4175", "5d06590ea96c1edf"]
-    assert len({drawn.road_of(seed, 4, 6).data for seed in range(200)}) == 200
+    assert len({seeded_roads.draw_road(seed, 4, 6).data for seed in range(200)}) == 200
 
 
 def test_roads_are_no_longer_than_an_exercise():
-    assert drawn.road_of(1, 8, 57).steps == 57
+    assert seeded_roads.draw_road(1, 8, 57).steps == 57
     with pytest.raises(Refused, match="refused 26"):
-        drawn.road_of(1, 8, 58)
+        seeded_roads.draw_road(1, 8, 58)
 
 
 PAGE = """
@@ -39,7 +40,7 @@ import { Engine } from '%(root)s/bindings/wasm/engine.mjs';
 const engine = new Engine(new WebAssembly.Module(fs.readFileSync('%(root)s/target/wasm/nobyaluk.wasm')));
 const source = fs.readFileSync('%(root)s/bindings/wasm/exercise.js', 'utf8');
 const cut = source.slice(source.indexOf('const MOST_CELLS'), source.indexOf('const seed = ()'));
-const drawn = new Function('engine', cut + '; return drawn;')(engine);
+const drawn = new Function('engine', cut.replaceAll('export ', '') + '; return drawn;')(engine);
 const asked = JSON.parse(fs.readFileSync(0, 'utf8'));
 console.log(JSON.stringify(asked.map(([seed, cells, steps]) => Buffer.from(drawn(seed, cells, steps)).toString('hex'))));
 """
@@ -53,4 +54,4 @@ def test_the_page_draws_the_same_roads(root, tmp_path):
     out = subprocess.run(["node", tmp_path / "page.mjs"], input=json.dumps(asked), capture_output=True, text=True)
     assert out.returncode == 0, out.stderr
     for (seed, cells, steps), record in zip(asked, json.loads(out.stdout), strict=True):
-        assert bytes.fromhex(record) == drawn.road_of(seed, cells, steps).data, (seed, cells, steps)
+        assert bytes.fromhex(record) == seeded_roads.draw_road(seed, cells, steps).data, (seed, cells, steps)

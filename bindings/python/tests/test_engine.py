@@ -1,4 +1,5 @@
 """Every operation of the boundary through Python, by numbers worked out on paper (docs/MODEL.md, docs/BY-HAND.md)."""
+import ctypes
 import math
 import pickle
 import re
@@ -11,8 +12,9 @@ import numpy as np
 import pytest
 from hypothesis import given, settings
 from hypothesis import strategies as st
-from nobyaluk import engine
-from nobyaluk.summary import broken
+from nobyaluk import arrays, engine, library
+from nobyaluk.refusals import Refusal, meaning
+from nobyaluk.summary import explain_refusal
 
 
 def refusal(call, *arguments):
@@ -28,7 +30,7 @@ def printed(examples):
 
 def test_the_longest_queues(printed, examples):
     """The gate's queue after the steps is 2500, 2142 and 1890, with 1000 arrivals in each; ramp 2's is 1700, 1900 and 2100."""
-    assert nobyaluk.run(printed).longest == (2500, 1500, (0, 2100))
+    assert engine.run(printed).longest == (2500, 1500, (0, 2100))
     shut = engine.fill(printed, {2: ("fixed", 0)})
     assert shut.longest.ramps == (0, int(shut.queue[:, 2].max()))
     assert engine.run_weighted(printed, [1, 1, 1], [1, 1]).longest is None
@@ -43,12 +45,12 @@ def test_the_longest_queues(printed, examples):
 
 
 def test_the_printed_run(printed):
-    run = nobyaluk.run(printed)
+    run = engine.run(printed)
     assert run.outflow.tolist() == [[1500, 934, 1000], [1358, 933, 1000], [1252, 934, 1000]]
     assert run.held.tolist() == [[2500, 2566, 4000], [2142, 2991, 4000], [1890, 3309, 4000]]
     assert run.queue.tolist() == [[0, 0, 1700], [0, 0, 1900], [0, 0, 2100]]
     assert (run.total, run.gate, run.road, run.ramp, run.exits) == (33098, 6532, 20866, 5700, 3701)
-    assert nobyaluk.listing(run).splitlines()[-1] == "total 33098 gate 6532 road 20866 ramp 5700 exits 3701"
+    assert engine.listing(run).splitlines()[-1] == "total 33098 gate 6532 road 20866 ramp 5700 exits 3701"
 
 
 def test_the_starred_edges():
@@ -70,7 +72,7 @@ def test_a_step_by_its_rules(printed):
     assert sent == [engine.outflow_by_halves(share, f, room, most) for (share, f), room, most in zip(places, rooms, demands)] == [1358, 933]
     assert [engine.entering(share, f, y) for (share, f), y in zip(places, sent)] == [1358, 700]
     assert [engine.onward(share, f) for share, f in places] == [1500, 700]  # 750 thousandths of 934 are 700.5
-    assert sent + demands[2:] == nobyaluk.run(printed).outflow[1].tolist()
+    assert sent + demands[2:] == engine.run(printed).outflow[1].tolist()
     assert engine.room(300, 301) == 0 and engine.entering(750, 934, 934) == 701
 
 
@@ -154,13 +156,13 @@ def test_lanes(printed):
 
 
 def test_a_stated_load():
-    arrivals, last = nobyaluk.stated_load(0, 1000, 10)
+    arrivals, last = engine.stated_load(0, 1000, 10)
     assert arrivals.tolist() == [236, 278, 820, 668, 384, 622, 344, 640, 508, 582] and last == 2498801434
-    first, half = engine.load(0, 1000, 4)
-    second, end = engine.load(half, 1000, 6)
+    first, half = engine.stated_load(0, 1000, 4)
+    second, end = engine.stated_load(half, 1000, 6)
     assert np.concatenate([first, second]).tolist() == arrivals.tolist() and end == last
-    assert engine.load(42, 7, 0)[1] == 42
-    assert refusal(engine.load, 42, 1_000_001, 3) == (25, 0, 0)
+    assert engine.stated_load(42, 7, 0)[1] == 42
+    assert refusal(engine.stated_load, 42, 1_000_001, 3) == (25, 0, 0)
 
 
 def test_a_wanted_queue():
@@ -199,20 +201,20 @@ def test_two_roads_joined(printed, examples):
 
 
 def test_refusals_have_words(examples):
-    numbers = list(engine.MEANING)
-    assert numbers == sorted(numbers) and {*range(1, 26)} <= set(numbers) <= {*range(1, 27)}
+    assert [*Refusal] == [*range(1, len(Refusal) + 1)]
     for path in examples.glob("refused-*.rec"):
         with pytest.raises(engine.Refused) as caught:
             engine.run(path.read_bytes())
         e = caught.value
-        assert e.number == int(path.name.split("-")[1]) and str(e).endswith(": " + e.words) and e.words == engine.MEANING[e.number]
+        assert e.number == int(path.name.split("-")[1]) and str(e).endswith(": " + e.words) and e.words == meaning(e.number, "run").words
+        assert e.refusal == e.number and e.operation in ("read", "run")
         again = pickle.loads(pickle.dumps(e))
-        assert (again.number, again.step, again.place, again.line) == (e.number, e.step, e.place, e.line)
+        assert (again.number, again.step, again.place, again.line, str(again)) == (e.number, e.step, e.place, e.line, str(e))
 
 
 def test_what_is_no_number_of_its_kind():
     for call in (lambda: engine.demand(-1, 0, 0), lambda: engine.room(1, 1 << 32), lambda: engine.onward(1 << 16, 0),
-                 lambda: engine.vehicle_seconds(-1, engine.State()), lambda: engine.load(1 << 32, 1, 1), lambda: engine.wanted(0, 0, 0, [-1]),
+                 lambda: engine.vehicle_seconds(-1, engine.State()), lambda: engine.stated_load(1 << 32, 1, 1), lambda: engine.wanted(0, 0, 0, [-1]),
                  lambda: engine.grant(1, [1.5], [1]), lambda: engine.join(b"", b"", 1 << 16)):
         with pytest.raises((ValueError, TypeError)):
             call()
@@ -240,7 +242,7 @@ def test_a_record_travels(printed):
 def test_the_lock_is_given_up(examples):
     """While calls of the engine last, another thread of Python goes on: nothing else gives it the lock within the interval set here."""
     record = engine.read((examples / "rocade-sud.rec").read_bytes())
-    data, out = record.data, np.empty(engine.MOST_OUTFLOWS, np.uint32)
+    data, out = record.data, np.empty(library.MOST_OUTFLOWS, np.uint32)
     ticks, calls, stop, interval = 0, 0, threading.Event(), sys.getswitchinterval()
 
     def tick():
@@ -255,7 +257,7 @@ def test_the_lock_is_given_up(examples):
         other.start()
         before = ticks
         while ticks < before + 20 and calls < 50_000:
-            engine._run(data, len(data), b"", 0, *engine._lent(out))
+            library.run(data, len(data), b"", 0, *arrays.lend(out))
             calls += 1
         during = ticks - before
     finally:
@@ -268,7 +270,7 @@ def test_the_lock_is_given_up(examples):
 def test_everything_is_told(root):
     """Every function of the C header is called by the package; every public name has its words."""
     header = (root / "bindings/c/nobyaluk.h").read_text()
-    source = (root / "bindings/python/nobyaluk/engine.py").read_text()
+    source = (root / "bindings/python/nobyaluk/library.py").read_text()
     for name in set(re.findall(r"^\w+ nobyaluk_(\w+)\(", header, re.M)):
         assert f'_function("{name}"' in source, name
     for name in nobyaluk.__all__:
@@ -310,7 +312,7 @@ def accepted(record, thousandths):
             engine.judge(record, zs)
             return zs
         except engine.Refused as e:
-            zs[e.step, e.place] = int(broken(record, zs, b"", e).split()[-1].rstrip(";"))
+            zs[e.step, e.place] = int(explain_refusal(record, zs, b"", e).split()[-1].rstrip(";"))
 
 
 @settings(max_examples=300, deadline=None)
@@ -339,6 +341,23 @@ def printed_bytes(examples):
     return (examples / "printed-run.rec").read_bytes()
 
 
+def test_words_are_those_of_the_operation(printed):
+    """The same number has other words where another operation gives it, and a number without a name has words too."""
+    told = {}
+    for operation, call in {"read": lambda: engine.read(b""), "put": lambda: engine.put(printed, 0, 3, 7), "join": lambda: engine.join(printed, printed, 1001),
+                            "write": lambda: engine.write(printed.road, printed.begin, printed.rows[:, :3])}.items():
+        with pytest.raises(engine.Refused) as caught:
+            call()
+        e = caught.value
+        told[operation] = e.refusal
+        assert e.operation == operation and str(e).endswith(meaning(e.number, operation).words)
+    assert told == {"read": Refusal.LENGTH, "put": Refusal.LIMITS, "join": Refusal.LIMITS, "write": Refusal.SIZE}
+    assert meaning(Refusal.LIMITS, "put") != meaning(Refusal.LIMITS, "join") != meaning(Refusal.LIMITS, "read") == meaning(Refusal.LIMITS, "run_weighted")
+    other = engine.Refused(200, 1, 2)
+    assert other.refusal is None and str(other) == "refused 200: not in the table of refusals"
+    assert str(engine.Refused(Refusal.ENTERING_ABOVE_ROOM, 3, 0, "judge")).startswith("refused 14: step 3, gate: ")
+
+
 def test_stepping_names_no_step(printed):
     """A step's answer has none; running's does."""
     record = printed
@@ -346,7 +365,7 @@ def test_stepping_names_no_step(printed):
     row[4] = 2001  # 1,500 wait and 500 arrive
     with pytest.raises(engine.Refused) as caught:
         engine.step(record.road, record.start, row)
-    words = engine.MEANING[9]
+    words = meaning(Refusal.RELEASE_ABOVE_QUEUE, "step").words
     assert str(caught.value) == f"refused 9: cell 2: {words}" and caught.value.step is None
     with pytest.raises(engine.Refused) as caught:
         engine.run(engine.put(record, 0, 2, 2001))
@@ -370,8 +389,8 @@ def test_fields_keep_every_bit():
     """ctypes would keep the low bits of a number that is too large, and a misspelt field for nothing."""
     for call in (lambda: engine.Road(n=2, gate_capacity=(1 << 32) + 5), lambda: engine.Road(version=256), lambda: engine.Road(1 << 64), lambda: engine.Start(-1),
                  lambda: engine.Start(0, [1 << 32]), lambda: engine.State(done=-1), lambda: engine.State(held=(1 << 32,)), lambda: engine.Road(seconds=1.5),
-                 lambda: engine.Road(speed=[0] * 65), lambda: engine.lanes_of_step([256], [1]), lambda: engine.lanes_of_step([1], [-1]),
-                 lambda: engine.lanes_of_step([1] * 65, [1]), lambda: engine.Road().speed.__setitem__(0, 1 << 16),
+                 lambda: engine.Road(speed=[0] * 65), lambda: engine.make_lanes([256], [1]), lambda: engine.make_lanes([1], [-1]),
+                 lambda: engine.make_lanes([1] * 65, [1]), lambda: engine.Road().speed.__setitem__(0, 1 << 16),
                  lambda: engine.Start().queue.__setitem__(slice(0, 2), [1, 1 << 32]), lambda: setattr(engine.Road(), "seconds", 1 << 16)):
         with pytest.raises((ValueError, TypeError, RuntimeError, IndexError)):
             call()
@@ -380,7 +399,7 @@ def test_fields_keep_every_bit():
     road = engine.Road(n=2, speed=[1, 2], capacity=(3, 4))
     road.jam[0], road.wave[0:2] = 1_000_000, [5, np.uint16(6)]
     assert (road.speed[:2], road.capacity[:3], road.jam[0], road.wave[:2]) == ([1, 2], [3, 4, 0], 1_000_000, [5, 6])
-    assert engine.lanes_of_step([255], [0]).built[0] == 255
+    assert engine.make_lanes([255], [0]).built[0] == 255
 
 
 class Lying(bytes):
@@ -467,7 +486,7 @@ def test_the_state_before_a_rule_is_broken(printed):
 def test_structs_are_not_extended(printed):
     """A larger struct by value would shift the arguments after it; a record of another class is read from its own bytes."""
     with pytest.raises(TypeError, match="Road can't be extended"):
-        type("Longer", (engine.Road,), {"_fields_": [("more", engine._u64)]})
+        type("Longer", (engine.Road,), {"_fields_": [("more", ctypes.c_uint64)]})
 
     class Other(engine.Record):
         data = property(lambda self: Lying(b""))

@@ -6,8 +6,9 @@ import shutil
 import subprocess
 
 import pytest
-from nobyaluk import engine, exercise, load, sheet
-from nobyaluk.sheet_words import LANGUAGES, Words
+from nobyaluk import engine, load
+from nobyaluk.teaching.words import LANGUAGES, Words
+from nobyaluk.teaching import sheet, exercises
 
 QUESTION = """\
 title = "Question four"
@@ -102,9 +103,9 @@ def test_a_class_of_names(told, tmp_path):
     page = (tmp_path / "c/sheets" / f"{rows[2]['files']}.html").read_text()
     assert "&lt;b&gt;Dora&lt;/b&gt; &amp; Co" in page and "<b>Dora" not in page
     assert len(re.findall("<div class=page>", (tmp_path / "c/keys.html").read_text())) == 4
-    seats = exercise.read_class(tmp_path / "c")
+    seats = exercises.read_class(tmp_path / "c")
     assert [x.student for x in seats] == ["Anna Müller", "=SUM(1)", "<b>Dora</b> & Co", "Anna-Müller"] and seats[1].exercise.seed == 0
-    assert seats[1].exercise.run.total == exercise.of_seed(0, 4, 6).run.total
+    assert seats[1].exercise.run.total == exercises.exercise_from_seed(0, 4, 6).run.total
 
 
 def test_seeds(told, tmp_path):
@@ -119,7 +120,7 @@ def test_one_study_for_a_class(question, told, tmp_path):
     (tmp_path / "names.txt").write_text("Anna\nBen\n")
     assert told("exercise", question, "--students", tmp_path / "names.txt", "-o", tmp_path / "c", "--no-pdf", "--title", "Exam")[0] == 0
     assert words_of((tmp_path / "c/keys.html").read_text()).count("Anna, Ben") == 1
-    assert len({x.exercise.id for x in exercise.read_class(tmp_path / "c")}) == 1
+    assert len({x.exercise.id for x in exercises.read_class(tmp_path / "c")}) == 1
     assert "<h1>Exam</h1>" in (tmp_path / "c/sheets/ben.html").read_text()
 
 
@@ -128,7 +129,7 @@ def test_works_are_on_the_sheet(question, told, tmp_path):
     assert told("exercise", question, "-o", tmp_path / "c", "--no-pdf")[0] == 0
     given = words_of((tmp_path / "c/sheets/exercise.html").read_text())
     assert "Capacity where lanes are closed" in given and "cell 4 2 – 3 8,333" in given
-    e = exercise.read_class(tmp_path / "c")[0].exercise
+    e = exercises.read_class(tmp_path / "c")[0].exercise
     assert e.study.lanes and e.run.total == load(question).run().total
 
 
@@ -186,7 +187,7 @@ def test_weights_are_not_on_a_sheet(told, tmp_path, examples):
 @pytest.mark.parametrize("name", ["road", "works"])
 def test_present_is_the_engines(examples, monkeypatch, name):
     """The key's table of those present is the engine's count of each state and its running total, which ends with the run's."""
-    e, seen = exercise.of_file(examples / f"exercise/{name}.toml"), []
+    e, seen = exercises.exercise_from_file(examples / f"exercise/{name}.toml"), []
     count = engine.present
     monkeypatch.setattr(engine, "present", lambda road, state: seen.append(engine.total(state)) or count(road, state))
     page = words_of(sheet._present(e, Words("en")))

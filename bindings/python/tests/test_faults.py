@@ -4,11 +4,14 @@ import subprocess
 import sys
 from decimal import Decimal
 from fractions import Fraction
+from pathlib import Path
 
 import pytest
-from nobyaluk import StudyError, cli, load
+import text_form
+from nobyaluk import StudyError, __version__, engine, load, summary
 from nobyaluk.cli import main
-from nobyaluk.faults import Table, clock
+from nobyaluk.clock import parse_clock
+from nobyaluk.errors import TomlTable
 
 LONG = "9" * 5000
 
@@ -35,10 +38,10 @@ def called(words, **how):
 def files(examples, tmp_path):
     """Files of every kind that is no study, by the words that are said of them."""
     text = {"counts.csv": "time,gate\n07:00,3000\n", "toml.rec": 'title = "x"\nstep = 20\n', "words.rec": "hello there\n", "page.rec": "<!doctype html><html></html>",
-            "not.txt": "hello\n", "not.toml": "hello\n"}
+            "not.toml": "hello\n"}
     for name, words in text.items():
         (tmp_path / name).write_text(words)
-    for name, data in {"sheet.rec": b"PK\3\4" + bytes(60), "picture.rec": b"\x89PNG\r\n\x1a\n" + bytes(60), "latin.txt": b"gate capacity 1 # \xfc\n", "empty.rec": b"", "other.rec": b"\xff" * 40,
+    for name, data in {"sheet.rec": b"PK\3\4" + bytes(60), "picture.rec": b"\x89PNG\r\n\x1a\n" + bytes(60), "latin.toml": b"# \xfc\n", "empty.rec": b"", "other.rec": b"\xff" * 40,
                        "long.rec": bytes([0, 1, 0, 0]) + bytes(70_000)}.items():
         (tmp_path / name).write_bytes(data)
     return tmp_path
@@ -46,8 +49,8 @@ def files(examples, tmp_path):
 
 @pytest.mark.parametrize("name, status, says", [
     ("counts.csv", 2, "it is a table (.csv), not a study; name the .toml file whose [arrivals] or [releases] reads it"), ("toml.rec", 2, "it is not a record, but text in TOML"),
-    ("words.rec", 2, "it is not a record, but text; a study is a .toml, .rec or .txt file"), ("page.rec", 2, "a page (HTML or XML)"), ("sheet.rec", 2, "a spreadsheet or another archive"),
-    ("picture.rec", 2, "a picture (PNG)"), ("latin.txt", 2, "it is not in UTF-8"), ("other.rec", 2, "other data"), ("empty.rec", 1, "refused 1"), ("long.rec", 1, "refused 1"), ("not.txt", 2, "line 1"),
+    ("words.rec", 2, "it is not a record, but text; a study is a .toml or .rec file"), ("page.rec", 2, "a page (HTML or XML)"), ("sheet.rec", 2, "a spreadsheet or another archive"),
+    ("picture.rec", 2, "a picture (PNG)"), ("latin.toml", 2, "it is not in UTF-8"), ("other.rec", 2, "other data"), ("empty.rec", 1, "refused 1"), ("long.rec", 1, "refused 1"),
     ("not.toml", 2, "not.toml")])
 def test_what_is_no_study_says_what_it_is(files, told, name, status, says):
     for words in (["run"], ["exercise"], ["plot"]):
@@ -62,12 +65,11 @@ def test_devices_and_long_files_are_not_read_whole(files, told, tmp_path):
     """Each kind of input has its size; a file of 3 GB without contents takes no room."""
     with open(tmp_path / "big.rec", "wb") as f:
         f.truncate(3 << 30)
-    for suffix in ("toml", "txt", "laws", "csv"):
+    for suffix in ("toml", "csv"):
         os.link(tmp_path / "big.rec", tmp_path / f"big.{suffix}")
-    record = cli.Path(__file__).parents[3] / "examples/rocade-sud.rec"
+    record = Path(__file__).parents[3] / "examples/rocade-sud.rec"
     assert told("run", "/dev/zero")[0] == told("run", tmp_path / "big.rec")[0] == 1
-    for words in (["run", tmp_path / "big.txt"], ["fill", record, tmp_path / "big.laws", "-o", tmp_path / "x.rec"], ["fill", record, "/dev/zero", "-o", tmp_path / "x.rec"],
-                  ["run", record, "--lanes", "/dev/zero"], ["judge", record, "/dev/zero"], ["judge", record, tmp_path / "big.csv"]):
+    for words in (["judge", record, "/dev/zero"], ["judge", record, tmp_path / "big.csv"]):
         status, _, err = told(*words)
         assert status == 2 and "it has more than 16,777,216 bytes" in err, words
 
@@ -79,13 +81,12 @@ def test_devices_and_long_files_are_not_read_whole(files, told, tmp_path):
     (["queue", "STUDY", "Mill Street", "--ceiling", "1", "--rate", "1e99"], "--rate is 1e99; it is 0 to"), (["sweep", "STUDY", "--vary", f"step={LONG}:1:1"], "--vary is '999"),
     (["sweep", "STUDY", "--vary", "cell.².capacity=1:2:1"], "there is no `cell.².capacity` to vary"), (["sweep", "STUDY", "--vary", "=1:2:1"], "`` is not known here"), (["sweep", "STUDY", "--vary", f"cell.{LONG}.capacity=1:2:1"], "to vary"), (["sweep", "STUDY", "--vary", "step="], "--vary is KEY="),
     (["run", "REC", "--seconds", LONG], "--seconds is '999"), (["run", "REC", "--seconds", ""], "--seconds is ''"), (["run", "REC", "--seconds", "0"], "--seconds is '0'"),
-    (["run", "STUDY", "--seconds", "20"], "it says a step's seconds itself"), (["run", "TIMED", "--seconds", "30"], "it says a step's seconds itself, 20"),
-    (["compare", "STUDY", "TIMED", "--seconds", "30"], "each study here says a step's seconds itself"), (["run", "WORKS", "--lanes", "LANES"], "it has its own [[closure]], and --lanes would replace them"),
-    (["exercise", "REC", "--cells", LONG], "no whole number from 0 to 2^64 - 1"), (["exercise", "REC", "--bytes", "²"], "no whole number"), (["fill", "REC", "LAWS", "-o", "-"], "name a file for it"),
-    (["run", "a\0b"], "no name of a file"), (["run", "REC", "--lanes", "a\0b"], "no name of a file"), (["judge", "REC", "a\0b"], "no name of a file")])
+    (["run", "STUDY", "--seconds", "20"], "it has a step's seconds itself"), (["run", "TIMED", "--seconds", "30"], "it has a step's seconds itself, 20"),
+    (["compare", "STUDY", "TIMED", "--seconds", "30"], "each study here has a step's seconds itself"),
+    (["exercise", "REC", "--cells", LONG], "no whole number from 0 to 2^64 - 1"), (["exercise", "REC", "--bytes", "²"], "no whole number"), (["fill", "METERED", "-o", "-"], "name a file for it"), (["fill", "REC", "-o", "x.rec"], "write a .toml with `record = \"rocade-sud.rec\"` and [meter.all]"),
+    (["run", "a\0b"], "no name of a file"), (["judge", "REC", "a\0b"], "no name of a file")])
 def test_wrong_calls(examples, told, words, says):
-    known = {"STUDY": "studies/five-cells.toml", "REC": "rocade-sud.rec", "TIMED": "rocade-sud-seconds.rec", "WORKS": "studies/rocade-sud-works.toml", "LANES": "rocade-sud-works.lanes.txt",
-             "LAWS": "rocade-sud-alinea.laws.txt"}
+    known = {"STUDY": "studies/five-cells.toml", "REC": "rocade-sud.rec", "TIMED": "rocade-sud-seconds.rec", "METERED": "studies/rocade-sud-alinea.toml"}
     status, _, err = told(*(examples / known[x] if x in known else x for x in words))
     assert status == 2 and says in err
 
@@ -96,14 +97,12 @@ def test_seconds_are_for_those_that_do_not_say_them(examples, told):
         load(examples / "studies/five-cells.toml", 20)
 
 
-def test_laws_leave_no_ramp_out(examples, told, tmp_path):
+def test_laws_leave_no_ramp_out(examples):
     """A ramp without a law would stay shut, and a law without a ramp would do nothing."""
-    laws = (examples / "rocade-sud-alinea.laws.txt").read_text()
-    cut = "\n".join(x for x in laws.splitlines() if not x.startswith("ramp 7 "))
-    for given, says in ((cut, "there is no law for the ramp at cell 7"), (laws + "\nramp 1 fixed 5\n", "cell 1 has no ramp; ramps are at cell 2 and 5"), ("ramp 2 fixed abc\n", "`rate` is 'abc'")):
-        (tmp_path / "laws.txt").write_text(given)
-        status, _, err = told("fill", examples / "rocade-sud.rec", tmp_path / "laws.txt", "-o", tmp_path / "x.rec")
-        assert status == 2 and says in err and not (tmp_path / "x.rec").exists()
+    laws, record = text_form.laws_of((examples / "rocade-sud-alinea.laws.txt").read_text()), load(examples / "rocade-sud.rec").record
+    for given, says in (({cell: law for cell, law in laws.items() if cell != 7}, "there is no law for the ramp at cell 7"), (laws | {1: ("fixed", 5)}, "cell 1 has no ramp; ramps are at cell 2 and 5")):
+        with pytest.raises(StudyError, match=says):
+            engine.fill(record, given)
 
 
 def test_judge_reads_tables_as_people_write_them(examples, told, tmp_path):
@@ -132,9 +131,9 @@ def test_an_internal_error_has_its_own_status(examples, told, monkeypatch, capsy
     def broken(*_):
         raise ZeroDivisionError("by\nnobody")
 
-    monkeypatch.setattr(cli.summary, "lines", broken)
+    monkeypatch.setattr(summary, "summary_lines", broken)
     status, out, err = told("run", examples / "printed-run.rec")
-    assert (status, out) == (5, "") and err == (f"nobyaluk: internal error: ZeroDivisionError: by; please report it with this command, its files and nobyaluk {cli.__version__}"
+    assert (status, out) == (5, "") and err == (f"nobyaluk: internal error: ZeroDivisionError: by; please report it with this command, its files and nobyaluk {__version__}"
                                                  " (NOBYALUK_DEBUG=1 shows where it happened)\n")
     monkeypatch.setenv("NOBYALUK_DEBUG", "1")
     assert main(["run", str(examples / "printed-run.rec")]) == 5 and "Traceback" in capsys.readouterr().err
@@ -146,7 +145,7 @@ def test_errors_of_the_system(examples, told, monkeypatch, error, status, says):
     def broken(*_):
         raise error
 
-    monkeypatch.setattr(cli.summary, "lines", broken)
+    monkeypatch.setattr(summary, "summary_lines", broken)
     found, _, err = told("run", examples / "printed-run.rec")
     assert found == status and says in err
 
@@ -196,28 +195,28 @@ def test_numbers_of_a_table():
                         ("9" * 5000, "`x` is '999"), (Fraction(1, 10**7), "it is at least 0.000001"), (Decimal("1e9"), "it is at most 2.5"), (True, "`x` is True, where a number is needed"),
                         ([[1] * 5000], "`x` is [[1, 1"), (None, "it is a number from 0.000001 to 2.5"), (float("nan"), "where a number is needed"), (Decimal("nan"), "where a number is needed")):
         with pytest.raises(StudyError) as caught:
-            Table({"x": value} if value is not None else {}, "there").number("x", low=Fraction(1, 10**6), high=Fraction(5, 2))
+            TomlTable({"x": value} if value is not None else {}, "there").number("x", low=Fraction(1, 10**6), high=Fraction(5, 2))
         assert says in str(caught.value) and len(str(caught.value)) < 200
 
 
 def test_keys_and_tables_are_shown_in_short():
     for values, known in (({"k" * 5000: 1}, ["a"]), ({"\x1b[2J": 1}, ["a"]), ([1] * 5000, None)):
         with pytest.raises(StudyError) as caught:
-            Table(values, "there", known)
+            TomlTable(values, "there", known)
         assert len(str(caught.value)) < 200 and str(caught.value).isprintable()
 
 
 def test_clock_times():
-    assert [clock(x, "") for x in ("07:30", "7:30:20", " 24:00 ", "48:59:59")] == [27000, 27020, 86400, 176399]
+    assert [parse_clock(x, "") for x in ("07:30", "7:30:20", " 24:00 ", "48:59:59")] == [27000, 27020, 86400, 176399]
     for text in ("-0:30", "7", "07:60", "49:00", "1_0:00", "²:00", "07:30:", "07:30:20:00", "+7:30", "9" * 5000 + ":00", "٧:٣٠", 730, None, "7:-1"):
         with pytest.raises(StudyError, match="is no clock time like 07:30"):
-            clock(text, "here")
+            parse_clock(text, "here")
 
 
 def test_values_that_argparse_drops(examples, told):
     """A value `--` is left out by Python's argparse, with a list in its place."""
     path = examples / "studies/five-cells.toml"
-    for words in (["load", path, "--seed=--", "--peak", "1"], ["load", path, "--seed", "1", "--peak=--"], ["sweep", path, "--load=--"], ["run", path, "--csv=--"], ["run", path, "--lanes=--"]):
+    for words in (["load", path, "--seed=--", "--peak", "1"], ["load", path, "--seed", "1", "--peak=--"], ["sweep", path, "--load=--"], ["run", path, "--csv=--"]):
         assert told(*words)[::2] == (2, "nobyaluk: an option has no value; `nobyaluk COMMAND --help` says what it takes\n"), words
 
 

@@ -5,7 +5,8 @@ import numpy as np
 import pytest
 from hypothesis import given, settings
 from hypothesis import strategies as st
-from nobyaluk import StudyError, engine, files, load, summary, tables, text
+import text_form as text
+from nobyaluk import StudyError, engine, toml_reader, load, summary, tables
 
 
 def test_physical_road_is_the_record(examples):
@@ -22,7 +23,7 @@ def test_rounded_once_and_told(road):
     """90 km/h x 20 s / 0.6 km is 833.33 thousandths: 833; the exact fraction is kept."""
     s = load(road("length = 0.5 ", "length = 0.6 "))
     told = {(x.cell, x.what): x for x in s.rounding}
-    assert s.record.road.speed[0] == 833 and told[1, "speed"].wanted == files.Fraction(2500, 3)
+    assert s.record.road.speed[0] == 833 and told[1, "speed"].wanted == toml_reader.Fraction(2500, 3)
     assert told[1, "speed"].used == 833 and round(100 * told[1, "speed"].error, 2) == -0.04
     assert s.record.road.jam[0] == 150_000 and (1, "jam") not in told
 
@@ -80,9 +81,9 @@ def test_weights(road):
     assert load(road("[meter.all]", "[weights]\ngate = 2\nramps = 3\n[meter.all]")) == s  # where there is no ramp, nobody waits
     run = s.run()
     assert run.weighted == run.total + run.gate + 2 * run.ramp
-    assert "no schedule has a smaller one" in summary.lines(s, run)[-1]
+    assert "no schedule has a smaller one" in summary.summary_lines(s, run)[-1]
     up = load(road("[meter.all]", "[weights]\nroad = [1, 1, 2, 2, 2]\n[meter.all]"))
-    assert "a place weighs more than the one before it" in summary.lines(up, up.run())[-1]
+    assert "a place weighs more than the one before it" in summary.summary_lines(up, up.run())[-1]
 
 
 def test_a_plan_is_capped(examples):
@@ -147,16 +148,16 @@ def test_sums_are_right_to_a_part(spans, seconds):
     """Rates that hold for any whole seconds, in steps of any whole seconds: after every step the sum is the exact one, rounded down."""
     begins, rates, at = [], [], 0
     for length, rate in spans:
-        begins.append(files.Fraction(at))
+        begins.append(toml_reader.Fraction(at))
         rates.append(rate)
         at += length
     steps = 40
-    rows = tables.Rows(["gate"], begins, [[x] for x in rates], [""] * len(begins), "veh/h")
-    out = tables._steps(rows, tables.Clock(files.Fraction(seconds), None, steps))["gate"]
-    ends = [*begins[1:], files.Fraction(10**9)]
+    rows = tables.TableRows(["gate"], begins, [[x] for x in rates], [""] * len(begins), "veh/h")
+    out = tables._steps(rows, tables.Clock(toml_reader.Fraction(seconds), None, steps))["gate"]
+    ends = [*begins[1:], toml_reader.Fraction(10**9)]
     for k in range(0, steps, 7):
         t = (k + 1) * seconds
-        exact = sum(r * (min(e, t) - b) for r, b, e in zip(rates, begins, ends) if b < t) * files.Fraction(1000, 3600)
+        exact = sum(r * (min(e, t) - b) for r, b, e in zip(rates, begins, ends) if b < t) * toml_reader.Fraction(1000, 3600)
         assert int(out[: k + 1].sum()) == int(exact)
 
 
@@ -170,15 +171,15 @@ FAULTS = {
     "a law's number": ('law = "open"', 'law = "fixed"', "[meter.all]: `rate` is missing"),
     "another law's number": ('law = "open"', 'law = "open"\nrate = 4', "`rate` belongs to another law; open takes nothing else"),
     "no such ramp": ("[meter.all]", "[meter.Mill]", "[meter.Mill]: no cell has a ramp called 'Mill'; ramps are Mill Street"),
-    "too many steps": ("steps = 225", "steps = 1500", "`steps` is 1500; it is at most 1440"),
+    "too many steps": ("steps = 225", "steps = 17281", "`steps` is 17281; it is at most 17280"),
     "half a second": ("step = 20", "step = 19.5", "`step` is 19.5, where a whole number is needed"),
     "a text": ("step = 20", 'step = "20"', "`step` is '20', where a number is needed"),
     "a capacity": ("capacity = 3800", "capacity = 380000", "cell 5: `capacity` makes the critical density"),
     "more than jam": ("split = 0.8", "split = 0.8\ndensity = 251", "cell 2: `density` is 251; it is at most 250"),
     "too much held": ("split = 0.8", "split = 0.8\nheld = 125.1", "cell 2: `held` makes 125.100 vehicles; the cell holds at most 125.000"),
     "a share": ("split = 0.8", "split = 1.2", "cell 2: `split` is 1.2; it is at most 1"),
-    "the last cell's share": ("capacity = 3800", "capacity = 3800\nsplit = 0.5", "cell 5: `split` stands in the last cell"),
-    "a queue without a ramp": ("split = 0.8", "split = 0.8\nqueue = 3", "cell 2: `queue` stands in a cell without a `ramp`"),
+    "the last cell's share": ("capacity = 3800", "capacity = 3800\nsplit = 0.5", "cell 5: `split` is in the last cell"),
+    "a queue without a ramp": ("split = 0.8", "split = 0.8\nqueue = 3", "cell 2: `queue` is in a cell without a `ramp`"),
     "a clock": ('start = "07:00"', 'start = "7.00"', "`start`: '7.00' is no clock time like 07:30"),
     "no clock": ('start = "07:00"', "", "is a clock time, which needs `start`"),
     "an unknown column": ('"Mill Street" = [', '"Mill Road" = [', "`Mill Road` is no column; columns are gate, Mill Street"),
@@ -222,7 +223,7 @@ CSV_FAULTS = {
     "no rows": ("time,gate\n", "a heading and at least one row are needed"),
     "backwards": ("time,gate\n07:00,1\n07:10,1\n07:05,1\n", "a.csv, row 4: its time does not come after the row before it"),
     "too late": ("time,gate\n07:01,1\n", "the first row begins 60 s after step 0; step 0 needs a row"),
-    "a detector unknown": ("time,detector,count\n07:00,D3,1\n", "a.csv, row 2: 'D3' is not one of gate, Mill Street; `columns` may say which"),
+    "a detector unknown": ("time,detector,count\n07:00,D3,1\n", "a.csv, row 2: 'D3' is not one of gate, Mill Street; `columns` can name what each detector counts"),
     "a detector that is silent": ("time,place,flow\n07:00,gate,1\n07:00,Mill Street,1\n07:10,gate,1\n", "a.csv, row 4: 'Mill Street' has no row for this time"),
     "counts that end": ("time,place,count\n07:00,gate,1\n07:10,gate,1\n", "counts end 1200 s after the beginning of step 0; 225 steps last 4500 s"),
 }
@@ -246,4 +247,4 @@ def test_every_key_is_documented(root):
     for kind, title in sections.items():
         rows = re.findall(r"^\| `([^`]+)`(?:, `([^`]+)`)*(?:, `([^`]+)`)? \|", tables_of[title], re.M)
         found = set(re.findall(r"`([^`]+)`", "\n".join(line.split("|")[1] for line in tables_of[title].splitlines() if line.startswith("| `"))))
-        assert rows and found == files.KEYS[kind], title
+        assert rows and found == toml_reader.KEYS[kind], title

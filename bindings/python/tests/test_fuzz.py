@@ -17,7 +17,7 @@ import pytest
 from conftest import ROOT
 from hypothesis import HealthCheck, given, settings
 from hypothesis import strategies as st
-from nobyaluk import cli, files
+from nobyaluk import cli, toml_reader
 
 CASES = int(os.environ.get("NOBYALUK_CASES", "1125"))
 SECONDS = 20  # a case may take
@@ -66,12 +66,12 @@ TABLES = ["time,gate,Mill Street,R 2\n07:00,3000,300,200\n07:01,3600.5,300,0\n07
 ODD = ["-1", "0", "0.5", "1e30", "1e-30", "1e999999999", "nan", "inf", "-0.0", "true", "'x'", "''", "[]", "{}", "[1, 'a']", "{a = 1}", "1970-01-01", "07:00:00",
        "99999999999999999999", "['07:00']", "2.5", "²", "1_000", "0x10", "9" * 5000, "[" * 1200, '"\\u0000"', '"$\\\\frac{$"', "2024-02-30", "1e99999999999999999999",
        "'12.05.2026 00:00'", "-9223372036854775809", '"' + "a" * 140_000 + '"', "'=cmd'", '"constructor"', "1979-05-27T07:32:00Z"]
-KEYS = sorted({key for keys in files.KEYS.values() for key in keys})
+KEYS = sorted({key for keys in toml_reader.KEYS.values() for key in keys})
 RANGES = ["0.8:1.2:0.2", "1:3", "0:2:0", "2:1", "nan:1:1", "0.5:2.5", "1:1e9:1e-9", "-1:1:1", "²:3", "4294967290:4294967300", "a:b", "", "1:2:3:4", "9" * 4400]
 COMMANDS = ["run", "run --listing", "run --csv out.csv", "run --csv STUDY", "run --csv -", "compare", "fill -o out.rec", "fill -o STUDY", "exercise", "convert STUDY out.rec",
             "convert STUDY out.toml", "convert STUDY STUDY", "queue 'Mill Street' --ceiling 5 --rate 900", "queue 'R 2' --ceiling ODD --rate ODD -o out.csv", "load --seed ODD --peak ODD",
             "load --seed 1 --peak 900 -o arrivals.csv", "judge other", "join STUDY --share 890 -o out.rec", "join STUDY --share ODD -o STUDY", "sweep --load RANGE --workers 1",
-            "sweep --vary KEY=RANGE --workers 1", "sweep --seeds RANGE --workers 1", "--lanes other", "--seconds ODD", "street", "new out", "nonsense", "run --nonsense", ""]
+            "sweep --vary KEY=RANGE --workers 1", "sweep --seeds RANGE --workers 1", "--seconds ODD", "street", "new out", "nonsense", "run --nonsense", ""]
 
 
 class TooLong(Exception):
@@ -181,13 +181,11 @@ def test_damaged_tables(folder: Path, dice: random.Random) -> None:
 def test_damaged_records_and_texts(folder: Path, dice: random.Random) -> None:
     put_anew(folder, STUDY, TABLES[0].encode())
     examples = ROOT / "examples"
-    source = dice.choice([examples / "printed-run.rec", examples / "printed-run.txt", examples / "exercise-8-cells.rec", examples / "printed-run.schedule.txt"])
-    if not source.exists():
-        source = examples / "printed-run.rec"
+    source = dice.choice([examples / "printed-run.rec", examples / "exercise-8-cells.rec", examples / "classroom-cut.schedule.csv"])
     name = "damaged" + source.suffix
     (folder / name).write_bytes(damaged_bytes(source.read_bytes(), dice))
     whole = str(examples / "printed-run.rec")
-    called(dice.choice([["run", name], ["judge", whole, name], ["fill", whole, name, "-o", "out.rec"], ["convert", name, "out.toml"], ["run", whole, "--lanes", name],
+    called(dice.choice([["run", name], ["judge", whole, name], ["convert", name, "out.toml"], ["fill", name, "-o", "out.rec"],
                         ["join", name, whole, "--share", "500", "-o", "out.rec"], ["exercise", name], ["convert", name, "out.rec"]]))
 
 

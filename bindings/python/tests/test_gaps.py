@@ -3,7 +3,7 @@ import re
 
 import pytest
 from nobyaluk import StudyError, load
-from nobyaluk.faults import Faults
+from nobyaluk.errors import FaultList
 
 ROAD = """
 step = 20
@@ -192,7 +192,7 @@ def test_a_file_of_hundreds_of_faults_is_told_in_short(study):
     text = wide(lambda m, gate, north: (f"x{m}", f"y{m}"))
     said = faults(study, text)
     assert "20 faults" in said and len(said.splitlines()) == 21
-    f = Faults("a.csv")
+    f = FaultList("a.csv")
     for row in range(2, 400, 2):
         f.add(row, ": odd")
         f.add(row, f": odd {row}")

@@ -7,20 +7,20 @@ from pathlib import Path
 import pytest
 from conftest import ROOT
 
-from nobyaluk import engine
+from nobyaluk import library
 
 # The header's name of a struct, where it is not the lower case of Python's.
-RENAMED = {"_Wanted": "wanted_answer", "_Row": "row_answer"}
-STRUCTS = {name: kind for name, kind in vars(engine).items() if isinstance(kind, type) and issubclass(kind, ctypes.Structure) and hasattr(kind, "_fields_")}
+RENAMED = {"Wanted": "wanted_answer", "Row": "row_answer"}
+STRUCTS = {name: kind for name, kind in vars(library).items() if isinstance(kind, type) and issubclass(kind, ctypes.Structure) and hasattr(kind, "_fields_")}
 
 
 def c_name(name: str) -> str:
-    return "nobyaluk_" + RENAMED.get(name, name.lstrip("_").lower())
+    return "nobyaluk_" + RENAMED.get(name, name.lower())
 
 
 @pytest.mark.skipif(shutil.which("cc") is None, reason="no C compiler")
 def test_every_struct_is_laid_out_as_in_c(tmp_path: Path) -> None:
-    assert len(STRUCTS) == 15
+    assert len(STRUCTS) == 20
     lines = []
     for name, kind in STRUCTS.items():
         lines.append(f'printf("{name} %zu\\n", sizeof({c_name(name)}));')

@@ -8,9 +8,10 @@ from functools import partial
 import nobyaluk
 import numpy as np
 import pytest
-from nobyaluk import StudyError, load, many, workers
+from nobyaluk import StudyError, cluster as cluster_module, load, parallel, workers
+from nobyaluk.cluster import NoCluster
 from nobyaluk.cli import main
-from nobyaluk.vary import Variants
+from nobyaluk.variants import Variants
 
 
 @pytest.fixture(scope="module")
@@ -66,7 +67,7 @@ def test_whole_runs_and_paths(examples, loads):
 
 def test_plain_records_take_the_short_way(examples):
     s = load(examples / "rocade-sud.rec")
-    t, r = many.totals(s), s.run()
+    t, r = parallel.totals(s), s.run()
     assert (t.total, t.gate, t.road, t.ramp, t.exits, t.present) == (r.total, r.gate, r.road, r.ramp, r.exits, r.present)
 
 
@@ -112,7 +113,7 @@ def test_a_cluster(examples, loads, wanted, capsys):
     """Two worker processes of Dask, by executor and by the command's --scheduler."""
     distributed = pytest.importorskip("distributed")
     with distributed.LocalCluster(n_workers=2, threads_per_worker=1, processes=True, dashboard_address=None) as cluster:
-        executor, client = many.cluster(cluster.scheduler_address)
+        executor, client = cluster_module.connect(cluster.scheduler_address)
         assert [t.total for t in nobyaluk.map(loads, executor)] == wanted
         client.close()
         path = str(examples / "studies/five-cells-alinea.toml")
@@ -205,12 +206,12 @@ def test_workers_are_bounded(examples, capsys, monkeypatch):
             asked.append(count)
             super().__init__(min(count, 2), *how)
 
-    monkeypatch.setattr(many, "Workers", Counted)
-    monkeypatch.setattr(many, "PAYS", 0)
-    monkeypatch.setattr(many, "processors", lambda: 8)
+    monkeypatch.setattr(parallel, "Workers", Counted)
+    monkeypatch.setattr(parallel, "PAYS", 0)
+    monkeypatch.setattr(parallel, "processors", lambda: 8)
     study = load(examples / "studies/five-cells.toml")
     for given, studies in ((100_000, 40), (None, 40), (3, 40), (100_000, 3), (1, 40)):
-        assert [x.total for group in many.spread([study] * studies, studies, workers=given) for x in group] == [study.run().total] * studies
+        assert [x.total for group in parallel.spread([study] * studies, studies, workers=given) for x in group] == [study.run().total] * studies
     assert asked == [8, 8, 3, 3]
     for words in ("-1", "0", "x", "1.5", "9" * 5000):
         assert main(["sweep", str(examples / "studies/five-cells.toml"), "--load", "1:2:1", f"--workers={words}"]) == 2
@@ -220,8 +221,8 @@ def test_workers_are_bounded(examples, capsys, monkeypatch):
 def test_a_cluster_that_is_not_there(examples, capsys, monkeypatch):
     """A wrong address is a wrong call; nobody who answers, or no worker, is something that is missing. Neither is an output."""
     distributed = pytest.importorskip("distributed")
-    monkeypatch.setattr(many, "TIMEOUT", 1)
-    monkeypatch.setattr(many, "PATIENCE", 1)
+    monkeypatch.setattr(cluster_module, "TIMEOUT", 1)
+    monkeypatch.setattr(cluster_module, "PATIENCE", 1)
     path = str(examples / "studies/five-cells.toml")
     sweep = lambda address: main(["sweep", path, "--load", "1:2:1", "--scheduler", address])
     for address in ("nonsense", "foo://x:1", "", "tcp://127.0.0.1"):
@@ -242,14 +243,14 @@ def test_workers_that_are_lost(loads, wanted, monkeypatch):
     def watch():
         seen.append(1)
         if len(seen) == 3:
-            raise many.NoCluster("lost")
+            raise NoCluster("lost")
 
     class Never(ThreadPoolExecutor):
         def submit(self, *_):
             return Future()
 
-    monkeypatch.setattr(many, "PATROL", 0.01)
-    with pytest.raises(many.NoCluster, match="lost"):
+    monkeypatch.setattr(parallel, "PATROL", 0.01)
+    with pytest.raises(NoCluster, match="lost"):
         list(nobyaluk.map(loads, Never(1), watch=watch))
     assert [t.total for t in nobyaluk.map(loads, ThreadPoolExecutor(1), watch=watch)] == wanted
 

@@ -5,13 +5,14 @@ import json
 
 import numpy as np
 import pytest
-from nobyaluk import answers, engine, exercise, load, marking, wrong_rules
-from nobyaluk.sheet_words import Words
+from nobyaluk import engine, load
+from nobyaluk.teaching.words import Words
+from nobyaluk.teaching import wrong_rules, answers, marking, exercises
 
 
 @pytest.fixture
 def printed(examples):
-    return exercise.of_file(examples / "printed-run.rec")
+    return exercises.exercise_from_file(examples / "printed-run.rec")
 
 
 @pytest.fixture
@@ -122,7 +123,7 @@ def test_wrong_totals_of_by_hand(marked, total, says):
 def test_the_totals_are_the_pages(root, printed):
     """The numbers of docs/BY-HAND.md are those of the key."""
     page = (root / "docs/BY-HAND.md").read_text()
-    found = dict(marking.mistakes(printed))
+    found = dict(marking.find_mistakes(printed))
     assert found == {"ramp": 27398, "gate": 26566, "cells": 20866, "start": 43598, "before": 32299, "alone": 33096}  # one after another gives the right total here
     for words in (f"a total of **{found['ramp']}**", f"The cells alone give {found['cells']}", f"the total is {found['alone']}"):
         assert words in page, words
@@ -130,10 +131,10 @@ def test_the_totals_are_the_pages(root, printed):
 
 def test_outflows_of_a_wrong_rule_are_recognised(marked, printed):
     """Cells moved one after another give the right total here; the outflows show it."""
-    last = wrong_rules.one_after_another(printed.study.record).outflow
+    last = wrong_rules.move_one_after_another(printed.study.record).outflow
     row = marked(gia_csv=rows_of(last) + "total,33098\n")["gia"]
     assert row["what a wrong total comes from"] == "outflows: cells moved one after another, last first" and row["total"] == "right" and "refused 14: step 0, the gate" in row["first broken rule"]
-    alone = wrong_rules.shares_rounded_alone(printed.study.record).outflow
+    alone = wrong_rules.round_shares_alone(printed.study.record).outflow
     row = marked(hal_csv=rows_of(alone) + "total,33096\n")["hal"]
     assert row["what a wrong total comes from"] == "shares rounded step by step"
 
@@ -142,9 +143,9 @@ def test_every_mistake_of_many_roads_is_recognised():
     """On drawn roads each mistake's total is recognised, by its own words or by those of another with the same total."""
     say, seen = Words("en"), set()
     for seed in range(60):
-        e = exercise.of_seed(seed, 2 + seed % 7, 3 + seed % 5)
-        for key, total in marking.mistakes(e):
-            told = marking.diagnosis(e, lambda x, total=total: x == total)
+        e = exercises.exercise_from_seed(seed, 2 + seed % 7, 3 + seed % 5)
+        for key, total in marking.find_mistakes(e):
+            told = marking.diagnose(e, lambda x, total=total: x == total)
             if say(f"wrong.{key}") in told:
                 seen.add(key)
             assert told, (seed, key)
@@ -164,7 +165,7 @@ def test_of_its_own_outflows(marked):
 def filled(e, language="en", student="", **changed):
     """The form of an exercise with the engine's run in it, as a spreadsheet saves it."""
     t, lines = Words(language), []
-    text = exercise.form(e, t, student)
+    text = exercises.answer_form(e, t, student)
     separator = ";" if language != "en" else ","
     k = 0
     times = iter([e.run.gate, e.run.road, e.run.ramp, e.run.total])
@@ -184,9 +185,9 @@ def filled(e, language="en", student="", **changed):
 @pytest.mark.parametrize("language", ["en", "de", "fr"])
 @pytest.mark.parametrize("cells", [1, 3, 8])
 def test_forms_filled_in(language, cells, tmp_path):
-    e = exercise.of_seed(3, cells, 5)
+    e = exercises.exercise_from_seed(3, cells, 5)
     (tmp_path / "a.csv").write_text(filled(e, language))
-    m = marking.mark(e, answers.read(tmp_path / "a.csv", e.n, len(e.ramps), 5), "a")
+    m = marking.mark_answer(e, answers.read_answer(tmp_path / "a.csv", e.n, len(e.ramps), 5), "a")
     assert (m.outflows, m.states, m.right, set(m.times.values())) == ("right", "follow from its outflows", True, {"right"}), m
     assert m.whose.startswith("everyone")
 
@@ -194,7 +195,7 @@ def test_forms_filled_in(language, cells, tmp_path):
 def test_states(tmp_path, printed):
     def states(text):
         (tmp_path / "a.csv").write_text(text)
-        return marking.mark(printed, answers.read(tmp_path / "a.csv", 2, 1, 3), "a").states
+        return marking.mark_answer(printed, answers.read_answer(tmp_path / "a.csv", 2, 1, 3), "a").states
 
     assert states(filled(printed, row1=[1, 1358, 933, 1000, 2142, 2992, 4000, 1900])) == "after step 1, held in cell 1: 2992, where its own outflows leave 2991"
     assert states(filled(printed, row2=[2, 1252, 934, 1000, 1890, 3309, 4000, ""])) == "follow from its outflows, 1 missing"
@@ -272,7 +273,7 @@ def test_nothing_is_written_over_an_answer(tmp_path, told, examples):
 def test_a_class(tmp_path, told):
     (tmp_path / "names.txt").write_text("Anna\nBen\nCleo\nDora\n")
     assert told("exercise", "--seed", 7, "--students", tmp_path / "names.txt", "-o", tmp_path / "c", "--no-pdf")[0] == 0
-    seats = {x.student: x.exercise for x in exercise.read_class(tmp_path / "c")}
+    seats = {x.student: x.exercise for x in exercises.read_class(tmp_path / "c")}
     (tmp_path / "in").mkdir()
     (tmp_path / "in/anna.csv").write_text(filled(seats["Anna"], student="Anna"))
     (tmp_path / "in/from-the-page.json").write_text(of_page(seats["Ben"], name="ben"))
@@ -292,7 +293,7 @@ def test_a_class(tmp_path, told):
 def test_the_name_in_a_file_comes_before_the_files_own(tmp_path, told):
     (tmp_path / "names.txt").write_text("Anna B\nAnna-B\nBen\n")
     assert told("exercise", "--seed", 7, "--students", tmp_path / "names.txt", "-o", tmp_path / "c", "--no-pdf")[0] == 0
-    seats = {x.student: x.exercise for x in exercise.read_class(tmp_path / "c")}
+    seats = {x.student: x.exercise for x in exercises.read_class(tmp_path / "c")}
     (tmp_path / "in").mkdir()
     for file, student in (("anna-b", "Ben"), ("x", "Anna-B"), ("y", "anna b")):
         (tmp_path / f"in/{file}.csv").write_text(f"name,{student}\ntotal,{seats['Anna B' if student == 'anna b' else student].run.total}\n")
@@ -302,7 +303,7 @@ def test_the_name_in_a_file_comes_before_the_files_own(tmp_path, told):
 
 
 def test_numbers():
-    read = lambda text: answers.number_of(text)
+    read = lambda text: answers.parse_number(text)
     assert read("") is None and read(" \u202f ") is None
     for text, parts, vehicles in (("1500", 1500, 1_500_000), ("1,500", 1500, 1500), ("1.500", 1500, 1500), ("1.234.567", 1234567, None), ("0,5", None, 500), ("20.25", None, 20250), ("1,234.5", None, 1234500),
                                   ("1.234,5", None, 1234500), ("1\u202f234", 1234, None), (".5", None, 500), ("0.934", None, 934)):

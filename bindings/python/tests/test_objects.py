@@ -90,7 +90,7 @@ def test_meters_works_releases_and_weights(examples):
     ({"meter": "open"}, "study: meter of all is 'open'; it is a Meter"),
     ({"arrivals": 3000}, 'arrivals is 3000; it has a number or a list for each name, as {"gate": 3000}'),
     ({"arrivals": {}}, "nothing says what arrives at gate, Mill Street"),
-    ({"steps": 1441}, "`steps` is 1441; it is at most 1440"),
+    ({"steps": 17281}, "`steps` is 17281; it is at most 17280"),
     ({"closures": [Closure(6, 1, 0, 1)]}, "`cell` is 6; it is at most 5"),
 ])
 def test_faults_have_the_words_of_a_file(changed, words):
@@ -104,7 +104,7 @@ def test_columns_of_cells():
     for wrong in ({"length": [1, 2], "speed": [1]}, {"length": 1}):
         with pytest.raises(StudyError, match="one for each cell, or one for all"):
             cells(**{"jam": 1, "capacity": 1, "speed": 1, **wrong})
-    assert doctest.testmod(nobyaluk.roads).failed == 0
+    assert doctest.testmod(nobyaluk.study_builder).failed == 0
     with pytest.raises(TypeError, match="capcity"):
         cells(length=[1], speed=1, jam=1, capcity=1)
 
@@ -120,7 +120,7 @@ def test_equal(study, run, examples):
     assert planned[0] == planned[1] and planned[0] != replace(planned[1], plan=planned[1].plan + 1) and planned[0] != replace(planned[1], plan=None)
     road = study.record.road.copy()
     road.capacity[2] += 1
-    assert road != study.record.road and nobyaluk.Start() == nobyaluk.Start() and nobyaluk.Start() != nobyaluk.State()
+    assert road != study.record.road and nobyaluk.engine.Start() == nobyaluk.engine.Start() and nobyaluk.engine.Start() != nobyaluk.engine.State()
     far = [LongRecord(study.record.road, study.record.start, study.record.rows) for _ in range(2)]
     assert far[0] == far[1] and hash(far[0]) == hash(far[1]) and far[0] != study.record
     assert far[0] != LongRecord(study.record.road, study.record.start, study.record.rows[1:])
@@ -128,8 +128,8 @@ def test_equal(study, run, examples):
 
 def test_short_words(study, run, examples):
     big = load(examples / "studies/rocade-sud-works.toml")
-    for x in (study, run, big, big.run(), study.record, study.record.road, study.record.start, run.state, study.record.begin, nobyaluk.Road(),
-              LongRecord(study.record.road, study.record.start, study.record.rows), nobyaluk.run(study.record)):
+    for x in (study, run, big, big.run(), study.record, study.record.road, study.record.start, run.state, study.record.begin, nobyaluk.engine.Road(),
+              LongRecord(study.record.road, study.record.start, study.record.rows), nobyaluk.engine.run(study.record)):
         assert 5 < len(repr(x)) < 180 and "\n" not in repr(x) and "object at" not in repr(x), repr(x)
     assert repr(study) == "<Study 'five-cells': 5 cells, 225 steps of 20 s, 1 on-ramp>"
     assert repr(run) == "<Run of 'five-cells': 170.32 vehicle-hours (gate 30.28, road 140.04, ramps 0.00)>"
@@ -164,7 +164,7 @@ def writable_at_last(array):
 def test_nothing_of_a_record_or_run_can_be_changed(study, examples):
     run = study.run()
     far = LongRecord(study.record.road, study.record.start, study.record.rows)
-    stepped = nobyaluk.long.run(far)
+    stepped = nobyaluk.long_record.run_long(far)
     for array in (study.record.rows, far.rows, run.outflow, run.held, run.queue, run.held[:, 1:], run.record.rows, stepped.outflow, stepped.held, stepped.queue,
                   run.density_veh_per_km, run.speed_km_per_h, run.inflow_veh_per_h, run.outflow_veh_per_h):
         assert not writable_at_last(array)
@@ -277,10 +277,10 @@ def test_every_public_name_says_what_it_is():
     """With units: what has parameters or attributes in numbers of the field or in parts says which."""
     for name in nobyaluk.__all__:
         assert getattr(nobyaluk, name).__doc__, name
-    for of in (Study.of, Cell, Gate, Meter, Closure, Study.run, Study.scaled, Study.loaded, load, nobyaluk.frame, nobyaluk.StudyRun.frame, nobyaluk.StudyRun.plot):
+    for of in (Study.of, Cell, Gate, Meter, Closure, Study.run, Study.scaled, Study.with_stated_load, load, nobyaluk.frame, nobyaluk.StudyRun.frame, nobyaluk.StudyRun.plot):
         assert "\n    ----" in of.__doc__ or "\n        ----" in of.__doc__, of
     for name in "read run run_weighted judge history fill write stated_load wanted grant put step hours".split():
-        words = getattr(nobyaluk, name).__doc__
+        words = getattr(nobyaluk if name == "hours" else nobyaluk.engine, name).__doc__
         assert "Parameters\n    ----" in words and "Returns\n    ----" in words and ("part" in words or "Record" in words), name
     for of, unit in ((Cell, "km/h"), (Cell, "veh/km"), (Gate, "veh/h"), (Meter, "veh/h"), (Study.of, "veh/h"), (nobyaluk.Run, "parts"), (nobyaluk.StudyRun, "shape (T, n)")):
         assert unit in of.__doc__

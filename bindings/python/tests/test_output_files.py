@@ -8,9 +8,9 @@ import sys
 import time
 
 import pytest
-from nobyaluk import StudyError, inputs, load
+from nobyaluk import StudyError, input_files, load
 from nobyaluk.cli import main
-from nobyaluk.output import NotWritten, check, guarded, write_file
+from nobyaluk.output_files import NotWritten, check_target, protect_inputs, write_file
 
 
 def others(folder):
@@ -52,7 +52,7 @@ def test_what_cannot_be_written_is_said(tmp_path):
 LIMITED = """
 import resource, signal, sys
 signal.signal(signal.SIGXFSZ, signal.SIG_IGN)
-from nobyaluk.output import NotWritten, write_file
+from nobyaluk.output_files import NotWritten, write_file
 resource.setrlimit(resource.RLIMIT_FSIZE, (1000, 1000))
 try:
     write_file(sys.argv[1], b"new" * 1000)
@@ -71,7 +71,7 @@ def test_a_full_disk_leaves_the_old_file(tmp_path):
 
 LOOP = """
 import sys
-from nobyaluk.output import write_file
+from nobyaluk.output_files import write_file
 k = 0
 while True:
     write_file(sys.argv[1], (b"%09d" % k) * 20000)
@@ -120,20 +120,20 @@ def test_what_a_study_reads(tmp_path):
     (tmp_path / "deep/base.toml").write_text("after = 'er/first.toml'\n[arrivals]\nfile = 'counts.csv'\n")
     (tmp_path / "road.toml").write_text("base = 'deep/base.toml'\n[releases]\ncap = false\n")
     (tmp_path / "street.toml").write_text("[[ramp]]\nstudy = 'road.toml'\n[[ramp]]\nstudy = 'other.rec'\n")
-    found = {os.path.realpath(x) for x in inputs.files_of([tmp_path / "street.toml"])}
+    found = {os.path.realpath(x) for x in input_files.find_inputs([tmp_path / "street.toml"])}
     for name in ("street.toml", "other.rec", "road.toml", "deep/base.toml", "deep/er/first.toml", "counts.csv", "deep/counts.csv", "releases.csv", "deep/er/arrivals.csv"):
         assert os.path.realpath(tmp_path / name) in found, name
-    with guarded([tmp_path / "street.toml"]), pytest.raises(StudyError, match="not written over"):
-        check(tmp_path / "deep/er/arrivals.csv")
-    with guarded([tmp_path / "street.toml"], force=True):
-        check(tmp_path / "deep/er/arrivals.csv")
+    with protect_inputs([tmp_path / "street.toml"]), pytest.raises(StudyError, match="not written over"):
+        check_target(tmp_path / "deep/er/arrivals.csv")
+    with protect_inputs([tmp_path / "street.toml"], force=True):
+        check_target(tmp_path / "deep/er/arrivals.csv")
     (tmp_path / "round.toml").write_text("base = 'round.toml'\nafter = 'deep/../round.toml'\n")
-    assert inputs.files_of([tmp_path / "round.toml"])
+    assert input_files.find_inputs([tmp_path / "round.toml"])
 
 
 def test_no_output_is_written_twice(tmp_path):
     """Two outputs of one command with one name would lose the first."""
-    with guarded([]):
+    with protect_inputs([]):
         write_file(tmp_path / "a.rec", "1")
         with pytest.raises(StudyError, match="two outputs of this name"):
             write_file(tmp_path / "a.rec", "2")
@@ -142,17 +142,18 @@ def test_no_output_is_written_twice(tmp_path):
 
 
 def test_what_is_read_has_a_size():
-    assert len(inputs.read_start("/dev/zero", 1000)) == 1000
+    assert len(input_files.read_start("/dev/zero", 1000)) == 1000
     with pytest.raises(StudyError, match="more than 1,000 bytes"):
-        inputs.read_file("/dev/zero", 1000)
+        input_files.read_file("/dev/zero", 1000)
     with pytest.raises(StudyError, match="no name of a file"):
-        inputs.read_file("a\0b")
+        input_files.read_file("a\0b")
 
 
 @pytest.fixture
 def own(examples, tmp_path):
-    """A study in its own folder with a base, arrivals, releases and a study before it, and a record with laws, lanes and a schedule."""
-    for name in ("rocade-sud.rec", "rocade-sud-alinea.laws.txt", "rocade-sud-works.lanes.txt", "rocade-sud-upstream.rec", "rocade-sud-downstream.rec"):
+    """A study in its own folder with a base, arrivals, releases and a study before it, and a record with a study that meters it."""
+    (tmp_path / "metered.toml").write_text('record = "rocade-sud.rec"\nstep = 20\n[meter.all]\nlaw = "open"\n')
+    for name in ("rocade-sud.rec", "rocade-sud-upstream.rec", "rocade-sud-downstream.rec"):
         (tmp_path / name).write_bytes((examples / name).read_bytes())
     (tmp_path / "base.toml").write_text((examples / "studies/five-cells.toml").read_text().partition("[arrivals]")[0])
     (tmp_path / "first.toml").write_bytes((examples / "studies/five-cells.toml").read_bytes())
@@ -166,8 +167,8 @@ def own(examples, tmp_path):
 
 READ = ["road.toml", "base.toml", "first.toml", "arrivals.csv", "r.csv"]
 WRITING = [("run road.toml --csv", READ), ("load road.toml --seed 1 --peak 3600 --ramp-peak 600 -o", READ), ("report road.toml -o", READ), ("sweep road.toml --load 1:1:1 -o", READ),
-           ("queue road.toml Mill_Street --ceiling 40 --rate 1200 -o", READ), ("fill rocade-sud.rec rocade-sud-alinea.laws.txt -o", ["rocade-sud.rec", "rocade-sud-alinea.laws.txt"]),
-           ("run rocade-sud.rec --lanes rocade-sud-works.lanes.txt --csv", ["rocade-sud-works.lanes.txt", "rocade-sud.rec"]),
+           ("queue road.toml Mill_Street --ceiling 40 --rate 1200 -o", READ), ("fill metered.toml -o", ["rocade-sud.rec"]),
+           ("run rocade-sud.rec --csv", ["rocade-sud.rec"]),
            ("join rocade-sud-upstream.rec rocade-sud-downstream.rec --share 890 -o", ["rocade-sud-upstream.rec", "rocade-sud-downstream.rec"])]
 
 

@@ -260,7 +260,7 @@ class Page(HTMLParser):
 
 
 def test_a_report_stands_alone(five, tmp_path):
-    text = report.page(five, "Five <cells>")
+    text = report.make_page(five, "Five <cells>")
     page = Page()
     page.feed(text)
     assert page.outside == [] and page.open == [] and "<script" not in text and "Five &lt;cells&gt;" in text
@@ -285,17 +285,17 @@ def test_names_are_no_mathematics(five, works, name, recwarn, tmp_path):
     s = replace(s, title=name, name=name, ramps={name: 4}, cell_names=[name] * 5)
     for kind in ("space-time", "queues"):
         figure = drawn(kind, s, r)
-        assert figures.legible(name) in text_of(figure), kind
-        assert len(figures.svg(figure)) > 1000
+        assert figures.make_legible(name) in text_of(figure), kind
+        assert len(figures.to_svg(figure)) > 1000
     figure = drawn("totals", [(s, r)])
-    assert figures.legible(name, 40) in text_of(figure)
+    assert figures.make_legible(name, 40) in text_of(figure)
     figures.save(figure, tmp_path / "t.pdf")
     if "$" in name:
-        assert "<svg" in report.page([(s, r)])
+        assert "<svg" in report.make_page([(s, r)])
 
 
 def test_names_on_one_line():
-    assert figures.legible("a\n b\x00c\u202ed") == "a b c d" and figures.legible("x" * 200) == "x" * 109 + "…" and figures.legible("$5 and $6") == "$5 and $6"
+    assert figures.make_legible("a\n b\x00c\u202ed") == "a b c d" and figures.make_legible("x" * 200) == "x" * 109 + "…" and figures.make_legible("$5 and $6") == "$5 and $6"
 
 
 def test_a_free_road_has_no_queue(road):
@@ -339,7 +339,7 @@ def test_long_times_have_few_ticks(examples):
 
 
 def test_a_picture_is_written_whole_or_not_at_all(five, tmp_path):
-    from nobyaluk.output import NotWritten
+    from nobyaluk.output_files import NotWritten
 
     path = tmp_path / "t.png"
     path.write_text("old")
@@ -356,13 +356,13 @@ def test_a_report_says_how_it_counts(five):
     from dataclasses import replace
 
     from nobyaluk import LongRecord
-    from nobyaluk import long as far
+    from nobyaluk import long_record as far
 
-    text = report.page(five[:1])
+    text = report.make_page(five[:1])
     for words in ("may leave it in the next", "of it arriving", "On-ramps have priority over the mainline", "no capacity drop", "no schedule of outflows"):
         assert words in text, words
     s, r = five[0]
-    long = far.run(LongRecord(r.record.road, r.record.start, r.record.rows))
-    assert "no schedule of outflows" not in report.page([(s, long)]) and "nothing is proved of other schedules" in report.page([(s, long)])
+    long = far.run_long(LongRecord(r.record.road, r.record.start, r.record.rows))
+    assert "no schedule of outflows" not in report.make_page([(s, long)]) and "nothing is proved of other schedules" in report.make_page([(s, long)])
     s = replace(s, rounding=s.rounding[:1])
-    assert "1 number was rounded" in report.page([(s, r)])
+    assert "1 number was rounded" in report.make_page([(s, r)])

@@ -4,9 +4,9 @@ import re
 from dataclasses import replace
 
 import pytest
-from nobyaluk import StudyError, load, report, stated, summary
-from nobyaluk.drawings import Drawings
-from nobyaluk.redo import studies_of
+from nobyaluk import StudyError, load, report, descriptions, summary
+from nobyaluk.inline_svg import InlineSvg
+from nobyaluk.redo import read_report
 
 WORKS = """
 base = "{}"
@@ -62,13 +62,20 @@ def test_a_study_is_rebuilt_from_what_a_report_says(written, tmp_path):
         r = again.run()
         weighted = f" weighted {r.weighted}" if r.weighted is not None else ""
         assert line == f"total {r.total} gate {r.gate} road {r.road} ramp {r.ramp} exits {r.exits}{weighted}"
-        assert (r.total, r.weighted, report.sum_of(r)) == (run.total, run.weighted, report.sum_of(run)) and report.sum_of(r) in page
+        assert (r.total, r.weighted, report.record_sha256(r)) == (run.total, run.weighted, report.record_sha256(run)) and report.record_sha256(r) in page
         assert f"<td>{summary.hours(r, again.seconds).total:,.2f}</td>" in page and again.title == study.title
 
 
 def test_redo(written, told, tmp_path):
     path, _ = written
     status, out, err = told("redo", path, "-o", tmp_path / "out")
+    there = {x.name: x.read_bytes() for x in (tmp_path / "out").iterdir()}
+    assert told("redo", path, "-o", tmp_path / "out")[0] == 0 and {x.name: x.read_bytes() for x in (tmp_path / "out").iterdir()} == there  # no copies
+    changed = next((tmp_path / "out").glob("*.toml"))
+    changed.write_text("mine\n")
+    refused = told("redo", path, "-o", tmp_path / "out")
+    assert refused[0] == 2 and f"{changed} is there already, and would be replaced" in refused[2] and changed.read_text() == "mine\n"
+    assert told("redo", path, "-o", tmp_path / "out", "--force")[0] == 0 and changed.read_bytes() == there[changed.name]
     assert (status, err) == (0, "") and out.splitlines()[-1] == f"{tmp_path}/out: 4 studies" and out.count("the same totals and record") == 4
     assert told("run", tmp_path / "out/works.toml")[0] == 0
     assert told("redo", path)[0] == 0 and not list(tmp_path.glob("*.toml"))
@@ -116,40 +123,36 @@ def test_titles_and_one_minus_sign(written):
 def test_titles_that_are_alike(examples, tmp_path):
     a = load(examples / "studies/five-cells.toml")
     r = a.run()
-    names = [s.name for s, _ in report.titled([(a, r), (replace(a, name="b"), r), (replace(a, name="b"), r), (replace(a, title="other"), r)])]
+    names = [s.name for s, _ in report.name_by_title([(a, r), (replace(a, name="b"), r), (replace(a, name="b"), r), (replace(a, title="other"), r)])]
     assert len(set(names)) == 4 and names[0] == f"{a.title} (five-cells)" and names[3] == "other"
-    (tmp_path / "r.html").write_text(report.page([(a, r), (a, r)]))
-    assert len(studies_of(tmp_path / "r.html")) == 2
+    (tmp_path / "r.html").write_text(report.make_page([(a, r), (a, r)]))
+    assert len(read_report(tmp_path / "r.html")) == 2
 
 
 def test_two_studies_of_one_file_name(examples, told, tmp_path):
     a = load(examples / "studies/five-cells.toml")
     half = a.scaled(0.5)
-    (tmp_path / "r.html").write_text(report.page([(a, a.run()), (replace(half, name="five-cells"), half.run())]))
+    (tmp_path / "r.html").write_text(report.make_page([(a, a.run()), (replace(half, name="five-cells"), half.run())]))
     assert told("redo", tmp_path / "r.html", "-o", tmp_path / "out")[0] == 0
     assert load(tmp_path / "out/five-cells.toml").run().total == a.run().total and load(tmp_path / "out/five-cells-2.toml").run().total == half.run().total
 
 
 def test_a_record_without_seconds(examples, told, tmp_path):
     """Its bytes are in the page, with a study beside them."""
-    words = ("report", examples / "printed-run.rec", examples / "rocade-sud.rec", "--lanes", examples / "rocade-sud-works.lanes.txt", "-o", tmp_path / "r.html")
-    assert told(*words)[0] == 1  # lanes of 21 cells beside a road of 2
     assert told("report", examples / "printed-run.rec", "-o", tmp_path / "r.html")[0] == 0
     assert told("redo", tmp_path / "r.html", "-o", tmp_path / "out")[0] == 0
     assert (tmp_path / "out/printed-run.rec").read_bytes() == (examples / "printed-run.rec").read_bytes()
-    assert told("report", examples / "rocade-sud.rec", "--lanes", examples / "rocade-sud-works.lanes.txt", "-o", tmp_path / "s.html")[0] == 0
-    assert told("redo", tmp_path / "s.html")[0] == 0
 
 
 def test_a_study_takes_less_than_a_megabyte(written, examples, tmp_path):
     path, _ = written
     assert path.stat().st_size < 4 * 600_000
     (tmp_path / "long.toml").write_text(f'base = "{examples}/studies/rocade-sud-works.toml"\nsteps = 1440\n')
-    s = load(tmp_path / "long.toml").loaded(1, 24_000, 6_000)
-    page = report.page([(s, s.run())])
+    s = load(tmp_path / "long.toml").with_stated_load(1, 24_000, 6_000)
+    page = report.make_page([(s, s.run())])
     assert len(page.encode()) < 1_000_000 and "data:image/png" in page
     (tmp_path / "r.html").write_text(page)
-    (x,) = studies_of(tmp_path / "r.html")
+    (x,) = read_report(tmp_path / "r.html")
     (tmp_path / "again.toml").write_text(x.files[next(iter(x.files))])
     assert load(tmp_path / "again.toml").run().total == s.run().total
 
@@ -159,7 +162,7 @@ def test_drawings_are_made_small():
     line = '<path d="M 1.23456 2 \nL 3 4.98765 " clip-path="url(#p1)" style="fill: none; stroke: #000000"/>'
     fill = '<path d="M 1 2 \nL 3 4 z" style="fill: #fff"/>'
     letter = '<path id="DejaVuSans-41" d="M 1 2 \nz" transform="scale(0.015625)"/>'
-    one = Drawings()
+    one = InlineSvg()
     assert one.small(f"<svg>\n<defs>\n {letter}\n</defs>\n {line}\n {line}\n {fill}\n {fill}\n <use x=\"1.23456\"/></svg>") == (
         '<svg>\n<defs>\n<path id="DejaVuSans-41" d="M 1 2 z" transform="scale(0.015625)"/>\n</defs>\n'
         '<path d="M 1.23 2 L 3 4.98 M 1.23 2 L 3 4.98" clip-path="url(#p1)" style="fill: none; stroke: #000000"/>\n'
@@ -169,12 +172,12 @@ def test_drawings_are_made_small():
 
 def test_laws_in_words(examples):
     s = load(examples / "studies/rocade-sud-alinea.toml")
-    assert stated.law(s, 7) == "ALINEA, gain 9 km/h (0.1 a step), target 26 vehicles (52 veh/km)"
-    assert stated.law(replace(s, lengths=None, seconds=None), 7) == "ALINEA, gain 0.1 a step, target 26 vehicles"
-    assert stated.law(replace(s, laws={}), 7) == "by the table of releases, exactly"
+    assert descriptions.describe_law(s, 7) == "ALINEA, gain 9 km/h (0.1 a step), target 26 vehicles (52 veh/km)"
+    assert descriptions.describe_law(replace(s, lengths=None, seconds=None), 7) == "ALINEA, gain 0.1 a step, target 26 vehicles"
+    assert descriptions.describe_law(replace(s, laws={}), 7) == "by the table of releases, exactly"
 
 
 def test_reports_of_nothing_fail(tmp_path):
     (tmp_path / "x.html").write_bytes(b"\xff\xfe")
     with pytest.raises(StudyError, match="UTF-8"):
-        studies_of(tmp_path / "x.html")
+        read_report(tmp_path / "x.html")

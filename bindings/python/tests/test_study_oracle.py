@@ -9,7 +9,7 @@ import numpy as np
 import pytest
 from hypothesis import given, settings
 from hypothesis import strategies as st
-from nobyaluk import Refused, StudyError, convert, engine, load
+from nobyaluk import Refused, StudyError, study_writer, engine, load
 
 NAMES = st.lists(st.sampled_from(["A", "B 2", "Mill, Street", 'x"y', "7", "Ümlaut", "=1", "D1"]), max_size=4, unique=True)
 STEP, STEPS = 20, 30
@@ -144,7 +144,7 @@ def test_every_ramp_is_accounted_for(tmp_path_factory, says, exact, data):
     assert (again.total, again.exits) == (r.total, r.exits)
     came = rows[:, 0].sum() + rows[:, 1::2].sum()
     assert came == r.present + r.exits
-    written = convert.to_toml(s, folder / "again.toml") | convert.with_record(s, r.record.data, folder / "beside.rec", [])[0]
+    written = study_writer.toml_files(s, folder / "again.toml") | study_writer.record_files(s, r.record.data, folder / "beside.rec", [])[0]
     for path, text in written.items():
         path.write_bytes(text if isinstance(text, bytes) else text.encode())
     for name in ("again.toml", "beside.toml"):  # a study that is written says and runs the same

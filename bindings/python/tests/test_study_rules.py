@@ -3,9 +3,9 @@ import re
 
 import numpy as np
 import pytest
-from nobyaluk import Refused, StudyError, engine, files, load, street, tables
+from nobyaluk import Refused, StudyError, engine, toml_reader, load, street, tables
 from nobyaluk.cli import main
-from nobyaluk.vary import Variants
+from nobyaluk.variants import Variants
 
 TWO = """
 step = 20
@@ -228,7 +228,7 @@ def test_held_takes_the_place_of_a_default_density(write):
 
 
 def test_the_documents_studies(write, tmp_path, root):
-    """The snippets of STUDIES.md and ENGINEER.md are studies that load."""
+    """The snippets of STUDIES.md and PLANNING.md are studies that load."""
     blocks = re.findall(r"^```toml\n(.*?)^```$", (root / "docs/STUDIES.md").read_text(), re.M | re.S)
     first = load(write(blocks[0], road="", arrivals="time,gate,Mill Street\n07:00,3000,300\n"))
     assert first.run().total > 0 and first.n == 4
@@ -236,7 +236,7 @@ def test_the_documents_studies(write, tmp_path, root):
     road = TWO.partition("[[cell]]")[0] + '[[cell]]\n[[cell]]\nramp = "a"\n'
     (tmp_path / "road.rec").write_bytes(load(write('[arrivals]\ngate = 0\na = 0\n', OPEN, road=road, name="a.toml")).run().record.data)
     assert load(write(beside, road="")).ramps == {"Mill Street": 2}
-    blocks = re.findall(r"^```toml\n(.*?)^```$", (root / "docs/ENGINEER.md").read_text(), re.M | re.S)
+    blocks = re.findall(r"^```toml\n(.*?)^```$", (root / "docs/PLANNING.md").read_text(), re.M | re.S)
     assert (root / "examples/studies/rocade-sud-ceiling.toml").read_text() in blocks
     counts = "time,detector,count\n" + "".join(f"07:{m:02d},{d},9\n" for m in range(60) for d in ("D17", "D22", "D99"))
     assert load(write(next(x for x in blocks if x.startswith("[arrivals]")), OPEN, road=road.replace('"a"', '"Mill Street"'), counts=counts)).run().total > 0
@@ -444,8 +444,8 @@ BAD_TOMLS = {
     "a closure's long step": ("[gate]", f'[[closure]]\ncell = 1\nlanes = 1\nfrom = "{"9" * 5000}"\nto = 4\n[gate]', "`from`"),
     "a day": ('start = "07:00"', "start = 2024-02-30", "date"),
     "a missing number": ("speed = 90", "", "`speed` is missing; it is a number from 0.000001"),
-    "no steps": ("steps = 120", "", "`steps` is missing; it is a number from 1 to 1440"),
-    "steps": ("steps = 120", "steps = 4320", "it is at most 1440; a longer study goes on with `after`"),
+    "no steps": ("steps = 120", "", "`steps` is missing; it is a number from 1 to 17280"),
+    "steps": ("steps = 120", "steps = 17281", "it is at most 17280; a longer study goes on with `after`"),
 }
 
 
@@ -505,23 +505,23 @@ def test_a_street_reads_whole_names(examples, tmp_path):
     ramp = '[[ramp]]\nstudy = "{}"\nramp = "Mill Street"\nguarantee = 300\n'
     path = tmp_path / "street.toml"
     path.write_text("limit = 1260\n" + ramp.format("north/road.toml") + ramp.format("south/road.toml"))
-    st = street.read(path)
+    st = street.read_street(path)
     assert [s.name for s in st.studies] == ["north-road", "south-road"] and st.names[0] == "north-road, ramp Mill Street"
     path.write_text("limit = 1260\n" + ramp.format("north/road.toml") + ramp.format("./north/../north/road.toml"))
     with pytest.raises(StudyError, match="already"):
-        street.read(path)
+        street.read_street(path)
     south = tmp_path / "south/road.toml"
     south.write_text(south.read_text().replace('"07:', '"08:'))
     path.write_text("limit = 1260\n" + ramp.format("north/road.toml") + ramp.format("south/road.toml"))
     with pytest.raises(StudyError, match="07:00:00 and south-road at 08:00:00"):
-        street.read(path)
+        street.read_street(path)
     for limit in ("1e30", "-1", "true", '"x"', "99999999999"):
         path.write_text(f"limit = {limit}\n" + ramp.format("north/road.toml"))
         with pytest.raises(StudyError, match="limit"):
-            street.read(path)
+            street.read_street(path)
     path.write_text("limit = 1260\n" + ramp.format("north/road.toml").replace("300", "1e20"))
     with pytest.raises(StudyError, match="guarantee"):
-        street.read(path)
+        street.read_street(path)
 
 
 def test_a_stated_load_says_what_arrives_at_ramps(write, capsys):
@@ -533,8 +533,8 @@ def test_a_stated_load_says_what_arrives_at_ramps(write, capsys):
 
 
 def test_the_clock_by_itself():
-    clock = tables.Clock(files.Fraction(20), files.Fraction(25200), 100)
-    assert clock.second("time", "07:00:00.500", "here") == files.Fraction(1, 2)
+    clock = tables.Clock(toml_reader.Fraction(20), toml_reader.Fraction(25200), 100)
+    assert clock.second("time", "07:00:00.500", "here") == toml_reader.Fraction(1, 2)
     assert clock.second("time", "2026-05-12 24:00", "here") == 17 * 3600
     assert clock.second("time", "2026-05-13 00:00", "here") == 17 * 3600
     assert re.search("no number", str(pytest.raises(StudyError, clock.second, "step", "²", "here").value))

@@ -14,22 +14,26 @@ from functools import partial
 from pathlib import Path
 
 import pytest
-from nobyaluk import StudyError, hours, inputs, load, many, sweep, workers
+from nobyaluk import StudyError, hours, input_files, load, parallel, sweep, workers
+from nobyaluk.cli import sweep_commands
+from nobyaluk.totals import totals_and_queues
 from nobyaluk.study import Study
-from nobyaluk.vary import Variants
+from nobyaluk.variants import Variants
 
 COMMAND = [sys.executable, "-m", "nobyaluk", "sweep"]
 SLOW = """
 import os, signal, sys, time
-from nobyaluk import many, cli
-many.PAYS = 0
+from nobyaluk import cli, cluster, parallel
+from nobyaluk.cli import sweep_commands
+parallel.PAYS = 0
 signal.signal(signal.SIGINT, signal.default_int_handler)  # which a shell's background job ignores, and so would the sweep
 def slow(study):
     time.sleep(0.01)
     if "%(bad)s" and study.name.endswith("%(bad)s"):
         os.kill(os.getpid(), signal.SIGKILL)
     return totals(study)
-totals, many.totals_and_queues = many.totals_and_queues, slow
+totals = parallel.totals_and_queues
+cluster.totals_and_queues = parallel.totals_and_queues = sweep_commands.totals_and_queues = slow
 sys.exit(cli.main(sys.argv[1:]))
 """
 
@@ -166,7 +170,7 @@ def test_resume_is_of_the_same_sweep(road, told, tmp_path):
 def test_the_study_may_not_change_between(road, told, tmp_path, monkeypatch):
     path, out = road("step = 20", "step = 20"), tmp_path / "a.csv"
     words = ("sweep", path, "--vary", "gate.capacity=4000:4400:100", "-o", out)
-    each, calls = many.totals_and_queues, []
+    each, calls = totals_and_queues, []
 
     def twice(study):
         calls.append(1)
@@ -174,7 +178,8 @@ def test_the_study_may_not_change_between(road, told, tmp_path, monkeypatch):
             raise KeyboardInterrupt
         return each(study)
 
-    monkeypatch.setattr(many, "totals_and_queues", twice)
+    monkeypatch.setattr(parallel, "totals_and_queues", twice)
+    monkeypatch.setattr(sweep_commands, "totals_and_queues", twice)
     status, _, err = told(*words)
     assert status == 130 and "a.csv.part has " in err and " of 5 rows" in err
     monkeypatch.undo()
@@ -212,11 +217,11 @@ def test_whatever_fails_is_named(examples, monkeypatch):
     good = load(examples / "studies/five-cells.toml")
 
     class Bad(Study):
-        def _run(self):
+        def run_engine(self):
             raise ZeroDivisionError("of all things")
 
-    bad = Bad(**vars(good) | {"name": "bad", "laws": {4: ("fixed", 1.0)}})
-    found = list(many.map([good, bad, "no such.toml", partial(good.scaled, "x"), good]))
+    bad = Bad(**vars(good) | {"name": "bad", "weights": ([1] * 6, [1] * 5)})
+    found = list(parallel.map([good, bad, "no such.toml", partial(good.scaled, "x"), good]))
     assert [x.total for x in found] == [good.run().total, 0, 0, 0, good.run().total]
     assert (found[1].name, found[1].fault) == ("bad", "ZeroDivisionError: of all things") and "FileNotFoundError" in found[2].fault and found[3].name == "five-cells scaled x"
 
@@ -284,16 +289,10 @@ def test_a_grid(examples, told, tmp_path):
     assert "--vary makes 1,000 x 1,001 studies; a sweep has at most 1,000,000" in told("sweep", path, "--vary", "gate.capacity=1:1000:1", "--vary", "step=0:1000:1")[2]
 
 
-def test_lanes_are_not_passed_over(examples, told):
-    words = ("sweep", examples / "studies/rocade-sud.toml", "--lanes", examples / "rocade-sud-works.lanes.txt")
-    status, out, err = told(*words, "--vary", "gate.capacity=4000:4400:400")
-    assert (status, out) == (2, "") and "--lanes is not taken with --vary; write the works into the study, as [[closure]]" in err
-
-
 def test_files_are_read_once(examples, told, monkeypatch):
     """A sweep of a law's number opens the study's files as often for many values as for two."""
-    path, opened, read = examples / "studies/five-cells-alinea.toml", [], inputs.read_start
-    monkeypatch.setattr(inputs, "read_start", lambda name, most: opened.append(str(name)) or read(name, most))
+    path, opened, read = examples / "studies/five-cells-alinea.toml", [], input_files.read_start
+    monkeypatch.setattr(input_files, "read_start", lambda name, most: opened.append(str(name)) or read(name, most))
     counts = []
     for span in ("10:11:1", "10:30:1"):
         opened.clear()
@@ -377,7 +376,7 @@ def test_a_study_at_which_workers_of_a_cluster_die_is_named(examples, tmp_path):
 
 def test_a_scheduler_without_workers_and_a_wrong_address(examples, tmp_path):
     with scheduler(tmp_path, 0) as (address, _, _):
-        command = "import sys; from nobyaluk import many; many.PATIENCE = 2; from nobyaluk.cli import main; sys.exit(main())"
+        command = "import sys; from nobyaluk import cluster; cluster.PATIENCE = 2; from nobyaluk.cli import main; sys.exit(main())"
         words = [sys.executable, "-c", command, "sweep", examples / "studies/five-cells.toml", "--load", "1:2:1", "-o", tmp_path / "a.csv", "--scheduler"]
         p = subprocess.run([*words, address], capture_output=True, text=True)
         assert p.returncode == 3 and f"the cluster at {address} has no workers, and none came within 2 s" in p.stderr and "Traceback" not in p.stderr

@@ -1,6 +1,8 @@
 """The text forms: what a text says is what is read, and anything else is a fault of its line."""
 import pytest
-from nobyaluk import StudyError, engine, text
+import text_form as text
+from nobyaluk import StudyError, engine
+from nobyaluk.schedules import parse_schedule
 
 TWO = "gate capacity 2000 queue 3000\ncell v 500 w 250 b 750 jam 8000 capacity 2000\ncell v 500 w 250 b 0 jam 8000 capacity 2000 ramp 1\n"
 LONG = "9" * 5000
@@ -73,7 +75,7 @@ def test_schedules():
 
 
 def test_schedules_as_csv():
-    read = lambda given: text.schedule_of_csv(given, 1)
+    read = lambda given: parse_schedule(given, 1).tolist()
     for given in ("1,2\n3,4\n", "gate,1\n1,2\n3,4\n", "step,gate,1\n0,1,2\n1,3,4\n", "Step;gate;1\r\n0;1;2\r\n1;3;4\r\n", "\ufeff1\t2\n3\t4\n", "# mine\n\n1,2\n# more\n3,4\n", '"1","2"\n3,4\n', '"a,b";"c,d"\n1;2\n3;4\n'):
         assert read(given) == [1, 2, 3, 4], given
     assert read("") == []
@@ -83,3 +85,8 @@ def test_schedules_as_csv():
                         ("step,gate,1\n1,1,2\n", "`step` is '1', where step 0 comes next"), ("1,2\n3,\n", "row 2, column 2: ''"), ("1,2\n3,²\n", "'²'"), ("0,1,2\n", "3 outflows"), ("-1,2\n", "'-1'"),
                         (f"1,{LONG}\n", "column 2"), ("1," + "x" * 140_000, "field larger than field limit"), ("1 2\n", "1 outflows"), ("step,gate,1\n0,1,2.5\n", "row 2, column 3: '2.5'")):
         assert says in fault(read, given), given
+
+
+def test_the_example_is_its_text(examples):
+    table, words = ((examples / f"classroom-cut.schedule.{x}").read_text() for x in ("csv", "txt"))
+    assert parse_schedule(table, 2).tolist() == text.schedule_of(words)

@@ -37,7 +37,7 @@ def test_it_runs_alone(wheel, examples, tmp_path):
     command = [sys.executable, "-m", "nobyaluk", "run", "--listing", str(examples / "printed-run.rec")]
     out = subprocess.run(command, env=env, cwd=tmp_path, capture_output=True, text=True)
     assert out.returncode == 0 and out.stdout.endswith(SUMS)
-    where = subprocess.run([sys.executable, "-c", "import nobyaluk; print(nobyaluk.engine._lib._name)"], env=env, cwd=tmp_path, capture_output=True, text=True)
+    where = subprocess.run([sys.executable, "-c", "import nobyaluk; print(nobyaluk.library.path())"], env=env, cwd=tmp_path, capture_output=True, text=True)
     assert where.stdout.strip() == str(tmp_path / "nobyaluk/libnobyaluk.so")
 
 
@@ -45,8 +45,9 @@ def test_what_an_installer_reads(wheel, root):
     version = (root / "VERSION").read_text().strip()
     assert wheel.name == f"nobyaluk-{version}-py3-none-linux_x86_64.whl"
     with zipfile.ZipFile(wheel) as z:
-        modules = {p.name for p in (root / "bindings/python/nobyaluk").glob("*.py")}
-        assert {n.split("/")[1] for n in z.namelist() if n.startswith("nobyaluk/")} == modules | {"libnobyaluk.so", "refusals.tsv"}
+        package = root / "bindings/python"
+        modules = {p.relative_to(package).as_posix() for p in (package / "nobyaluk").rglob("*.py")}
+        assert {n for n in z.namelist() if n.startswith("nobyaluk/")} == modules | {f"nobyaluk/{x}" for x in ("libnobyaluk.so", "py.typed")}
 
 
 def test_installed_and_removed(wheel, root, examples, tmp_path):

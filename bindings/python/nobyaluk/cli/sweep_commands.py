@@ -1,0 +1,190 @@
+"""The command that runs many studies: sweep."""
+import argparse
+import sys
+from collections.abc import Callable, Iterator
+from fractions import Fraction
+from functools import partial
+from pathlib import Path
+from typing import Any
+
+from .. import parallel
+from ..cluster import Cluster, NoCluster
+from ..errors import StudyError
+from ..output_files import NotWritten
+from ..progress import Progress
+from ..study import Study
+from ..sweep import Sweep, SweepRows, SweepTable, Terminated, raise_on_sigterm
+from ..totals import Totals, totals_and_queues
+from ..variants import Variants
+from .arguments import (
+    MOST_STUDIES,
+    PEAK,
+    RAMP_PEAK,
+    parse_ramp_peak,
+    parse_rate,
+    parse_span,
+    study_arguments,
+    worker_count,
+)
+from .declaration import argument, command
+from .running import load_study
+
+
+@command(
+    "sweep STUDY --load 0.8:1.2:0.01",
+    "write the totals of many loads, seeds or values of a key as CSV",
+    *study_arguments(),
+    argument("--load", metavar="LOW:HIGH:STEP", help="all arrivals times each of these"),
+    argument(
+        "--seeds",
+        metavar="FIRST:LAST",
+        help="the stated load of each seed, with --peak and --ramp-peak",
+    ),
+    argument(
+        "--vary",
+        metavar="KEY=LOW:HIGH:STEP",
+        action="append",
+        help=(
+            "a number of the .toml, as meter.all.rate=300:900:50; twice: each pair of both keys'"
+            " values"
+        ),
+    ),
+    PEAK,
+    RAMP_PEAK,
+    argument(
+        "--workers",
+        type=worker_count,
+        help="processes, at most as many as processors; default: as many",
+    ),
+    argument(
+        "--scheduler", metavar="ADDRESS", help="of a Dask cluster whose workers have this package"
+    ),
+    argument(
+        "-o",
+        "--output",
+        default="-",
+        metavar="FILE.csv",
+        help="default: standard output; until all rows are there they are in FILE.csv.part",
+    ),
+    argument(
+        "--resume",
+        action="store_true",
+        help="go on with FILE.csv.part, which a sweep left that was interrupted",
+    ),
+    examples=[
+        "sweep road.toml --load 0.8:1.2:0.01 -o loads.csv",
+        "sweep road.toml --seeds 1:1000 --peak 4000 --ramp-peak 700",
+        "sweep road.toml --vary meter.all.rate=300:900:50",
+        (
+            "sweep road.toml --vary meter.all.gain_kmh=5:50:5 --vary meter.all.target=20:60:5 -o"
+            " grid.csv"
+        ),
+        "sweep road.toml --load 0.5:1.5:0.0001 -o loads.csv --resume",
+        "sweep road.toml --load 0.5:1.5:0.001 --scheduler tcp://10.0.0.1:8786",
+    ],
+)
+def sweep(args: argparse.Namespace) -> int:
+    """Write the totals of many studies; 2 where all of them failed."""
+    if sum(x is not None for x in (args.load, args.seeds, args.vary)) != 1:
+        raise StudyError("one of --load, --seeds and --vary says what is swept")
+    s = load_study(args.study, args)
+    what = plan_sweep(s, args)
+    rows, count = SweepRows(what, s), len(what)
+    bar = not (args.output == "-" and sys.stdout.isatty())  # a bar would be between the rows
+    with (
+        SweepTable(args.output, rows, what.sum(s), args.resume, args.force) as table,
+        raise_on_sigterm(),
+        Progress(count, "studies", table.done, bar) as say,
+    ):
+        try:
+            for found in run_sweep(what.studies(table.done), count - table.done, args):
+                table.add(found)
+                say(table.done)
+        except (NoCluster, NotWritten) as e:
+            raise type(e)("; ".join(filter(None, [str(e), table.where()]))) from None
+        except (KeyboardInterrupt, Terminated):
+            print(f"nobyaluk: {table.where() or 'interrupted'}", file=sys.stderr)
+            raise
+    if rows.refused:
+        print(
+            (
+                f"nobyaluk: {rows.refused} of {count} were refused;"
+                " the last column has number, step and place"
+            ),
+            file=sys.stderr,
+        )
+    if rows.faults:
+        first = f": {rows.first}" if rows.faults == count else ""
+        print(
+            f"nobyaluk: {rows.faults} of {count} failed; the last column says why{first}",
+            file=sys.stderr,
+        )
+    return 2 if rows.faults == count else 0
+
+
+def run_sweep(
+    studies: Iterator[Any], count: int, args: argparse.Namespace
+) -> Iterator[list[Totals]]:
+    """Return the totals of a sweep's studies, in groups.
+
+    By a cluster, or here by as many processes as pay.
+    """
+    if args.scheduler is None:
+        yield from parallel.spread(studies, count, totals_and_queues, args.workers)
+        return
+    cluster = Cluster(args.scheduler)
+    try:
+        yield from cluster.spread(studies, totals_and_queues)
+    finally:
+        cluster.close()
+
+
+def plan_sweep(s: Study, args: argparse.Namespace) -> Sweep:
+    """Return what is swept; files are read here, where a cluster may not see them."""
+    if args.load is not None:
+        loads = parse_span(args.load, "--load", least=0)
+        return Sweep(["load"], [loads], partial(partial, s.scaled))
+    if args.vary is not None:
+        return plan_variants(args)
+    if args.peak is None:
+        raise StudyError("--seeds needs --peak, and --ramp-peak where the road has ramps, in veh/h")
+    seeds = parse_span(args.seeds, "--seeds", whole_numbers=True, least=0, most=(1 << 32) - 1)
+    peaks = parse_rate(s, args.peak, "--peak"), parse_ramp_peak(s, args.ramp_peak)
+    return Sweep(["seed"], [seeds], lambda x: partial(s.with_stated_load, int(x), *peaks), peaks)
+
+
+def plan_variants(args: argparse.Namespace) -> Sweep:
+    """Return the sweep of one key of the .toml, or of each pair of two keys' values."""
+    pairs = [x.partition("=") for x in args.vary]
+    if Path(args.study).suffix != ".toml" or not all(words for _, _, words in pairs):
+        raise StudyError(
+            "--vary is KEY=LOW:HIGH:STEP of a .toml study, as meter.all.rate=300:900:50"
+        )
+    if len(pairs) > 2:
+        raise StudyError(
+            f"--vary is there {len(pairs)} times; a sweep varies one key,"
+            " or each pair of two keys' values"
+        )
+    keys = [key for key, _, _ in pairs]
+    axes = [parse_span(words, "--vary") for _, _, words in pairs]
+    variants = Variants(args.study, keys)
+    read_here = partial(make_variant, variants)
+    recipe = read_here if variants.needs_files else partial(partial, variants.study)
+    what = Sweep(keys, axes, recipe, variants.source.values)
+    if len(what) > MOST_STUDIES:
+        sizes = " x ".join(f"{len(x):,}" for x in axes)
+        raise StudyError(f"--vary makes {sizes} studies; a sweep has at most {MOST_STUDIES:,}")
+    return what
+
+
+def make_variant(variants: Variants, *values: Fraction) -> Study | Callable[[], Study]:
+    """Return a variant of which files are read, or a recipe that raises why there is none."""
+    try:
+        return variants.study(*values)
+    except Exception as e:  # noqa: B902 the row says it, and the others go on
+        return partial(raise_fault, e)
+
+
+def raise_fault(e: Exception) -> Study:
+    """Raise what was wrong with a variant, in place of making it."""
+    raise e

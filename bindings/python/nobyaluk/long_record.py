@@ -1,0 +1,352 @@
+"""Studies beyond a record's 65,536 bytes: 1,440 steps of 64 cells as one, and whole days in parts.
+
+A `LongRecord` is used as a `Record` is. It is run, filled, judged and given its history in
+stretches of as many rows as a record holds. The engine goes on with each from the state of the one
+before, with its cumulative outflows and times, and the meters from their last releases and entries.
+What is longer than 1,440 steps is run in parts of 1,440: a part starts from what the one before
+left, and its steps and cumulative outflows begin anew. Python adds up: weighted totals over the
+stretches, times and exits over the parts.
+"""
+import ctypes
+from collections.abc import Iterator, Mapping
+from dataclasses import dataclass
+from functools import cached_property
+from typing import Any, NamedTuple
+
+import numpy as np
+
+from . import engine, library
+from .arrays import freeze, lend, to_array, to_bytes
+from .engine import BaseRecord, Law, LongestQueues, Record, Refused, Road, Run, Start, State
+from .errors import StudyError
+from .refusals import Refusal
+
+MOST_STEPS = 17_280  # of a study: 24 hours of 5 s
+
+
+class Stretch(NamedTuple):
+    """Rows that one record holds: the step of the first, how many, and the record.
+
+    The record's own start is checked and then ignored.
+    """
+
+    begin: int
+    steps: int
+    data: bytes
+
+    @property
+    def anew(self) -> bool:
+        """Whether a part begins with it that is not the first."""
+        return self.begin > 0 and self.begin % engine.STEPS == 0
+
+    def lanes(self, table: bytes, n: int) -> bytes:
+        """Return a table of lanes for these steps alone."""
+        at = n * (1 + self.begin)
+        return table and table[:n] + table[at : at + n * self.steps]
+
+
+@dataclass(frozen=True, eq=False, repr=False)
+class LongRecord(BaseRecord):
+    """A road, a start and more rows than a record holds, each within the engine's limits.
+
+    It keeps copies, which nothing can change.
+    """
+
+    road: Road
+    start: State
+    rows: np.ndarray
+
+    def __post_init__(self) -> None:
+        if not isinstance(self.road, Road) or not isinstance(self.start, State):
+            raise TypeError(
+                "a LongRecord has a Road and a State; `make_record` makes one of a Road and a Start"
+            )
+        rows = to_array(self.rows)
+        if rows.ndim != 2 or rows.shape[1] != 1 + 2 * self.road.n:
+            raise ValueError(f"rows of {self.road.n} cells have {1 + 2 * self.road.n} numbers each")
+        for name, kept in (
+            ("rows", freeze(rows)),
+            ("road", self.road),
+            ("start", self.start),
+        ):  # copies
+            object.__setattr__(self, name, kept)
+
+    def __eq__(self, other: Any) -> bool:
+        if not isinstance(other, LongRecord):
+            return NotImplemented
+        return (
+            self.road == other.road
+            and self.start == other.start
+            and np.array_equal(self.rows, other.rows)
+        )
+
+    def __hash__(self) -> int:
+        return hash(self.rows.tobytes())
+
+    def __repr__(self) -> str:
+        return f"LongRecord({self.road.n} cells, {self.steps} steps)"
+
+    def __reduce__(self) -> tuple:
+        return LongRecord, (self.road, self.start, self.rows)
+
+    @property
+    def steps(self) -> int:
+        """T, the number of steps."""
+        return self.rows.shape[0]
+
+    @cached_property
+    def stretches(self) -> list[Stretch]:
+        """The rows in as few records as hold them, none across the end of a part."""
+        return list(_written(self.road, self.rows))
+
+    def history(self, outflow: np.ndarray, lanes: bytes) -> tuple[np.ndarray, np.ndarray]:
+        """Return what each place holds, and what waits at its ramp, after every step of a run."""
+        w, zs = _Whole(self, lanes), to_array(outflow)
+        held, queue = (np.empty(w.outflow.shape, np.uint32) for _ in range(2))
+        for s, own, rows in w.stretches():
+            lists = (*lend(zs[rows]), *lend(held[rows]), *lend(queue[rows]))
+            e = library.history_on(s.data, len(s.data), own, len(own), w.state, *lists)
+            w.take(s, e, "history_on")
+        return held, queue
+
+
+def most_steps(road: Road) -> int:
+    """Return as many steps as a record of this road holds."""
+    head = 18 if road.version == 2 else 16
+    return min(engine.STEPS, (engine.BYTES - head - 24 * road.n) // (4 + 8 * road.n))
+
+
+def begins_anew(record: BaseRecord) -> bool:
+    """Return whether it is run in parts, whose cumulative outflows begin anew."""
+    return record.steps > engine.STEPS
+
+
+def _written(road: Road, rows: np.ndarray) -> Iterator[Stretch]:
+    """Yield the stretches of rows, each a record of a road that is empty at first."""
+    fits, target, start = most_steps(road), np.empty(engine.BYTES, np.uint8), Start()
+    for part in range(0, len(rows), engine.STEPS):
+        end = min(part + engine.STEPS, len(rows))
+        for k in range(part, end, fits):
+            some = rows[k : min(k + fits, end)]
+            a = library.write(road, len(some), start, *lend(some), *lend(target))
+            if a.number:
+                place = a.place + k if a.number == Refusal.RATES else a.place
+                raise Refused(a.number, 0, place, "write")
+            yield Stretch(k, len(some), target[: a.count].tobytes())
+
+
+def make_record(road: Road, start: Start, rows: Any) -> Record | LongRecord:
+    """Return the record of a road, a start and its rows; a LongRecord where it is too long.
+
+    Refused as by writing.
+    """
+    rows = to_array(rows)
+    fits = most_steps(road) if 1 <= road.n <= engine.CELLS else engine.STEPS
+    if rows.shape[0] <= fits:
+        return engine.write(road, start, rows)
+    if rows.shape[0] > MOST_STEPS:
+        raise StudyError(f"a study has at most {MOST_STEPS:,} steps, and not {rows.shape[0]:,}")
+    record = LongRecord(road, engine.write(road, start, rows[:fits]).start, rows)
+    record.stretches  # noqa: B018 each row is looked at here
+    return record
+
+
+def start_anew(state: State) -> State:
+    """Return what a state holds, as the state before a part's first step.
+
+    No step is done, no time spent and nothing sent.
+    """
+    return State(gate_queue=state.gate_queue, held=state.held, queue=state.queue)
+
+
+def add_up(record: BaseRecord, ends: list[State]) -> tuple[State, int, int, int]:
+    """Return the last state, total, present and exits of a study from its parts' last states.
+
+    The last state has the steps and times of all parts, and the cumulative outflows of the last.
+    """
+    road, last = record.road, ends[-1]
+    if len(ends) > 1:
+        last = last.copy()
+        last.done = record.steps
+        for name in ("gate_time", "road_time", "ramp_time"):
+            setattr(last, name, sum(getattr(x, name) for x in ends))
+    total, exits = (sum(engine.total(x) for x in ends), sum(engine.exits(road, x) for x in ends))
+    return last, total, engine.present(road, last), exits
+
+
+class _Whole:
+    """What a study's stretches come to: outflows, the parts' last states and the longest queues."""
+
+    def __init__(self, record: LongRecord, lanes: bytes) -> None:
+        n, lanes = record.road.n, to_bytes(lanes)
+        if lanes and len(lanes) != n * (record.steps + 1):
+            raise Refused(Refusal.LANES_LENGTH, 0, 0, "run_on")
+        self.record, self.n, self.lanes, self.ends = record, n, lanes, [record.start]
+        self.outflow = np.empty((record.steps, n + 1), np.uint32)
+        self.gate = self.waiting = 0
+        self.ramps = np.zeros(engine.CELLS, np.uint32)
+        for s in record.stretches if lanes else ():  # lanes are refused before a step is
+            own = s.lanes(lanes, n)
+            e = library.judge(s.data, len(s.data), own, len(own), None, 0)
+            if e.number != Refusal.SCHEDULE_LENGTH:
+                raise Refused(e.number, e.step, e.place, "judge")
+
+    @property
+    def state(self) -> State:
+        """The state to go on from."""
+        return self.ends[-1]
+
+    def stretches(self) -> Iterator[tuple[Stretch, bytes, slice]]:
+        """Yield each stretch with its lanes and its rows.
+
+        A part starts from what the one before left.
+        """
+        for s in self.record.stretches:
+            if s.anew:
+                self.ends.append(start_anew(self.state))
+            yield s, s.lanes(self.lanes, self.n), slice(s.begin, s.begin + s.steps)
+
+    def take(self, s: Stretch, e: library.Ended, operation: str) -> None:
+        """Take a stretch's end; Refused with the step counted from the study's start."""
+        if e.number:
+            step = e.step + s.begin if e.number in engine.BROKEN_RULES else e.step
+            raise Refused(e.number, step, e.place, operation)
+        self.ends[-1] = e.state
+
+    def take_longest(self, s: Stretch, a: library.Longest, operation: str) -> None:
+        """Take a stretch's end and longest queues."""
+        self.take(s, a.ended, operation)
+        self.gate, self.waiting = max(self.gate, a.gate), max(self.waiting, a.waiting)
+        np.maximum(self.ramps, np.frombuffer(a.ramps, np.uint32), out=self.ramps)
+
+    def run(self, record: LongRecord, weighted: int | None = None) -> Run:
+        """Return the run of the whole."""
+        longest = LongestQueues(self.gate, self.waiting, tuple(self.ramps[: self.n].tolist()))
+        whole = add_up(record, self.ends)
+        return Run(record, self.lanes, self.outflow, *whole, weighted, longest=longest)
+
+
+def run_long(record: LongRecord, lanes: bytes = b"", weights: tuple[Any, Any] | None = None) -> Run:
+    """Run it with its own releases.
+
+    Parameters
+    ----------
+    record : LongRecord
+    lanes : bytes, optional
+        The table of lanes of all its steps, as `run` takes it.
+    weights : tuple of two sequences of int, optional
+        Of the gate and each cell, and of each ramp's queue, 0 to 255.
+
+    Returns
+    -------
+    Run
+        Outflows and counts in parts, times in part-steps. Of more than 1,440 steps, `state` has
+        the cumulative outflows of the last part.
+
+    Raises
+    ------
+    Refused
+        As by running, with the step counted from the study's start.
+    """
+    w = _Whole(record, lanes)
+    given = engine.make_weights(w.n, *weights) if weights else engine.Weights()
+    weighted = 0
+    for s, own, rows in w.stretches():
+        out = lend(w.outflow[rows])
+        a = library.run_on(s.data, len(s.data), own, len(own), given, w.state, *out)
+        w.take_longest(s, a.longest, "run_on")
+        weighted += a.weighted
+    return w.run(record, weighted if weights else None)
+
+
+def fill_long(
+    record: LongRecord,
+    laws: Mapping[int, Law],
+    lanes: bytes = b"",
+    weights: tuple[Any, Any] | None = None,
+) -> Run:
+    """Fill the releases by meter laws and run it.
+
+    The meters go on from stretch to stretch, and from part to part.
+
+    Parameters
+    ----------
+    record : LongRecord
+    laws : mapping of int to tuple
+        By cell, as `fill` takes them.
+    lanes : bytes, optional
+        The table of lanes of all its steps, as `run` takes it.
+    weights : tuple of two sequences of int, optional
+        Of the gate and each cell, and of each ramp's queue, 0 to 255.
+
+    Returns
+    -------
+    Run
+        Its `record` has the releases.
+
+    Raises
+    ------
+    Refused
+        As by filling.
+    StudyError
+        Where a ramp has no law, or a cell with a law no ramp.
+    """
+    kinds, numbers = engine.encode_laws(laws)
+    engine.check_laws(record, laws)
+    w, given = _Whole(record, lanes), (kinds.tobytes(), engine.CELLS, *lend(numbers))
+    rows, past = np.empty_like(record.rows), library.Progress()
+    stretches = []
+    for s, own, at in w.stretches():
+        past.state = w.state
+        data, size = ctypes.create_string_buffer(s.data, len(s.data)), len(s.data)
+        out = lend(w.outflow[at])
+        a = library.fill_on(ctypes.addressof(data), size, *given, own, len(own), past, *out)
+        w.take_longest(s, a.longest, "fill_on")
+        past.releases, past.entries = a.releases, a.entries
+        stretches.append(Stretch(s.begin, s.steps, data.raw))
+        library.rows(stretches[-1].data, size, w.n, s.steps, *lend(rows[at]))
+    filled = LongRecord(record.road, record.start, rows)
+    filled.__dict__["stretches"] = stretches
+    return run_long(filled, lanes, weights) if weights else w.run(filled)
+
+
+def judge(record: BaseRecord, schedule: Any, lanes: bytes = b"") -> Run:
+    """Judge a schedule of a record, or of a longer study of at most 1,440 steps.
+
+    Refused at the first broken rule, with its step counted from the study's start.
+    """
+    if isinstance(record, Record):
+        return engine.judge(record, schedule, lanes)
+    w, stopped = _follow(record, schedule, lanes)
+    if stopped:
+        raise stopped
+    return Run(record, w.lanes, w.outflow, *add_up(record, w.ends))
+
+
+def state_before(record: BaseRecord, schedule: Any, lanes: bytes = b"") -> State:
+    """Return the state before the first broken rule's step, or after the last step."""
+    if isinstance(record, Record):
+        return engine.state_before(record, schedule, lanes)
+    return _follow(record, schedule, lanes)[0].state
+
+
+def _follow(record: BaseRecord, schedule: Any, lanes: bytes) -> tuple[_Whole, Refused | None]:
+    """Return how far judging comes, and the refusal that stops it in a step."""
+    if begins_anew(record) or not isinstance(record, LongRecord):
+        raise StudyError(
+            "a schedule is judged by its cumulative outflows from step 0 on, and a study of"
+            f" {record.steps:,} steps begins them anew every {engine.STEPS:,}; judge studies of at"
+            f" most {engine.STEPS:,} steps, each with the one before it as `after`"
+        )
+    w, zs = _Whole(record, lanes), to_array(schedule)
+    if zs.size != w.outflow.size:
+        raise Refused(Refusal.SCHEDULE_LENGTH, 0, 0, "judge_on")
+    w.outflow[:] = zs.reshape(w.outflow.shape)
+    for s, own, rows in w.stretches():
+        lent = lend(w.outflow[rows])
+        e = library.judge_on(s.data, len(s.data), own, len(own), w.state, *lent)
+        if e.number in engine.BROKEN_RULES:
+            w.ends[-1] = e.state
+            return w, Refused(e.number, e.step + s.begin, e.place, "judge_on")
+        w.take(s, e, "judge_on")
+    return w, None

@@ -1,0 +1,1 @@
+"""For a course: exercises with their sheets and keys, and answers that are marked."""

@@ -1,0 +1,136 @@
+"""Variants of a study's file: other numbers at some of its keys.
+
+The file and its tables are read once, and of each variant only what its keys reach is worked out
+again.
+"""
+import copy
+from collections.abc import Sequence
+from fractions import Fraction
+from pathlib import Path
+from typing import Any
+
+import numpy as np
+
+from . import engine
+from .errors import StudyError, TomlTable, show
+from .study import Study, load_before
+from .toml_reader import StudyReader, StudySource, read_source
+
+LAST = {"meter", "closure", "weights"}  # tables that nothing else of a study depends on
+ROAD = {"gate", "defaults", "cell"}  # tables on which arrivals and plans do not depend
+MOST_KEY = 200  # letters of a key
+
+
+class _First(StudyReader):
+    """A reader that keeps what other readers of the same tables may take from it."""
+
+    def releases(self, road: engine.Road, rows: np.ndarray) -> tuple[np.ndarray | None, list[str]]:
+        self.plan, self.tabled = super().releases(road, rows)
+        self.rows = rows
+        return self.plan, self.tabled
+
+
+class _Again(StudyReader):
+    """A reader of another road with the same arrivals and releases."""
+
+    def __init__(self, path: Path, source: StudySource, first: _First) -> None:
+        super().__init__(path, source, load_before)
+        self.first = first
+
+    def arrivals(self, road: engine.Road) -> np.ndarray:
+        return self.first.rows.copy()
+
+    def releases(self, road: engine.Road, rows: np.ndarray) -> tuple[np.ndarray | None, list[str]]:
+        return self.first.plan, self.first.tabled
+
+
+class Variants:
+    """A study's file with numbers at these keys.
+
+    `meter.all.rate`, `defaults.capacity`, `cell.3.capacity` (cells and lists from 1).
+    """
+
+    def __init__(self, path: str | Path, keys: Sequence[str]) -> None:
+        self.path, self.source = Path(path), read_source(Path(path))
+        for key in keys:
+            self._find(key)
+        self.ways = [key.split(".") for key in keys]
+        for i, way in enumerate(self.ways):
+            if any(way[: len(other)] == other for other in self.ways[:i]) or any(
+                other[: len(way)] == way for other in self.ways[:i]
+            ):
+                raise StudyError(f"{path}: `{keys[i]}` is varied twice")
+        self.reader = _First(self.path, self.source, load_before)
+        self.base = Study(**self.reader.read())
+        self.tables = {way[0] for way in self.ways}
+        road = (
+            self.tables <= LAST | ROAD
+            and "record" not in self.source.values
+            and "after" not in self.source.values
+        )
+        self.needs_files = not (
+            self.tables <= LAST or road
+        )  # whether a variant reads the study's other files anew
+
+    def _find(self, key: str) -> None:
+        """Raise StudyError where the file has nothing to vary at this key."""
+        if len(key) > MOST_KEY:
+            raise StudyError(f"{self.path}: there is no {show(key)} to vary")
+        *way, last = key.split(".")
+        at: Any = self.source.values
+        for word in way:
+            if (at := get_at(at, word)) is None:
+                raise StudyError(f"{self.path}: there is no `{key}` to vary")
+        there = get_at(at, last)
+        if (
+            isinstance(at, list)
+            and there is None
+            or not isinstance(at, (dict, list))
+            or isinstance(there, (dict, list))
+        ):
+            raise StudyError(f"{self.path}: `{key}` is no number to vary")
+
+    def study(self, *values: Fraction) -> Study:
+        """Return the study with these numbers at the keys.
+
+        A fault where they are out of their limits.
+        """
+        top: Any = self.source.values
+        for way, x in zip(self.ways, values, strict=True):
+            top = _with(top, way, x)
+        source = StudySource(top, self.source.origin)
+        if self.needs_files:
+            return Study(**StudyReader(self.path, source, load_before).read())
+        if not self.tables <= LAST:
+            return Study(**_Again(self.path, source, self.reader).read())
+        r, road = copy.copy(self.reader), self.base.record.road
+        r.source, r.top = source, TomlTable(top, str(self.path))
+        changed: dict[str, Any] = {}
+        if "meter" in self.tables:
+            changed["laws"] = r.laws(road, r.tabled, r.plan is not None)
+        if "closure" in self.tables:
+            changed["lanes"] = r.works(road)
+        if "weights" in self.tables:
+            changed["weights"] = r.weights(road)
+        study = copy.copy(self.base)
+        vars(study).update(changed)
+        return study
+
+
+def _with(at: Any, way: list[str], x: Fraction) -> Any:
+    """Return tables with another number at the end of the way; what is not on it is shared."""
+    new, word = at.copy(), way[0]
+    key = int(word) - 1 if isinstance(at, list) else word
+    new[key] = x if len(way) == 1 else _with(at[key], way[1:], x)
+    return new
+
+
+def get_at(table: Any, word: str) -> Any:
+    """Return what a table has at a key, or a list at a number from 1.
+
+    None where it has nothing there.
+    """
+    if isinstance(table, list):
+        k = int(word) if word.isdecimal() and len(word) < 9 else 0
+        return table[k - 1] if 1 <= k <= len(table) else None
+    return table.get(word) if isinstance(table, dict) else None
