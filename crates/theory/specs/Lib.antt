@@ -36,7 +36,7 @@ pub mod NotEmpty
 pub mod BetterRoadNotEmpty
 pub mod WeightsUnread
 pub mod Finer
-pub mod WorkedFiner
+pub mod Worked
 pub mod FinerRules
 pub mod FinerLaws
 pub mod Coupling
