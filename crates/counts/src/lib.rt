@@ -18,7 +18,7 @@ ghost use Rattle.model.specs.Move.{heldSum, queueSum, presentOf, exitsOf};
 ghost use mathlib.Core.Bool.{cond};
 ghost use Rattle.model.specs.declared.State.{State};
 ghost use Rattle.model.specs.Weights.{weightedSum, weightedPresent};
-ghost use Rattle.counts.specs.WeightBounds.{mostProduct, mostWeightedPresent, mostWeightedTotal};
+ghost use Rattle.counts.specs.WeightBounds.{mostWeighed, mostWeighted, mostWeightedTotal};
 ghost use Rattle.counts.specs.WeightSums.{Waiting};
 ghost use Rattle.model.specs.Longest.{queuesOf, longestQueues};
 ghost use Rattle.counts.specs.Longest.{noQueues};
@@ -115,7 +115,7 @@ pub fn exits(r: Road, s: State) -> u64
 
 // A count times its weight.
 fn weighed(weight: u8, count: u32) -> u64
-    ensures { λ r. ⌜ (r ≡ weight * count) × (r ≤ mostProduct) ⌝ }
+    ensures { λ r. ⌜ (r ≡ weight * count) × (r ≤ mostWeighed) ⌝ }
 {
     weight as u64 * count as u64
 }
@@ -123,7 +123,7 @@ fn weighed(weight: u8, count: u32) -> u64
 // The counts of the first n cells, each times its weight; the first cell's weight is at `from`.
 fn weighed_cells(weights: &[u8], from: usize, counts: &[u32], n: usize) -> u64
     requires { ⌜ (n ≤ mostCells) × ((n ≤ length (now counts)) × (from + n ≤ length (now weights))) ⌝ }
-    ensures { λ r. ⌜ (r ≡ weightedSum (λ i. at (now (weights .entry)) (from + i)) (at (now (counts .entry))) n) × (r ≤ mostCells * mostProduct) ⌝ }
+    ensures { λ r. ⌜ (r ≡ weightedSum (λ i. at (now (weights .entry)) (from + i)) (at (now (counts .entry))) n) × (r ≤ mostCells * mostWeighed) ⌝ }
 {
     let mut sum: u64 = 0;
     let mut i = 0;
@@ -146,7 +146,7 @@ fn weighed_places<'a, 'b>(
     requires { ⌜ n ≤ mostCells ⌝ }
     ensures present { λ r. ⌜ ((s : State) → Waiting «gate_queue» (now (held .entry)) (now (queue .entry)) s
         → r ≡ weightedPresent (at (now (places .entry))) (at (now (ramps .entry))) n s) ⌝ }
-    ensures bound { λ r. ⌜ r ≤ mostWeightedPresent ⌝ }
+    ensures bound { λ r. ⌜ r ≤ mostWeighted ⌝ }
 {
     let gate = weighed(places[0], gate_queue);
     let road = weighed_cells(places, 1, held, n);
@@ -183,7 +183,7 @@ pub fn added<'a, 'b>(
     requires { ⌜ (total ≤ mostWeightedTotal) × (n ≤ mostCells) ⌝ }
     ensures sum { λ r. ⌜ ((s : State) → Waiting «gate_queue» (now (held .entry)) (now (queue .entry)) s
         → r ≡ total + cond weighs (weightedPresent (at (now (places .entry))) (at (now (ramps .entry))) n s) 0) ⌝ }
-    ensures bound { λ r. ⌜ r ≤ total + mostWeightedPresent ⌝ }
+    ensures bound { λ r. ⌜ r ≤ total + mostWeighted ⌝ }
 {
     if weighs {
         return total + weighed_places(n, gate_queue, held, queue, places, ramps);

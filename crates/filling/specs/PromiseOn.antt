@@ -25,7 +25,7 @@ use Rattle.model.specs.Ramps.{Metered, metered, unmetered, putTable}
 use Rattle.model.specs.Filling.{lawPlace, meteredFrom, grantedFrom, filledFrom}
 use Rattle.model.specs.Longest.{Queues, longestOf}
 use Rattle.model.specs.GoingOn.{studyAfter, entriesOk, progressFault, fillingOn, progressOn, recordOn, filledListOn, longestFillOn}
-use Rattle.theory.specs.StartingState.{Begins}
+use Rattle.theory.specs.Started.{Begins}
 use Rattle.counts.specs.Longest.{noQueues}
 use Rattle.counts.specs.LongestLaws.{longest-none}
 use Rattle.filling.specs.LongestFill.{longestFrom}

@@ -39,7 +39,7 @@ use Rattle.theory.specs.RulesLaws.{Sized, demand-at-cell, outflows-obey}
 use Rattle.theory.specs.MoveLaws.{next-held}
 use Rattle.theory.specs.Roads.{StepRoad, step-alike, step-row, row-back, sized-alike}
 use Rattle.theory.specs.Readable.{Readable, readable}
-use Rattle.theory.specs.StartingState.{same-roads}
+use Rattle.theory.specs.Started.{same-roads}
 use Rattle.theory.specs.RunsLaws.{StudyOk}
 use Rattle.theory.specs.SchedulesLaws.{run-reached, step-within}
 use Rattle.theory.specs.WeightsLaws.{weighted-total-none, weighted-total-more}

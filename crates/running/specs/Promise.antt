@@ -17,7 +17,7 @@ use Rattle.theory.specs.DemandByWeights.{weighted-demand, weighs-unopened, weig
 use Rattle.model.specs.Longest.{Queues, longestRun}
 use Rattle.counts.specs.Longest.{noQueues}
 use Rattle.counts.specs.LongestRun.{longestEnd, longest-unopened, longest-short, longest-long}
-use Rattle.running.specs.WeightedTotal.{weightedTotalEnd}
+use Rattle.running.specs.WeightedTotal.{weighedEnd}
 
 -- the answer, the list at exit and what they are worth
 abbrev pub Promise : List ℕ → List ℕ → List ℕ → EndAnswer → List ℕ → Type 0
@@ -93,7 +93,7 @@ module _ (bytes lanes list : List ℕ) {x : ReadAnswer} (ex : x ≡ openingOf by
       weighed-short l e = e ∙ none weighs (weighs-short w u bytes lanes list taken (rw reads at l))
 
       pub weighed-long : tableSize (studyBy bytes lanes (x .road) (x .state) (x .steps)) ≤ length list
-          → t ≡ weightedTotalEnd weighs w u (studyBy bytes lanes (x .road) (x .state) (x .steps)) → t ≡ cond weighs (weightedTotalOfRun w u bytes lanes list) 0
+          → t ≡ weighedEnd weighs w u (studyBy bytes lanes (x .road) (x .state) (x .steps)) → t ≡ cond weighs (weightedTotalOfRun w u bytes lanes list) 0
       weighed-long l e = rw reads at e ∙ ap (λ (k : ℕ). cond weighs k 0) (sym (weighs-long w u bytes lanes list taken (rw reads at l)))
 
 -- a weighted run's whole promise

@@ -19,7 +19,7 @@ pub mod SchedulesLaws
 pub mod TableLaws
 pub mod Readable
 pub mod Opening
-pub mod StartingState
+pub mod Started
 pub mod RunEnds
 pub mod DemandLaws
 pub mod DemandWhole

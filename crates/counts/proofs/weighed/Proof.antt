@@ -2,13 +2,13 @@
 use mathlib.Core.Path.{refl}
 use Prim.Native.Nat.{_*_, _≤_}
 use native.Mathlib.Omega.{arith}
-use Rattle.counts.specs.WeightBounds.{mostProduct}
+use Rattle.counts.specs.WeightBounds.{mostWeighed}
 use Rattle.counts.specs.WeightSums.{weighed-small}
 use Rattle.counts.proofs.weighed.Statement.{statement}
 use Rattle.counts.proofs.weighed.Tie as tie
 use borrow.Author.Needs.{needs}
 
-small : (c : tie.Start) → c .args .weight * c .args .count ≤ mostProduct
+small : (c : tie.Start) → c .args .weight * c .args .count ≤ mostWeighed
 small c = weighed-small (c .args .weight) (c .args .count) (search needs) (search needs)
 
 mul-result : tie.Need-mul-result

@@ -18,7 +18,7 @@ use Rattle.model.specs.GoingOn.{progressed}
 use Rattle.limits.specs.LimitsLaws.{state-facts}
 use Rattle.theory.specs.StepLaws.{number-of}
 use Rattle.theory.specs.Readable.{Readable, readable}
-use Rattle.theory.specs.StartingState.{Begins, readable-from}
+use Rattle.theory.specs.Started.{Begins, readable-from}
 use Rattle.filling.specs.FillingLoop.{FillableFrom}
 use Rattle.filling.specs.Long.{Long, Started, started-fillable}
 use Rattle.filling.specs.LastStep.{last-asks, last-known}
