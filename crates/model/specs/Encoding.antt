@@ -1,4 +1,4 @@
--- docs/MODEL.md, 'Writing': the record's bytes of a study. Assumes nothing.
+-- docs/MODEL.md, 'Writing': the bytes of a study's record. Assumes nothing.
 use mathlib.Core.List.{List, [], _++_}
 use Prim.Native.Nat.{ℕ, _-_}
 use Rattle.model.specs.declared.State.{State}
@@ -33,11 +33,11 @@ cellOf speed wave share ramp jam capacity held queue =
     ++ (bytesOf numberSize held
     ++ bytesOf numberSize queue))))))
 
--- the first numbers of a row, four bytes each
+-- the first `count` numbers of a row, four bytes each
 abbrev pub numbersOf : List ℕ → ℕ → List ℕ
 numbersOf row count = concatOf (λ k. bytesOf numberSize (at row k)) count
 
--- of a study: its record's size, its header, the cell at i and the row of step t
+-- a study's record: its size, its header, its cell at i and its row of step t
 abbrev pub recordSize : Study → ℕ
 recordSize a = sizeOf (a .road .version) (a .road .n) (a .steps)
 
@@ -51,10 +51,10 @@ cellBytes r s i =
 abbrev pub rowBytes : ℕ → (ℕ → List ℕ) → ℕ → List ℕ
 rowBytes n rows t = numbersOf (rows t) (rowNumbers n)
 
--- the header, then the cells, then a row a step
+-- the header, then the cells, then one row per step
 unfoldable pub recordOf : Study → List ℕ
 recordOf a = headerBytes a ++ (concatOf (cellBytes (a .road) (a .start)) (a .road .n) ++ concatOf (rowBytes (a .road .n) (a .rows)) (a .steps))
 
--- what is given: a road, T, a start and the numbers of all rows, one row after the other
+-- the study that writing is given: a road, T, a start and the numbers of all rows, one row after the other
 abbrev pub given : Road → ℕ → Start → List ℕ → Study
 given road T start rows = study road (startState start) T (rowAt rows (rowNumbers (road .n))) []

@@ -1,4 +1,4 @@
--- docs/MODEL.md, 'Filling': all steps of a record filled one after the other, and what filling answers and leaves. Assumes nothing.
+-- docs/MODEL.md, 'Filling': all steps of a record filled one after the other, the answer, and the record and list afterwards. Assumes nothing.
 use mathlib.Core.Path.{_≡_}
 use mathlib.Core.Logic.{_⊎_}
 use mathlib.Core.List.{List}
@@ -15,11 +15,11 @@ use Rattle.model.specs.Running.{EndAnswer, ended, noState, lanesFault, t
 use Rattle.model.specs.Meter.{lawFaultOf}
 use Rattle.model.specs.Ramps.{putTable, Metered, unmetered, grantedAt, filledRow, meteredOf, releaseNumber}
 
--- k lies outside the w places from i
+-- k is outside the w places from i on
 abbrev pub Outside : ℕ → ℕ → ℕ → Type 0
 Outside k i w = (k < i) ⊎ (i + w ≤ k)
 
--- what the wishes of step k go by, where those of step 0 go by m: held, queue and supply are those of the state before it
+-- what the wishes of step k are computed from, if those of step 0 are computed from m: the state is the one before step k
 unfoldable pub meteredFrom : List Law → Study → Metered → ℕ → Metered
 meteredFrom laws a m zero = m
 meteredFrom laws a m (suc k) = meteredOf laws (roadAt a k) (meteredFrom laws a m k) (a .rows k)
@@ -36,7 +36,7 @@ rowsFrom laws a m k = filledRow laws (roadAt a k) (meteredFrom laws a m k) (a .r
 abbrev pub filledFrom : List Law → Study → Metered → Study
 filledFrom laws a m = study (a .road) (a .start) (a .steps) (rowsFrom laws a m) (a .lanes)
 
--- the same from the record's start, before which the last release and last entry are 0
+-- the same from the record's start; the last release and last entry before it are 0
 abbrev pub meteredAfter : List Law → Study → ℕ → Metered
 meteredAfter laws a k = meteredFrom laws a (unmetered (a .start)) k
 
@@ -54,8 +54,8 @@ filledBytes laws bytes lanes = putTable bytes (studyOf bytes lanes .road .n) (gr
 abbrev pub lawPlace : List Law → Study → ℕ
 lawPlace laws a = lawFaultOf laws (a .road .ramp) (a .road .n)
 
--- filling takes a record, a law for each cell, a table of lanes and running's lent list: the refusals of reading; 16, a ramp's law with a number that
--- isn't finite; 17 and 18; 11. It makes all T steps
+-- filling takes a record, a law for each cell, a table of lanes and running's lent list. Refusals: those of reading; 16, a ramp's law with a
+-- number that isn't finite; 17 and 18; 11. Otherwise it makes all T steps
 unfoldable pub fillingOf : List Law → List ℕ → List ℕ → List ℕ → EndAnswer
 fillingOf laws bytes lanes list =
     unless (eqb (readingOf bytes .number) 0) (noState (readingOf bytes .number) (readingOf bytes .place))
@@ -64,7 +64,7 @@ fillingOf laws bytes lanes list =
     (unless (leb (tableSize (studyOf bytes lanes)) (length list)) (noState 11 0)
     (ended 0 0 0 (studyOf bytes lanes .road) (meteredAfter laws (studyOf bytes lanes) (studyOf bytes lanes .steps) .state)))))
 
--- the record and the list afterwards; refusals leave record and list unchanged
+-- the record and the list afterwards; a refusal leaves both unchanged
 unfoldable pub recordAfter : List Law → List ℕ → List ℕ → List ℕ → List ℕ
 recordAfter laws bytes lanes list = unless (eqb (fillingOf laws bytes lanes list .number) 0) bytes (filledBytes laws bytes lanes)
 
@@ -73,15 +73,15 @@ filledList laws bytes lanes list =
     unless (eqb (fillingOf laws bytes lanes list .number) 0) list
     (tableOf (filledStudy laws (studyOf bytes lanes)) list (studyOf bytes lanes .steps))
 
--- a record that differs from another in its releases alone
+-- `after` differs from the record `bytes` only in its releases
 pub record OnlyReleases (bytes after : List ℕ) : Type 0 where
   pub size : length after ≡ length bytes
-  -- every byte that is no release's is as it was
+  -- every byte outside the releases is unchanged
   pub byte : (b : ℕ)
       → ((t i : ℕ) → t < readingOf bytes .steps → i < readingOf bytes .road .n
       → Outside b (entryStart (versionOf bytes) (readingOf bytes .road .n) t (releaseNumber i)) numberSize)
       → at after b ≡ at bytes b
-  -- road, T and start read the same, and so do the arrivals
+  -- road, T, start and arrivals read the same
   pub reads : readingOf after ≡ readingOf bytes
   pub gate : (t : ℕ) → t < readingOf bytes .steps
       → gateArrivals (recordRow after (readingOf bytes .road .n) t) ≡ gateArrivals (recordRow bytes (readingOf bytes .road .n) t)

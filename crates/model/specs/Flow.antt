@@ -3,7 +3,7 @@ use mathlib.Core.Bool.{Bool, cond}
 use Prim.Native.Nat.{ℕ, zero, suc, _+_, _-_, _*_, _/_, min}
 use lib.Dec.{leb}
 
--- speed, wave and share are read as thousandths; all of a count is 1,000 of them
+-- speed, wave and share are in thousandths: 1,000 of them are the whole
 abbrev pub whole : ℕ
 whole = 1000
 
@@ -19,15 +19,15 @@ demandOf speed capacity held = min capacity (thousandthsOf speed held)
 unfoldable pub gateDemandOf : ℕ → ℕ → ℕ
 gateDemandOf capacity queue = min capacity queue
 
--- supply of a cell: the smaller of C and w × (J − held) ÷ 1,000 rounded down; 0 where held is above J
+-- supply of a cell: the smaller of C and w × (J − held) ÷ 1,000 rounded down; 0 if held is above J
 unfoldable pub supplyOf : ℕ → ℕ → ℕ → ℕ → ℕ
 supplyOf wave capacity jam held = min capacity (thousandthsOf wave (jam - held))
 
--- what a ramp may release at most: its queue and the step's arrivals there
+-- the most that a ramp may release: its queue and the step's arrivals there
 abbrev pub mostReleaseOf : ℕ → ℕ → ℕ
 mostReleaseOf queue arrivals = queue + arrivals
 
--- a cell's supply less its release; 0 where the release is above the supply
+-- a cell's supply less its release; 0 if the release is above the supply
 unfoldable pub roomOf : ℕ → ℕ → ℕ
 roomOf supply release = supply - release
 
@@ -39,7 +39,7 @@ onwardOf share cumulative = thousandthsOf share cumulative
 unfoldable pub enteringOf : ℕ → ℕ → ℕ → ℕ
 enteringOf share cumulative outflow = onwardOf share (cumulative + outflow) - onwardOf share cumulative
 
--- the greatest number up to d that passes a test; 0 where no number from 1 to d does
+-- the greatest number up to d that passes a test; 0 if no number from 1 to d does
 unfoldable pub greatestOf : (ℕ → Bool) → ℕ → ℕ
 greatestOf test zero = zero
 greatestOf test (suc d) = cond (test (suc d)) (suc d) (greatestOf test d)

@@ -20,19 +20,19 @@ use Rattle.model.specs.Ramps.{putTable, Metered, metered, unmetered}
 use Rattle.model.specs.Filling.{lawPlace, meteredFrom, grantedFrom, filledFrom}
 use Rattle.model.specs.Longest.{Queues, longestOf}
 
--- the study of a record under a table of lanes that starts from a state, with its F, times and steps done, in place of the record's own start
+-- the study of a record under a table of lanes that starts from a state, with its F, times and steps done, instead of the record's own start
 abbrev pub studyFrom : List ℕ → List ℕ → State → Study
 studyFrom bytes lanes s = studyBy bytes lanes (readingOf bytes .road) s (readingOf bytes .steps)
 
--- 7, the start breaks a limit, where `within` fails; 8, with the T steps of the record more than 1,440 are done
+-- 7: the start breaks a limit, that is, `within` is false. 8: the steps done and the record's T together exceed 1,440
 abbrev pub startFault : Bool → Study → ℕ
 startFault within a = unless within 7 (unless (leb (a .start .done + a .steps) mostSteps) 8 0)
 
--- of a state: the limits of stepping's 7
+-- for a state, the limits are those of stepping's 7
 unfoldable pub stateFault : Study → ℕ
 stateFault a = startFault (stateOk (a .road) (a .start)) a
 
--- running, judging and history go on: the refusals of reading, 17, 18, 7, 8, and then as they do from the record's start
+-- running, judging and history that go on: the refusals of reading, 17, 18, 7 and 8; then as from the record's start
 abbrev pub unlessStarted : List ℕ → List ℕ → State → EndAnswer → EndAnswer
 unlessStarted bytes lanes s e =
     unlessOpened bytes lanes
@@ -48,7 +48,7 @@ runningOn bytes lanes s list =
 abbrev pub stepsOn : List ℕ → List ℕ → State → List ℕ → ℕ
 stepsOn bytes lanes s list = stepsMade (studyFrom bytes lanes s) (runningOn bytes lanes s list)
 
--- the lent list afterwards, the weighted sum of present and the longest queues: over the steps of this record alone
+-- the lent list afterwards, the weighted total and the longest queues: over the steps of this record only
 unfoldable pub listOn : List ℕ → List ℕ → State → List ℕ → List ℕ
 listOn bytes lanes s list = tableOf (studyFrom bytes lanes s) list (stepsOn bytes lanes s list)
 
@@ -89,11 +89,11 @@ progressed p = metered (p .state) (p .releases) (p .entries)
 abbrev pub studyAfter : List ℕ → List ℕ → Metered → Study
 studyAfter bytes lanes m = studyFrom bytes lanes (m .state)
 
--- a last entry is at most what its cell holds: what entered in a step is there after it
+-- a last entry is at most what its cell holds, because what entered in a step is in the cell after it
 unfoldable pub entriesOk : Metered → ℕ → Bool
 entriesOk m n = allOf (λ i. leb (at (m .entries) i) (at (m .state .held) i)) n
 
--- so 7 has a limit more
+-- 7 in filling: a limit of the state, or this one
 unfoldable pub progressFault : Study → Metered → ℕ
 progressFault a m = startFault (stateOk (a .road) (m .state) && entriesOk m (a .road .n)) a
 
@@ -108,7 +108,7 @@ fillingOn laws bytes lanes m list =
     (unless (leb (tableSize a) (length list)) (noState 11 0)
     (ended 0 0 0 (a .road) (meteredFrom laws a m (a .steps) .state))))))
 
--- what the next record's filling goes on from; all zero after a refusal
+-- what filling the next record goes on from; all zero after a refusal
 unfoldable pub progressOn : List Law → List ℕ → List ℕ → Metered → List ℕ → Metered
 progressOn laws bytes lanes m list =
     unless (eqb (fillingOn laws bytes lanes m list .number) 0) (unmetered emptyState)

@@ -17,7 +17,7 @@ placeNumber gate cells (suc i) = at cells i
 abbrev pub placesOf : ℕ → List ℕ → ℕ → List ℕ
 placesOf gate cells n = listOf (placeNumber gate cells) (n + 1)
 
--- after step k of a schedule: the gate's queue and what each cell holds; and 0 and each ramp's queue
+-- the rows after step k of a schedule: the gate's queue and each cell's held count; and 0 and each ramp's queue
 abbrev pub heldRow : Study → List ℕ → ℕ → List ℕ
 heldRow a zs k = placesOf (scheduledAt a zs (suc k) .«gate_queue») (scheduledAt a zs (suc k) .held) (a .road .n)
 
@@ -31,7 +31,7 @@ heldTable a zs list k = frontOf (heldRow a zs) (places a) list k
 abbrev pub queueTable : Study → List ℕ → List ℕ → ℕ → List ℕ
 queueTable a zs list k = frontOf (queueRow a zs) (places a) list k
 
--- a record, a table of lanes, a schedule and two lent lists: judging's refusals, with 11, a list shorter than T × (n + 1), after 12
+-- history takes a record, a table of lanes, a schedule and two lent lists. Its refusals are judging's, and after 12 also 11, a list shorter than T × (n + 1)
 unfoldable pub historyOf : List ℕ → List ℕ → List ℕ → List ℕ → List ℕ → EndAnswer
 historyOf bytes lanes zs held queue =
     unlessOpened bytes lanes

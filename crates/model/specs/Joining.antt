@@ -67,20 +67,20 @@ joinedStudy a b share =
     study (joinedRoad (a .road) (b .road) share) (joinedStart (a .road .n) (b .road .n) (a .start) (b .start)) (a .steps)
     (λ t. joinedRow (a .rows t) (b .rows t)) []
 
--- 20: T, version and seconds are the same
+-- 20 applies if this fails: T, version and seconds are the same
 abbrev pub alike : Study → Study → Bool
 alike a b =
     eqb (a .steps) (b .steps) && (eqb (a .road .version) (b .road .version) && eqb (a .road .seconds) (b .road .seconds))
 
--- 21: the gate has no queue and, in no step, an arrival
+-- 21 applies if this fails: the gate has no queue and in no step an arrival
 abbrev pub gateIdle : Study → Bool
 gateIdle b = eqb (b .start .«gate_queue») 0 && allOf (λ t. eqb (at (b .rows t) 0) 0) (b .steps)
 
--- 22: at most 64 cells and 65,536 bytes
+-- 22 applies if this fails: at most 64 cells and 65,536 bytes
 abbrev pub joinedFits : Study → Bool
 joinedFits a = leb (a .road .n) mostCells && leb (recordSize a) mostBytes
 
--- of two studies whose records read: 5 at the joint, 20, 21, 22, then 15
+-- two studies whose records read are joined: 5 at the joint, 20, 21, 22, then 15
 abbrev pub joiningBy : Study → Study → ℕ → ℕ → WriteAnswer
 joiningBy a b share room =
     unless (leb share whole) (unwritten 5 (a .road .n))
@@ -94,21 +94,21 @@ joiningBy a b share room =
 abbrev pub joinedOf : List ℕ → List ℕ → ℕ → Study
 joinedOf up down share = joinedStudy (studyOf up []) (studyOf down []) share
 
--- what reading the upstream record refuses, then what reading the downstream one does, then the rest
+-- the refusals of reading the upstream record, then of reading the downstream one, then the rest
 unfoldable pub joiningOf : List ℕ → List ℕ → ℕ → List ℕ → WriteAnswer
 joiningOf up down share target =
     unless (eqb (readingOf up .number) 0) (unwritten (readingOf up .number) (readingOf up .place))
     (unless (eqb (readingOf down .number) 0) (unwritten (readingOf down .number) (readingOf down .place))
     (joiningBy (studyOf up []) (studyOf down []) share (length target)))
 
--- the target then: the joined record's bytes in front of what was beyond them, or unchanged after a refusal
+-- the target afterwards: the joined record in front, and the bytes beyond it unchanged; all unchanged after a refusal
 unfoldable pub joinedTarget : List ℕ → List ℕ → ℕ → List ℕ → List ℕ
 joinedTarget up down share target =
     cond (eqb (joiningOf up down share target .number) 0)
     (recordOf (joinedOf up down share) ++ drop (recordSize (joinedOf up down share)) target)
     target
 
--- the first `count` bytes of a target, as joining leaves it, read as the joined road, start and T; and each row is both's
+-- the first `count` bytes of the target that joining leaves read as the joined road, start and T; each row is upstream's, then downstream's
 pub record ReadsJoined (up down : List ℕ) (share count : ℕ) (left : List ℕ) : Type 0 where
   pub reads : readingOf (take count left)
       ≡ acceptedOf (readingOf up .steps) (joinedRoad (readingOf up .road) (readingOf down .road) share)

@@ -14,22 +14,22 @@ use Rattle.model.specs.Reading.{studyOf}
 use Rattle.model.specs.Stepping.{lowestOf, releasesOf}
 use Rattle.model.specs.Running.{EndAnswer, endOf, noState, unlessOpened}
 
--- at a place before the last: 13, outflow above demand, before 14, too much let into the next cell
+-- at a place before the last: 13, outflow above demand, before 14, more enters the next cell than its room
 abbrev pub outflowFault : ℕ → ℕ → ℕ → ℕ → ℕ
 outflowFault outflow demand entering room = unless (leb outflow demand) 13 (unless (leb entering room) 14 0)
 
--- at the last place, which no cell follows: 13 alone
+-- at the last place, which no cell follows: only 13
 abbrev pub lastFault : ℕ → ℕ → ℕ
 lastFault outflow demand = unless (leb outflow demand) 13 0
 
--- of place p by its outflow in y
+-- the fault of place p with its outflow in y
 unfoldable pub outflowFaultAt : Road → State → List ℕ → List ℕ → ℕ → ℕ
 outflowFaultAt r s row y p =
     cond (ltb p (r .n))
     (outflowFault (at y p) (demandAt r s p) (enteringAt r s y p) (roomAt r s row p))
     (lastFault (at y p) (demandAt r s p))
 
--- at the lowest place with either; the place of 14 is the sender
+-- the fault of the lowest place with either; the place of 14 is the sender
 abbrev pub outflowsFaultOf : Road → State → List ℕ → List ℕ → FaultAnswer
 outflowsFaultOf r s row y = lowestOf (outflowFaultAt r s row y) (r .n + 1) 0
 
@@ -37,7 +37,7 @@ outflowsFaultOf r s row y = lowestOf (outflowFaultAt r s row y) (r .n + 1) 0
 unfoldable pub verdictOf : Road → State → List ℕ → List ℕ → FaultAnswer
 verdictOf r s row y = unless (eqb (releasesOf r s row .number) 0) (releasesOf r s row) (outflowsFaultOf r s row y)
 
--- what judging says of step k: 9 or 10 as in stepping, then 13 before 14
+-- judging's fault in step k: 9 or 10 as in stepping, then 13 before 14
 abbrev pub judgeSays : Study → List ℕ → ℕ → FaultAnswer
 judgeSays a zs k = verdictOf (roadAt a k) (scheduledAt a zs k) (a .rows k) (proposedAt a zs k)
 
@@ -45,7 +45,7 @@ judgeSays a zs k = verdictOf (roadAt a k) (scheduledAt a zs k) (a .rows k) (prop
 abbrev pub judgeEnd : Study → List ℕ → EndAnswer
 judgeEnd a zs = endOf a (judgeSays a zs) (scheduledAt a zs)
 
--- judging takes a record, a table of lanes and a proposed schedule: 12, list not of length T × (n + 1); then, step by step, 9 or 10, and 13 or 14
+-- judging takes a record, a table of lanes and a proposed schedule: 12, a list not of length T × (n + 1); then, step by step, 9 or 10, and 13 or 14
 unfoldable pub judgingOf : List ℕ → List ℕ → List ℕ → EndAnswer
 judgingOf bytes lanes zs =
     unlessOpened bytes lanes

@@ -1,4 +1,4 @@
--- docs/MODEL.md, 'Lanes closed during works': what the open ones leave of a capacity, and the tests of 17 and 18. Assumes nothing.
+-- docs/MODEL.md, 'Lanes closed during works': the capacity that the open lanes leave, and the tests of 17 and 18. Assumes nothing.
 use mathlib.Core.Bool.{Bool, _&&_}
 use mathlib.Core.List.{List}
 use Prim.Native.Nat.{ℕ, suc, _+_, _*_, _/_, min}
@@ -11,34 +11,34 @@ use Rattle.model.specs.Numbers.{at, allOf, fillOf, rowAt}
 abbrev pub mostNumber : ℕ
 mostNumber = 4294967295
 
--- C × open lanes ÷ lanes built, rounded down. With no lane built it is 0, the quotient by 0; the greatest number of 32 bits bounds it, which
--- only more lanes open than built can reach
+-- C × open lanes ÷ lanes built, rounded down. With no lane built it is 0. It is at most the greatest number of 32 bits, which it can reach
+-- only if more lanes are open than built
 unfoldable pub openCapacity : ℕ → ℕ → ℕ → ℕ
 openCapacity capacity built usable = min (capacity * ones usable / ones built) mostNumber
 
--- the capacities of a step: of the first n cells by their lanes, the others kept
+-- the capacities of a step: those of the first n cells by their lanes, the others unchanged
 abbrev pub openCapacities : List ℕ → List ℕ → List ℕ → ℕ → List ℕ
 openCapacities capacity built usable n = fillOf (λ i. openCapacity (at capacity i) (at built i) (at usable i)) n capacity
 
--- 18 applies where this fails: a lane is built, and every open lane is
+-- 18 applies if this fails: a lane is built, and every open lane is built
 unfoldable pub lanesOk : ℕ → ℕ → Bool
 lanesOk built usable = leb 1 built && eqb (bitAnd usable built) usable
 
--- at the cell at i, by a row of lanes built and a row of lanes open
+-- the same test for the cell at i, from a row of lanes built and a row of lanes open
 abbrev pub lanesAt : List ℕ → List ℕ → ℕ → Bool
 lanesAt built usable i = lanesOk (at built i) (at usable i)
 
--- a table of lanes: first the lanes built, then a row a step of lanes open
+-- a table of lanes: first the lanes built, then one row of lanes open per step
 abbrev pub builtIn : List ℕ → ℕ → List ℕ
 builtIn table n = rowAt table n 0
 
 abbrev pub openIn : List ℕ → ℕ → ℕ → List ℕ
 openIn table n k = rowAt table n (suc k)
 
--- at the cell at i, in all T rows (a record's T is 1 or more, so that lanes built are looked at)
+-- the same test for the cell at i, in all T rows (T is at least 1 in a record, so the lanes built are tested too)
 abbrev pub tableAt : List ℕ → ℕ → ℕ → ℕ → Bool
 tableAt table n T i = allOf (λ k. lanesAt (builtIn table n) (openIn table n k) i) T
 
--- 17 applies where a table is neither empty nor of this size: n × (T + 1) bytes
+-- 17 applies if a table is neither empty nor of this size: n × (T + 1) bytes
 abbrev pub tableBytes : ℕ → ℕ → ℕ
 tableBytes n T = n * (T + 1)

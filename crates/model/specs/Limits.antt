@@ -20,37 +20,37 @@ mostCumulative done = mostRate * done
 abbrev pub mostTotal : ℕ → ℕ
 mostTotal done = mostPresent * done
 
--- where a queue, arrivals or a release may be `most` at a ramp (mark 1), it is 0 without one (mark 0)
+-- a queue, arrivals or a release may be up to `most` at a cell with a ramp (mark 1), and is 0 at a cell without one (mark 0)
 abbrev pub atRamp : ℕ → ℕ → ℕ
 atRamp most ramp = most * ramp
 
--- the most that the share of the cell at i may be: the last cell's is 0
+-- the greatest share that the cell at i may have: 1,000, and 0 at the last cell
 abbrev pub mostShare : ℕ → ℕ → ℕ
 mostShare n i = cond (eqb (i + 1) n) 0 whole
 
--- 5, the gate out of its limits; in 7, after `done` steps
+-- 5 applies if this fails: the gate is within its limits; in 7, within those after `done` steps
 abbrev pub gateOk : ℕ → ℕ → ℕ → ℕ → Bool
 gateOk capacity queue cumulative done =
     leb capacity mostRate && (leb queue (mostQueue done) && leb cumulative (mostCumulative done))
 
--- 5, a cell out of its limits or a ramp mark above 1
+-- 5 applies if this fails: a cell is within its limits, and its ramp mark is at most 1
 abbrev pub cellOk : ℕ → ℕ → ℕ → ℕ → ℕ → ℕ → ℕ → Bool
 cellOk most speed wave share ramp jam capacity =
     leb speed whole && (leb wave whole && (leb share most && (leb ramp 1 && (leb jam mostRate && leb capacity mostRate))))
 
--- 5, held above J or a queue without a ramp; in 7, after `done` steps
+-- 5 applies if this fails: held is at most J, and a cell without a ramp has no queue; in 7, the limits are those after `done` steps
 abbrev pub countsOk : ℕ → ℕ → ℕ → ℕ → ℕ → ℕ → Bool
 countsOk ramp jam held queue cumulative done =
     leb held jam && (leb queue (atRamp (mostQueue done) ramp) && leb cumulative (mostCumulative done))
 
--- the limits of a place after the steps that the state has done: of the gate, place 0, and of the cells
+-- a place, the gate (0) or a cell, is within its limits after the steps that the state has done
 unfoldable pub placeOk : Road → State → ℕ → Bool
 placeOk r s zero = gateOk (r .«gate_capacity») (s .«gate_queue») (s .«gate_cumulative») (s .done)
 placeOk r s (suc i) =
     cellOk (mostShare (r .n) i) (at (r .speed) i) (at (r .wave) i) (at (r .share) i) (at (r .ramp) i) (at (r .jam) i) (at (r .capacity) i)
     && countsOk (at (r .ramp) i) (at (r .jam) i) (at (s .held) i) (at (s .queue) i) (at (s .cumulative) i) (s .done)
 
--- 6, a row's number above 1,000,000, or one other than 0 for a cell without a ramp
+-- 6 applies if this fails: a row's numbers are at most 1,000,000, and 0 for a cell without a ramp
 abbrev pub ratesOk : ℕ → ℕ → ℕ → Bool
 ratesOk ramp arrivals release = leb arrivals (atRamp mostRate ramp) && leb release (atRamp mostRate ramp)
 
@@ -60,17 +60,17 @@ ratesAt ramp row i = ratesOk (at ramp i) (at row (2 * i + 1)) (at row (2 * i + 2
 unfoldable pub rowOk : List ℕ → ℕ → List ℕ → Bool
 rowOk ramp n row = leb (at row 0) mostRate && allOf (ratesAt ramp row) n
 
--- 7: n is 1 to 64, steps done are at most 1,440, the row is of 1 + 2n numbers, the total, three times together, is within its limit
+-- 7 applies if this fails: n is 1 to 64, the steps done are at most 1,440, the row has 1 + 2n numbers, and the total is within its limit
 unfoldable pub frameOk : ℕ → ℕ → ℕ → ℕ → Bool
 frameOk n done total numbers =
     leb 1 n && (leb n mostCells && (leb done mostSteps && (eqb numbers (1 + 2 * n) && leb total (mostTotal done))))
 
--- and gate, cells and row are within theirs
+-- 7 applies if this fails: that, and the gate, the cells and the row are within their limits
 unfoldable pub inputOk : Road → State → List ℕ → Bool
 inputOk r s row =
     frameOk (r .n) (s .done) (totalOf s) (length row) && (allOf (placeOk r s) (r .n + 1) && rowOk (r .ramp) (r .n) row)
 
--- 7, of the state alone: steps done, total, gate and cells
+-- the limits of 7 for the state alone: steps done, total, gate and cells
 unfoldable pub stateOk : Road → State → Bool
 stateOk r s = leb (s .done) mostSteps && (leb (totalOf s) (mostTotal (s .done)) && allOf (placeOk r s) (r .n + 1))
 

@@ -1,4 +1,4 @@
--- docs/MODEL.md, 'A stated load': the generator, the arrivals that it makes, and what loading answers. Assumes nothing.
+-- docs/MODEL.md, 'A stated load': the generator, its arrivals, and what loading answers. Assumes nothing.
 use mathlib.Core.Path.{_≡_}
 use mathlib.Core.List.{List}
 use Prim.Native.Nat.{ℕ, zero, suc, _+_, _*_, _/_, _%_, _^_, _≤_, _<_}
@@ -9,7 +9,7 @@ use Rattle.model.specs.Numbers.{unless, listOf, at}
 use Rattle.model.specs.Road.{mostRate}
 use Rattle.model.specs.Refusals.{refusalNumber}
 
--- how many numbers have 32 bits, and how many have 16
+-- how many numbers 32 bits can hold, and how many 16 bits
 abbrev pub numbers : ℕ
 numbers = 2 ^ 32
 
@@ -20,7 +20,7 @@ half = 2 ^ 16
 abbrev pub nextNumber : ℕ → ℕ
 nextNumber number = (1664525 * number + 1013904223) % numbers
 
--- an arrival is its upper 16 bits × (peak + 1) ÷ 65,536, rounded down
+-- an arrival is the number's upper 16 bits × (peak + 1) ÷ 65,536, rounded down
 abbrev pub arrivalOf : ℕ → ℕ → ℕ
 arrivalOf number peak = number / half * (peak + 1) / half
 
@@ -29,7 +29,7 @@ unfoldable pub numberAfter : ℕ → ℕ → ℕ
 numberAfter seed zero = seed
 numberAfter seed (suc n) = nextNumber (numberAfter seed n)
 
--- the arrival of step k is that of the number after the update
+-- the arrival of step k comes from the number after the update
 abbrev pub arrivalAt : ℕ → ℕ → ℕ → ℕ
 arrivalAt seed peak k = arrivalOf (numberAfter seed (suc k)) peak
 
@@ -49,21 +49,21 @@ loadAnswer a = record { number = refusalNumber (a .refusal); last = a .last }
 abbrev pub loaded : ℕ → ℕ → LoadAnswer
 loaded number last = record { number = number; last = last }
 
--- a list of n numbers is loaded: 25, a peak above 1,000,000, returns the seed
+-- loading a list of n numbers: 25, a peak above 1,000,000, returns the seed
 unfoldable pub loadingOf : ℕ → ℕ → ℕ → LoadAnswer
 loadingOf seed peak n = unless (leb peak mostRate) (loaded 25 seed) (loaded 0 (numberAfter seed n))
 
--- the lent list then; 25 leaves it unchanged
+-- the lent list afterwards; 25 leaves it unchanged
 unfoldable pub loadedList : ℕ → ℕ → List ℕ → List ℕ
 loadedList seed peak list = unless (leb peak mostRate) list (arrivalsOf seed peak (length list))
 
--- a list that was loaded: its arrivals are those of the seed's numbers in their order, none above the peak
+-- a loaded list: its arrivals are those of the seed's numbers in their order, and none is above the peak
 pub record Arrivals (seed peak : ℕ) (list filled : List ℕ) : Type 0 where
   pub same : length filled ≡ length list
   pub each : (k : ℕ) → k < length list → at filled k ≡ arrivalAt seed peak k
   pub within : (k : ℕ) → k < length list → at filled k ≤ peak
 
--- both ends, with what each leaves of the lent list
+-- both cases of the answer, with the lent list that each leaves
 pub data LoadEnds (seed peak : ℕ) (list : List ℕ) : LoadAnswer → List ℕ → Type 0 where
   refused : mostRate < peak → LoadEnds seed peak list (loaded 25 seed) list
   filled : peak ≤ mostRate → {after : List ℕ} → Arrivals seed peak list after → LoadEnds seed peak list (loaded 0 (numberAfter seed (length list))) after

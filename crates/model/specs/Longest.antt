@@ -1,4 +1,4 @@
--- docs/MODEL.md, 'The longest queues': of the gate and of the on-ramps, over the states after each step done. Assumes nothing.
+-- docs/MODEL.md, 'The longest queues': those of the gate and of the on-ramps, over the states after each step done. Assumes nothing.
 use mathlib.Core.List.{List}
 use Prim.Native.Nat.{ℕ, zero, suc, _-_, max}
 use Rattle.model.specs.declared.State.{State}
@@ -11,12 +11,12 @@ use Rattle.model.specs.Reading.{studyOf}
 use Rattle.model.specs.Running.{stepsMade, runningOf}
 use Rattle.model.specs.Filling.{meteredAfter, fillingOf}
 
--- the greatest of the first k values of f, 0 where there is none
+-- the greatest of the first k values of f, 0 if there is none
 unfoldable pub greatestOf : (ℕ → ℕ) → ℕ → ℕ
 greatestOf f zero = 0
 greatestOf f (suc k) = max (greatestOf f k) (f k)
 
--- what was at the gate before a step and did not leave in it: s is the state before the step, t that after it
+-- the queue that was at the gate before a step and did not leave in it: s is the state before the step, t the state after it
 abbrev pub stayedOf : State → State → ℕ
 stayedOf s t = s .«gate_queue» - (t .«gate_cumulative» - s .«gate_cumulative»)
 
@@ -34,7 +34,7 @@ abbrev pub longestQueues : Longest → Queues
 longestQueues e = queuesOf (e .gate) (e .waiting) (e .ramps)
 
 -- the longest queue of the gate, and of each of n ramps, is the greatest of its lengths after the first k steps; `after` gives the states.
--- The start is no state after a step and does not count
+-- The start does not count, because it is no state after a step
 unfoldable pub longestOf : ℕ → (ℕ → State) → ℕ → Queues
 longestOf n after k =
     queuesOf

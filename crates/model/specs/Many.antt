@@ -1,4 +1,4 @@
--- docs/MODEL.md, 'Many studies': one record, with the arrivals of each study put into it in turn, and an entry of numbers a study. Assumes nothing.
+-- docs/MODEL.md, 'Many studies': one record, the arrivals of each study put into it in turn, and an entry of numbers per study. Assumes nothing.
 use mathlib.Core.List.{List, [], _∷_}
 use Prim.Native.Nat.{ℕ, zero, suc, _+_, _*_, _-_, _/_, _%_}
 use lib.Dec.{leb, eqb}
@@ -13,7 +13,7 @@ use Rattle.model.specs.Ramps.{putEntry}
 use Rattle.model.specs.Filling.{fillingOf, recordAfter, filledList}
 use Rattle.model.specs.Longest.{Queues, longestRun, longestFill}
 
--- the arrivals of place p are number 2p - 1 of a row; those of the gate, place 0, are number 0, where the difference ends
+-- the arrivals of place p are number 2p − 1 of a row; the gate's are number 0, because the difference is never below 0
 abbrev pub arrivalNumber : ℕ → ℕ
 arrivalNumber p = 2 * p - 1
 
@@ -27,7 +27,7 @@ unfoldable pub putArrivalRows : List ℕ → ℕ → (ℕ → ℕ → ℕ) → �
 putArrivalRows s n f zero = s
 putArrivalRows s n f (suc k) = putArrivals (putArrivalRows s n f k) n k (f k) (n + 1)
 
--- a table of arrivals has T rows of n + 1 numbers, the gate first: the record with such a table in place of its own arrivals
+-- a table of arrivals has T rows of n + 1 numbers, gate first: the record with such a table instead of its own arrivals
 abbrev pub withArrivals : List ℕ → ℕ → ℕ → List ℕ → List ℕ
 withArrivals bytes n T table = putArrivalRows bytes n (λ t p. at (rowAt table (n + 1) t) p) T
 
@@ -35,11 +35,11 @@ withArrivals bytes n T table = putArrivalRows bytes n (λ t p. at (rowAt table (
 abbrev pub arrivalsSize : ℕ → ℕ → ℕ
 arrivalsSize n T = T * (n + 1)
 
--- the same of a record
+-- the same for a record
 abbrev pub recordArrivals : List ℕ → ℕ
 recordArrivals bytes = arrivalsSize (readingOf bytes .road .n) (readingOf bytes .steps)
 
--- the tables are one after the other: those of study k
+-- the tables are one after the other; this is study k's
 abbrev pub studyArrivals : List ℕ → List ℕ → ℕ → List ℕ
 studyArrivals bytes arrivals k = rowAt arrivals (recordArrivals bytes) k
 
@@ -55,8 +55,8 @@ studyRecord bytes arrivals k = withStudyArrivals bytes arrivals k bytes
 abbrev pub studyCount : List ℕ → List ℕ → ℕ
 studyCount bytes arrivals = length arrivals / recordArrivals bytes
 
--- an entry has 73 numbers: the refusal's number, step and place; gate, road and ramp time; exits; the longest gate queue, with and without the
--- arrivals of the step; and the longest queue of each of 64 ramps
+-- an entry has 73 numbers: the refusal's number, step and place; gate, road and ramp time; exits; the longest gate queue, with and without
+-- the arrivals of the step; and the longest queue of each of 64 ramps
 abbrev pub entrySize : ℕ
 entrySize = 73
 
@@ -73,7 +73,7 @@ answerEntry e q =
     ∷ q .waiting
     ∷ q .ramps
 
--- the refusals of reading the record given; 27 at 1, where the arrivals are no whole number of tables, and at 2, where there is no room for the entries
+-- the refusals of reading the record; 27 at place 1 if the arrivals are no whole number of tables, and at place 2 if the entries have no room
 unfoldable pub manyFault : List ℕ → List ℕ → List ℕ → FaultAnswer
 manyFault bytes arrivals answers =
     unless (eqb (readingOf bytes .number) 0) (fault (readingOf bytes .number) (readingOf bytes .place))
@@ -85,7 +85,7 @@ manyFault bytes arrivals answers =
 abbrev pub unlessMany : List ℕ → List ℕ → List ℕ → List ℕ → List ℕ → List ℕ
 unlessMany bytes arrivals answers lent after = unless (eqb (manyFault bytes arrivals answers .number) 0) lent after
 
--- running: entry k is what running with its longest queues gives of study k
+-- running: entry k is the answer of running study k, with its longest queues
 abbrev pub runEntry : List ℕ → List ℕ → List ℕ → List ℕ → ℕ → List ℕ
 runEntry bytes lanes arrivals list k =
     answerEntry (runningOf (studyRecord bytes arrivals k) lanes list) (longestRun (studyRecord bytes arrivals k) lanes list)
@@ -111,7 +111,7 @@ recordAfterRuns bytes arrivals (suc k) = studyRecord bytes arrivals k
 unfoldable pub runRecord : List ℕ → List ℕ → List ℕ → List ℕ
 runRecord bytes arrivals answers = unlessMany bytes arrivals answers bytes (recordAfterRuns bytes arrivals (studyCount bytes arrivals))
 
--- filling: entry k is what filling with its longest queues gives of study k
+-- filling: entry k is the answer of filling study k, with its longest queues
 abbrev pub fillEntry : List Law → List ℕ → List ℕ → List ℕ → List ℕ → ℕ → List ℕ
 fillEntry laws bytes lanes arrivals list k =
     answerEntry (fillingOf laws (studyRecord bytes arrivals k) lanes list) (longestFill laws (studyRecord bytes arrivals k) lanes list)

@@ -31,11 +31,11 @@ wishOf (law.Fixed rate) last entered held = rate
 wishOf (law.Alinea p) last entered held = alineaOf p last held
 wishOf (law.DemandCapacity p) last entered held = demandCapacityOf p entered held
 
--- the release is the greatest whole number not above the wish, capped
+-- the release is the greatest whole number not above the wish, at most the cap
 unfoldable pub wholeBelow : Float → ℕ → ℕ
--- 0 for a wish that is not a number
+-- it is 0 if the wish is not a number
 wholeBelow nan cap = 0
--- or negative; an infinite wish above takes the cap
+-- it is 0 for a negative wish; positive infinity gives the cap
 wholeBelow (inf negative) cap = cond negative 0 cap
 -- a finite wish is m × 2 ^ e, and 2 ^ e is up e ÷ down e
 wholeBelow (fin negative m e) cap = cond negative 0 (min (m * up e / down e) cap)
@@ -54,6 +54,6 @@ lawAt laws i = getD laws i (law.Fixed (fin false 0 (pos 0)))
 unfoldable pub lawOk : List Law → List ℕ → ℕ → Bool
 lawOk laws ramp i = eqb (at ramp i) 0 || lawFinite (lawAt laws i)
 
--- at the lowest such cell of n, counted from 1; 0 where there is none
+-- the place of 16: the lowest such cell of n, counted from 1; 0 if there is none
 unfoldable pub lawFaultOf : List Law → List ℕ → ℕ → ℕ
 lawFaultOf laws ramp n = unlessFirst (lawOk laws ramp) n (λ i. i + 1) 0

@@ -1,4 +1,4 @@
--- docs/MODEL.md, 'One step': every place moved by a row of outflows, all quantities taken from the state before; present, the three times and exits. Assumes nothing.
+-- docs/MODEL.md, 'One step': every place moved by a row of outflows, from the state before the step; present, the three times and exits. Assumes nothing.
 use mathlib.Core.List.{List}
 use Prim.Native.Nat.{ℕ, _+_, _-_}
 use lib.ListN.{take}
@@ -8,11 +8,11 @@ use Rattle.model.specs.Numbers.{sumOf, fillOf, listOf, at}
 use Rattle.model.specs.Flow.{onwardOf}
 use Rattle.model.specs.Places.{gateArrivals, arrivalsAt, releaseAt, enteringAt}
 
--- a cell's next count is held + entering + release − outflow; 0 where an outflow is above these three together, which no demand within the limits is
+-- held becomes held + entering + release − outflow; 0 if the outflow is above these three together, which no demand within the limits is
 abbrev pub heldOf : Road → State → List ℕ → List ℕ → ℕ → ℕ
 heldOf r s row y i = at (s .held) i + enteringAt r s y i + releaseAt row i - at y (i + 1)
 
--- a ramp's queue grows by arrivals less release; 0 where the release is above both together, which is refusal 9
+-- a ramp's queue becomes queue + arrivals − release; 0 if the release is above both together, which is refusal 9
 abbrev pub queueOf : State → List ℕ → ℕ → ℕ
 queueOf s row i = at (s .queue) i + arrivalsAt row i - releaseAt row i
 
@@ -20,7 +20,7 @@ queueOf s row i = at (s .queue) i + arrivalsAt row i - releaseAt row i
 abbrev pub cumulativeOf : State → List ℕ → ℕ → ℕ
 cumulativeOf s y i = at (s .cumulative) i + at y (i + 1)
 
--- the gate and the first n cells moved; the gate's queue grows by arrivals less outflow, 0 where an outflow is above both together, which no demand within the limits is
+-- the gate and the first n cells moved. The gate's queue becomes queue + arrivals − outflow; 0 if the outflow is above both, which no demand within the limits is
 unfoldable pub movedTo : Road → State → List ℕ → List ℕ → ℕ → State
 movedTo r s row y n = record {
   done = s .done;
@@ -34,11 +34,11 @@ movedTo r s row y n = record {
   cumulative = fillOf (cumulativeOf s y) n (s .cumulative);
 }
 
--- all places moved; entries past cell n are kept
+-- all places moved; entries past cell n are unchanged
 abbrev pub movedOf : Road → State → List ℕ → List ℕ → State
 movedOf r s row y = movedTo r s row y (r .n)
 
--- all held counts, and all ramp queues
+-- the sum of all held counts, and of all ramp queues
 abbrev pub heldSum : Road → State → ℕ
 heldSum r s = sumOf (take (r .n) (s .held))
 
@@ -49,7 +49,7 @@ queueSum r s = sumOf (take (r .n) (s .queue))
 abbrev pub presentOf : Road → State → ℕ
 presentOf r s = s .«gate_queue» + heldSum r s + queueSum r s
 
--- a step done: the gate queue after it goes into gate time, all held counts into road time, all ramp queues into ramp time
+-- a step is counted: gate time grows by the gate queue after it, road time by all held counts, ramp time by all ramp queues
 unfoldable pub countedOf : Road → State → State
 countedOf r s = record {
   done = s .done + 1;
@@ -63,11 +63,11 @@ countedOf r s = record {
   cumulative = s .cumulative;
 }
 
--- the state after a step by the outflows y
+-- the state after a step with the outflows y
 abbrev pub nextOf : Road → State → List ℕ → List ℕ → State
 nextOf r s row y = countedOf r (movedOf r s row y)
 
--- exits: the sum over cells of F less the onward total; 0 where a share above 1,000, which is refused, sends more on than F
+-- exits: the sum over the cells of F less the onward total; 0 at a cell whose share is above 1,000, which reading refuses
 abbrev pub exitAt : Road → State → ℕ → ℕ
 exitAt r s i = at (s .cumulative) i - onwardOf (at (r .share) i) (at (s .cumulative) i)
 

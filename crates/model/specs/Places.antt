@@ -1,4 +1,4 @@
--- docs/MODEL.md, 'One step': what the rules take of each place. Place 0 is the gate and place i + 1 the cell at i of the arrays,
+-- docs/MODEL.md, 'One step': the numbers that the rules use at each place. Place 0 is the gate, and place i + 1 is the cell at i of the arrays,
 -- so the cell at p is the one after place p. Assumes nothing.
 use mathlib.Core.List.{List}
 use Prim.Native.Nat.{ℕ, zero, suc, _+_, _*_}
@@ -30,7 +30,7 @@ demandAt r s (suc i) = demandOf (at (r .speed) i) (capacityAt r i) (at (s .held)
 abbrev pub supplyAt : Road → State → ℕ → ℕ
 supplyAt r s i = supplyOf (at (r .wave) i) (capacityAt r i) (at (r .jam) i) (at (s .held) i)
 
--- what the release at the cell at i may be at most: the ramp's queue and this step's arrivals there
+-- the most that the release at the cell at i may be: the ramp's queue and this step's arrivals there
 unfoldable pub mostReleaseAt : State → List ℕ → ℕ → ℕ
 mostReleaseAt s row i = mostReleaseOf (at (s .queue) i) (arrivalsAt row i)
 
@@ -48,7 +48,7 @@ unfoldable pub cumulativeAt : State → ℕ → ℕ
 cumulativeAt s zero = s .«gate_cumulative»
 cumulativeAt s (suc i) = at (s .cumulative) i
 
--- what place p lets into the next cell by its outflow in y, a row of outflows, gate first
+-- what enters the next cell from place p with its outflow in y, a row of outflows, gate first
 abbrev pub enteringAt : Road → State → List ℕ → ℕ → ℕ
 enteringAt r s y p = enteringOf (shareAt r p) (cumulativeAt s p) (at y p)
 

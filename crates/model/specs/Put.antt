@@ -13,12 +13,12 @@ use Rattle.model.specs.Reading.{readingOf}
 use Rattle.model.specs.Ramps.{putEntry}
 use Rattle.model.specs.Filling.{Outside}
 
--- 5: a cell from 1 to n that has a ramp
+-- 5 applies if this fails: the cell is one of 1 to n and has a ramp
 unfoldable pub rampOk : List ℕ → ℕ → ℕ → Bool
 rampOk ramp n zero = false
 rampOk ramp n (suc i) = leb (suc i) n && eqb (at ramp i) 1
 
--- 6: a step before T, and a release of at most 1,000,000
+-- 6 applies if this fails: the step is before T, and the release is at most 1,000,000
 abbrev pub stepAndRateOk : ℕ → ℕ → ℕ → Bool
 stepAndRateOk step T release = ltb step T && leb release mostRate
 
@@ -34,45 +34,45 @@ puttingOf bytes step cell release =
     (unless (stepAndRateOk step (readingOf bytes .steps) release) (fault 6 step)
     (fault 0 0)))
 
--- the record then; a refusal leaves it unchanged
+-- the record afterwards; a refusal leaves it unchanged
 unfoldable pub releasedRecord : List ℕ → ℕ → ℕ → ℕ → List ℕ
 releasedRecord bytes step cell release =
     unless (eqb (puttingOf bytes step cell release .number) 0) bytes (releasedAt bytes (readingOf bytes .road .n) step cell release)
 
--- a cell that has a ramp, as the code counts it
+-- a cell from 1 to n that has a ramp
 pub record Ramp (ramp : List ℕ) (n cell : ℕ) : Type 0 where
   pub some : 1 ≤ cell
   pub within : cell ≤ n
   pub mark : at ramp (cell - 1) ≡ 1
 
--- u is s with x put as number k of the row of step t: exactly that number is changed
+-- u is s with x put as number k of the row of step t: exactly that number changes
 pub record Put (s u : List ℕ) (n t k x : ℕ) : Type 0 where
   pub size : length u ≡ length s
   pub version : versionOf u ≡ versionOf s
-  -- every byte outside its four is as it was
+  -- every byte outside its four is unchanged
   pub byte : (b : ℕ) → Outside b (entryStart (versionOf s) n t k) numberSize → at u b ≡ at s b
-  -- it is there, and every other number of every row is as it was
+  -- the number is there, and every other number of every row is unchanged
   pub number : entryOf u n t k ≡ x
   pub others : (q j : ℕ) → j < 1 + 2 * n → (q ≡ t → j ≡ k → ⊥) → entryOf u n q j ≡ entryOf s n q j
-  -- the same of whole rows
+  -- the same for whole rows
   pub row : recordRow u n t ≡ set (recordRow s n t) k x
   pub rows : (q : ℕ) → (q ≡ t → ⊥) → recordRow u n q ≡ recordRow s n q
 
--- what holds where nothing is refused: the record reads, the cell is on the road and has a ramp, the step is one of its T, and the release is a rate
+-- what holds if nothing is refused: the record reads, the cell is on the road and has a ramp, the step is before T, and the release is at most 1,000,000
 pub record PutRequest (bytes : List ℕ) (step cell release : ℕ) : Type 0 where
   pub reads : readingOf bytes .number ≡ 0
   pub ramp : Ramp (readingOf bytes .road .ramp) (readingOf bytes .road .n) cell
   pub before : step < readingOf bytes .steps
   pub rate : release ≤ mostRate
 
--- the record with the release put
+-- the record after a release was put into it
 pub record Stands (bytes after : List ℕ) (step cell release : ℕ) : Type 0 where
-  -- exactly that number is changed: every other byte, and every other number of every row, is as it was
+  -- exactly that number changes: every other byte, and every other number of every row, is unchanged
   pub put : Put bytes after (readingOf bytes .road .n) step (2 * cell) release
   -- it reads without refusal, as before: the same road, T and start
   pub reads : readingOf after ≡ readingOf bytes
 
--- the ends of putting, with what each leaves of the record
+-- the cases of putting's answer, with the record that each leaves
 pub data PutEnds (bytes : List ℕ) (step cell release : ℕ) : FaultAnswer → List ℕ → Type 0 where
   unread : (readingOf bytes .number ≡ 0 → ⊥) → PutEnds bytes step cell release (fault (readingOf bytes .number) (readingOf bytes .place)) bytes
   noRamp : readingOf bytes .number ≡ 0 → (Ramp (readingOf bytes .road .ramp) (readingOf bytes .road .n) cell → ⊥)

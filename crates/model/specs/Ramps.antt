@@ -39,7 +39,7 @@ unfoldable pub releasedRow : (ℕ → ℕ) → ℕ → List ℕ → List ℕ
 releasedRow f zero row = row
 releasedRow f (suc c) row = set (releasedRow f c row) (releaseNumber c) (f c)
 
--- what the wishes of a step go by: the state before it, and of the last step each release granted and what entered each cell from upstream
+-- what the wishes of a step are computed from: the state before it, and from the last step each release granted and what entered each cell from upstream
 pub record Metered : Type 0 where
   pub state : State
   pub releases : List ℕ
@@ -56,11 +56,11 @@ unmetered s = metered s zeros zeros
 abbrev pub wishAt : List Law → Metered → ℕ → Float
 wishAt laws m i = wishOf (lawAt laws i) (at (m .releases) i) (at (m .entries) i) (at (m .state .held) i)
 
--- capped by queue plus arrivals, supply and 1,000,000
+-- the cap of a release: queue plus arrivals, supply and 1,000,000
 abbrev pub capAt : Road → State → List ℕ → ℕ → ℕ
 capAt r s row i = min (mostReleaseAt s row i) (min (supplyAt r s i) mostRate)
 
--- the release is the greatest whole number not above the wish, up to the cap; it is 0 at a cell without a ramp, whose law is ignored
+-- the release is the greatest whole number not above the wish, at most the cap; it is 0 at a cell without a ramp, whose law is ignored
 unfoldable pub releaseOf : ℕ → Float → ℕ → ℕ
 releaseOf ramp wish cap = cond (eqb ramp 0) 0 (wholeBelow wish cap)
 
@@ -72,12 +72,12 @@ grantedAt laws r m row i = releaseOf (at (r .ramp) i) (wishAt laws m i) (capAt r
 unfoldable pub filledRow : List Law → Road → Metered → List ℕ → List ℕ
 filledRow laws r m row = releasedRow (grantedAt laws r m row) (r .n) row
 
--- a step by a row whose releases are given: what the next step's wishes go by
+-- a step with a row whose releases are given: what the next step's wishes are computed from
 abbrev pub nextMetered : Road → Metered → List ℕ → List ℕ → Metered
 nextMetered r m row given =
     metered (nextOf r (m .state) row (outflowsOf r (m .state) row)) given
     (fillOf (enteringAt r (m .state) (outflowsOf r (m .state) row)) (r .n) (m .entries))
 
--- a step by the filled row
+-- a step with the filled row
 unfoldable pub meteredOf : List Law → Road → Metered → List ℕ → Metered
 meteredOf laws r m row = nextMetered r m (filledRow laws r m row) (fillOf (grantedAt laws r m row) (r .n) (m .releases))

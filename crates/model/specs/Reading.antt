@@ -1,4 +1,4 @@
--- docs/MODEL.md, 'Reading': the tests of the header, the refusals in order, and what reading gives, for a caller with limits of its own too. Assumes nothing.
+-- docs/MODEL.md, 'Reading': the tests of the header, the refusals in order, and what reading gives, also for a caller with its own limits. Assumes nothing.
 use mathlib.Core.Bool.{Bool, true, cond, _&&_}
 use mathlib.Core.List.{List, [], _∷_}
 use Prim.Native.Nat.{ℕ, _-_, _+_}
@@ -27,28 +27,28 @@ stepsOf s = numberOf s stepsOffset shortSize
 abbrev pub sizeOf : ℕ → ℕ → ℕ → ℕ
 sizeOf version n T = rowStart version n T
 
--- the versions that a reader knows: both, and version 1 alone
+-- the versions that a reader knows: both
 abbrev pub bothVersions : List ℕ
 bothVersions = firstVersion ∷ secondVersion ∷ []
 
--- 1's least size: that of the version's header, or of version 1's for a version that the reader doesn't know
+-- the least size that 1 allows: that of the version's header, or of version 1's for a version that the reader doesn't know
 abbrev pub leastSize : List ℕ → ℕ → ℕ
 leastSize known version = headerSize (cond (oneOf known version) version firstVersion)
 
--- 1: from the least size to 65,536 bytes, and the first field is the count of bytes after it (of 16 or more, so the difference cuts nothing off)
+-- 1 applies if this fails: at least that size, at most 65,536 bytes, and the first field is the count of bytes after it
 abbrev pub lengthOk : List ℕ → List ℕ → Bool
 lengthOk known s =
     leb (leastSize known (versionOf s)) (length s) && (leb (length s) mostBytes && eqb (numberOf s 0 countSize) (length s - countSize))
 
--- 3: n and T are within their limits
+-- 3 applies if this fails: n and T are within their limits
 abbrev pub cellsAndStepsOk : ℕ → ℕ → Bool
 cellsAndStepsOk n T = leb 1 n && (leb n mostCells && (leb 1 T && leb T mostSteps))
 
--- 19: in version 2 the step's seconds are 1 to 900; in another they are not looked at
+-- 19 applies if this fails: in version 2 the step's seconds are 1 to 900; in another version they are not tested
 abbrev pub secondsOk : ℕ → ℕ → Bool
 secondsOk version seconds = cond (eqb version secondVersion) (leb 1 seconds && leb seconds mostSeconds) true
 
--- 26: n and the count of bytes are within what the caller takes
+-- 26 applies if this fails: n and the count of bytes are at most what the caller takes
 abbrev pub callerOk : ℕ → ℕ → ℕ → ℕ → Bool
 callerOk cells most n size = leb n cells && leb size most
 
@@ -93,7 +93,7 @@ startOf s = startState (record {
   queue = columnOf s queueOffset numberSize (cellsOf s);
 })
 
--- 6: the row of step t is within the limits
+-- 6 applies if this fails: the row of step t is within the limits
 abbrev pub stepOk : List ℕ → Road → ℕ → Bool
 stepOk s r t = rowOk (r .ramp) (r .n) (recordRow s (r .n) t)
 
@@ -101,7 +101,7 @@ stepOk s r t = rowOk (r .ramp) (r .n) (recordRow s (r .n) t)
 abbrev pub refusedOf : ℕ → ℕ → ReadAnswer
 refusedOf number place = record { number = number; place = place; steps = 0; road = emptyRoad; state = emptyState }
 
--- where no refusal applies the number is 0
+-- without a refusal the number is 0
 abbrev pub acceptedOf : ℕ → Road → State → ReadAnswer
 acceptedOf T r s = record { number = 0; place = 0; steps = T; road = r; state = s }
 
@@ -124,15 +124,15 @@ readingBy by s =
     (unlessFirst (stepOk s (roadOf s)) (stepsOf s) (refusedOf 6)
     (acceptedOf (stepsOf s) (roadOf s) (startOf s)))))))))
 
--- reading for a caller with limits of its own: above 64 and 65,536 they count as these, since 1 and 3 come first
+-- reading for a caller with its own limits: limits above 64 and 65,536 count as 64 and 65,536, because 1 and 3 come first
 abbrev pub readingWithin : ℕ → ℕ → List ℕ → ReadAnswer
 readingWithin cells bytes s = readingBy (record { known = bothVersions; cells = cells; bytes = bytes }) s
 
--- reading knows both versions and takes all that they allow, and the first reader knew version 1 alone
+-- reading knows both versions and takes all that 1 and 3 allow
 abbrev pub readingOf : List ℕ → ReadAnswer
 readingOf s = readingWithin mostCells mostBytes s
 
--- the study of a record that gave this road, start and T, under a table of lanes: the bytes hold its rows
+-- the study of a record that reads as this road, start and T, under a table of lanes: its rows are in the bytes
 abbrev pub studyBy : List ℕ → List ℕ → Road → State → ℕ → Study
 studyBy s lanes r q T = study r q T (recordRow s (r .n)) lanes
 

@@ -11,7 +11,7 @@ unfoldable pub numberOf : List ℕ → ℕ → ℕ → ℕ
 numberOf s i zero = 0
 numberOf s i (suc w) = numberOf s i w * 256 + at s (i + w)
 
--- the other way round: the w bytes of a number
+-- the other direction: the w bytes of a number
 unfoldable pub bytesOf : ℕ → ℕ → List ℕ
 bytesOf zero x = []
 bytesOf (suc w) x = bytesOf w (x / 256) ++ (x % 256 ∷ [])
@@ -48,7 +48,7 @@ cellsOffset = 5
 abbrev pub stepsOffset : ℕ
 stepsOffset = 6
 
--- version 2 has two more bytes after byte 7, the step's seconds, and all that follows is two bytes later; other versions have none
+-- version 2 has two more bytes after byte 7, the step's seconds, and everything after them comes two bytes later; other versions have none
 abbrev pub secondsOffset : ℕ
 secondsOffset = 8
 
@@ -63,11 +63,11 @@ gateCapacityOffset version = 8 + secondsSize version
 abbrev pub gateQueueOffset : ℕ → ℕ
 gateQueueOffset version = 12 + secondsSize version
 
--- all that comes before the cells
+-- everything before the cells
 abbrev pub headerSize : ℕ → ℕ
 headerSize version = 16 + secondsSize version
 
--- then 24 bytes a cell
+-- then 24 bytes per cell
 abbrev pub cellSize : ℕ
 cellSize = 24
 
@@ -97,7 +97,7 @@ heldOffset = 16
 abbrev pub queueOffset : ℕ
 queueOffset = 20
 
--- then a row a step, four bytes a number: gate arrivals; then for each cell its ramp arrivals and its release
+-- then one row per step, four bytes per number: gate arrivals; then for each cell its ramp arrivals and its release
 abbrev pub ratesSize : ℕ
 ratesSize = 8
 
@@ -108,7 +108,7 @@ rowSize n = numberSize + ratesSize * n
 abbrev pub rowStart : ℕ → ℕ → ℕ → ℕ
 rowStart version n t = headerSize version + cellSize * n + t * rowSize n
 
--- the step's seconds, 0 where the version has none
+-- the step's seconds, 0 if the version has none
 abbrev pub secondsOf : List ℕ → ℕ
 secondsOf s = numberOf s secondsOffset (secondsSize (versionOf s))
 

@@ -11,7 +11,7 @@ use Rattle.model.specs.Numbers.{oneOf}
 
 -- the number of each refusal, 0 for none
 abbrev pub refusalNumber : Refusal → ℕ
--- where no refusal applies
+-- no refusal applies
 refusalNumber None = 0
 -- reading
 refusalNumber Length = 1
@@ -35,10 +35,10 @@ refusalNumber EnteringAboveRoom = 14
 refusalNumber TargetLength = 15
 -- filling
 refusalNumber LawNumbers = 16
--- a table of lanes; 18 also stepping
+-- a table of lanes; 18 in stepping too
 refusalNumber LanesLength = 17
 refusalNumber Lanes = 18
--- reading and writing, of version 2
+-- reading and writing of version 2
 refusalNumber Seconds = 19
 -- joining
 refusalNumber RoadsDiffer = 20
@@ -50,12 +50,12 @@ refusalNumber WantedInput = 23
 refusalNumber StreetInput = 24
 -- loading
 refusalNumber Peak = 25
--- reading, for a caller with limits of its own
+-- reading, for a caller with its own limits
 refusalNumber CallerLimits = 26
--- many studies, of the lists lent
+-- the lists lent for many studies
 refusalNumber ManyLengths = 27
 
--- a run or a judgement began: it was not refused, or with a step, a place and the state before that step
+-- a run or a judgement began: it was not refused, or its refusal comes with a step, a place and the state before that step
 unfoldable pub began : ℕ → Bool
 began number = oneOf (0 ∷ 9 ∷ 10 ∷ 13 ∷ 14 ∷ []) number
 
@@ -67,6 +67,6 @@ pub record FaultAnswer : Type 0 where
 abbrev pub fault : ℕ → ℕ → FaultAnswer
 fault number place = record { number = number; place = place }
 
--- the code's, in the model's numbers
+-- the code's answer, in the model's numbers
 abbrev pub faultAnswer : Fault → FaultAnswer
 faultAnswer q = fault (refusalNumber (q .refusal)) (q .place)

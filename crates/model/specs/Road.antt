@@ -8,7 +8,7 @@ use Rattle.model.specs.declared.Refusal.{Refusal}
 use Rattle.model.specs.declared.Ended.{Ended}
 use Rattle.model.specs.declared.Road.{Road}
 
--- the limits, the numbers of `Road`'s constants
+-- the limits, which are the numbers of `Road`'s constants: cells, steps and bytes
 abbrev pub mostCells : ℕ
 mostCells = 64
 
@@ -18,31 +18,31 @@ mostSteps = 1440
 abbrev pub mostBytes : ℕ
 mostBytes = 65536
 
--- of a rate and of a jam count
+-- the limit of a rate and of a jam count
 abbrev pub mostRate : ℕ
 mostRate = 1000000
 
--- of a starting queue
+-- the limit of a starting queue
 abbrev pub mostStart : ℕ
 mostStart = 1000000000
 
--- of the step's seconds
+-- the limit of the step's seconds
 abbrev pub mostSeconds : ℕ
 mostSeconds = 900
 
--- of the ramps that share a street
+-- the limit of the ramps that share a street
 abbrev pub mostRamps : ℕ
 mostRamps = 8
 
--- of the total, for each step done
+-- the limit of the total, for each step done
 abbrev pub mostPresent : ℕ
 mostPresent = 200000000000
 
--- of a number of 64 bits
+-- the greatest number of 64 bits
 abbrev pub mostLong : ℕ
 mostLong = 18446744073709551615
 
--- an array's entries, one for each cell that a road may have: all 0
+-- an array with an entry for each of 64 cells: all 0
 abbrev pub zeros : List ℕ
 zeros = replicate mostCells 0
 
@@ -78,7 +78,7 @@ emptyState = record {
 abbrev pub totalOf : State → ℕ
 totalOf s = s .«gate_time» + s .«road_time» + s .«ramp_time»
 
--- the state before step 0 of a start, with every F, every time and the steps done 0
+-- the state before step 0: its queues and held counts are the start's; every F, every time and the steps done are 0
 abbrev pub startState : Start → State
 startState start = record {
   done = 0;
@@ -92,7 +92,7 @@ startState start = record {
   cumulative = zeros;
 }
 
--- what a study that begins with this state starts from
+-- the start of a study that begins with this state
 abbrev pub startIn : State → Start
 startIn s = record { «gate_queue» = s .«gate_queue»; held = s .held; queue = s .queue }
 

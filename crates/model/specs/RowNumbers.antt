@@ -1,4 +1,4 @@
--- docs/MODEL.md, 'The numbers of a row': those of a step, of any bytes, and all rows in one list. Assumes nothing.
+-- docs/MODEL.md, 'The numbers of a row': those of one step, from any bytes, and all rows in one list. Assumes nothing.
 use mathlib.Core.Bool.{_&&_, Bool, cond}
 use mathlib.Core.List.{List}
 use Prim.Native.Nat.{ℕ, _+_, _*_}
@@ -8,27 +8,27 @@ use Rattle.model.specs.Numbers.{unless, fillOf, frontOf}
 use Rattle.model.specs.Road.{mostCells, mostSteps}
 use Rattle.model.specs.Record.{numberSize, numberOf, versionOf, entryStart, rowNumbers}
 
--- an array of as many numbers as a row of 64 cells has: all 0
+-- an array for the numbers of a row of 64 cells: all 0
 abbrev pub noNumbers : List ℕ
 noNumbers = replicate (rowNumbers mostCells) 0
 
--- the number in the four bytes from i; 0 where they are not all there
+-- the number in the four bytes from i on; 0 if they are not all present
 unfoldable pub entryOr : List ℕ → ℕ → ℕ
 entryOr s i = unless (leb (i + numberSize) (length s)) 0 (numberOf s i numberSize)
 
--- number k of the row of step t, 0 where the bytes hold none: in version 2's layout where byte 4 is 2, and else in version 1's
+-- number k of the row of step t, 0 if the bytes don't hold it; the layout is version 2's if byte 4 is 2, otherwise version 1's
 abbrev pub numberAt : List ℕ → ℕ → ℕ → ℕ → ℕ
 numberAt s n t k = entryOr s (entryStart (versionOf s) n t k)
 
--- the numbers of a row of n cells, 0 past them
+-- the numbers of a row of n cells, and 0 past them
 abbrev pub numbersAt : List ℕ → ℕ → ℕ → List ℕ
 numbersAt s n t = fillOf (numberAt s n t) (rowNumbers n) noNumbers
 
--- all 0 for n above 64 or t from 1,440 on
+-- all are 0 for n above 64 or t from 1,440 on
 unfoldable pub rowArray : List ℕ → ℕ → ℕ → List ℕ
 rowArray s n t = unless (leb n mostCells && leb (t + 1) mostSteps) noNumbers (numbersAt s n t)
 
--- the 1 + 2n numbers of step t's row, of any bytes
+-- the 1 + 2n numbers of step t's row, from any bytes
 abbrev pub takenRow : List ℕ → ℕ → ℕ → List ℕ
 takenRow bytes n t = take (rowNumbers n) (rowArray bytes n t)
 
@@ -36,10 +36,10 @@ takenRow bytes n t = take (rowNumbers n) (rowArray bytes n t)
 abbrev pub roomy : ℕ → ℕ → ℕ → Bool
 roomy n T room = leb n mostCells && (leb T mostSteps && leb (T * rowNumbers n) room)
 
--- how many numbers the list then holds; otherwise none
+-- how many numbers are put into the list; otherwise none
 unfoldable pub takenCount : ℕ → ℕ → ℕ → ℕ
 takenCount n T room = cond (roomy n T room) (T * rowNumbers n) 0
 
--- the list then: the rows one after the other in front of what was beyond them; otherwise unchanged
+-- the list afterwards: the rows one after the other in front, and the numbers beyond them unchanged; otherwise all unchanged
 unfoldable pub takenList : List ℕ → ℕ → ℕ → List ℕ → List ℕ
 takenList bytes n T list = cond (roomy n T (length list)) (frontOf (takenRow bytes n) (rowNumbers n) list T) list

@@ -14,11 +14,11 @@ use Rattle.model.specs.Refusals.{refusalNumber, FaultAnswer}
 use Rattle.model.specs.Reading.{ReadAnswer, refusedOf, readingOf, studyOf}
 use Rattle.model.specs.Stepping.{releasesOf, tableFault}
 
--- what running says of step k: 9 or 10
+-- running's fault in step k: 9 or 10
 abbrev pub runSays : Study → ℕ → FaultAnswer
 runSays a k = releasesOf (roadAt a k) (engineAfter a k) (a .rows k)
 
--- the first of T steps that has a fault, T where none has
+-- the first of T steps that has a fault, T if none has one
 abbrev pub firstStep : (ℕ → FaultAnswer) → ℕ → ℕ
 firstStep says T = firstFault (λ k. says k .number) T
 
@@ -37,7 +37,7 @@ ended number step place r s = record { number = number; step = step; place = pla
 abbrev pub endAnswer : Ended → EndAnswer
 endAnswer e = ended (refusalNumber (e .refusal)) (e .step) (e .place) (e .road) (e .state)
 
--- a fault comes with its step, its place and the state before; otherwise the final state
+-- a fault comes with its step, its place and the state before that step; otherwise the final state is given
 unfoldable pub endOf : Study → (ℕ → FaultAnswer) → (ℕ → State) → EndAnswer
 endOf a says after =
     let k = firstStep says (a .steps) in
@@ -49,15 +49,15 @@ endOf a says after =
 abbrev pub noState : ℕ → ℕ → EndAnswer
 noState number place = ended number 0 place emptyRoad emptyState
 
--- how running and judging end, step by step
+-- how running ends, step by step
 abbrev pub runEnd : Study → EndAnswer
 runEnd a = endOf a (runSays a) (engineAfter a)
 
--- 17 and then 18, of the study's table of lanes
+-- 17 and then 18, for the study's table of lanes
 abbrev pub lanesFault : Study → FaultAnswer
 lanesFault a = tableFault (a .lanes) (a .road .n) (a .steps)
 
--- a record is opened with a table of lanes: the refusals of reading, then 17 and 18; otherwise what reading gives
+-- a record is opened with a table of lanes: the refusals of reading, then 17 and 18; otherwise reading's answer
 unfoldable pub openingOf : List ℕ → List ℕ → ReadAnswer
 openingOf bytes lanes =
     let f = lanesFault (studyOf bytes lanes) in
@@ -65,19 +65,19 @@ openingOf bytes lanes =
     (unless (eqb (f .number) 0) (refusedOf (f .number) (f .place))
     (readingOf bytes))
 
--- a record that isn't opened is refused so by running and judging alike
+-- running and judging refuse a record that isn't opened in the same way
 abbrev pub unlessOpened : List ℕ → List ℕ → EndAnswer → EndAnswer
 unlessOpened bytes lanes e =
     unless (eqb (openingOf bytes lanes .number) 0) (noState (openingOf bytes lanes .number) (openingOf bytes lanes .place)) e
 
--- running takes a record, a table of lanes and a lent list: 11, list shorter than T × (n + 1); then 9 or 10 with its step and cell
+-- running takes a record, a table of lanes and a lent list: 11, a list shorter than T × (n + 1); then 9 or 10 with its step and cell
 unfoldable pub runningOf : List ℕ → List ℕ → List ℕ → EndAnswer
 runningOf bytes lanes list =
     unlessOpened bytes lanes
     (unless (leb (tableSize (studyOf bytes lanes)) (length list)) (noState 11 0)
     (runEnd (studyOf bytes lanes)))
 
--- how many steps an answer has made: all T, or those before the refused one (none where no step is named)
+-- how many steps an answer has made: all T, or those before the refused one (none if no step is named)
 abbrev pub stepsMade : Study → EndAnswer → ℕ
 stepsMade a e = cond (eqb (e .number) 0) (a .steps) (e .step)
 

@@ -13,7 +13,7 @@ use Rattle.model.specs.Places.{releaseAt, mostReleaseAt, supplyAt, roomA
 use Rattle.model.specs.Move.{nextOf}
 use Rattle.model.specs.Lanes.{openCapacities, builtIn, openIn}
 
--- what a record and a table of lanes give, as one whole: the road, the start, T, the rows of numbers and the lanes
+-- what a record and a table of lanes give together: the road, the start, T, the rows of numbers and the lanes
 pub record Study : Type 0 where
   pub road : Road
   -- the state before step 0
@@ -22,7 +22,7 @@ pub record Study : Type 0 where
   pub steps : ℕ
   -- the numbers of each step: gate arrivals; then for each cell its ramp arrivals and its release
   pub rows : ℕ → List ℕ
-  -- the table of lanes: first those built, then a row a step of those open; empty where all are open
+  -- the table of lanes: first those built, then one row of those open per step; empty if all are open
   pub lanes : List ℕ
 
 abbrev pub study : Road → State → ℕ → (ℕ → List ℕ) → List ℕ → Study
@@ -43,17 +43,17 @@ withCapacity r capacity = record {
   capacity = capacity;
 }
 
--- the road of a step with these lanes built and open: a cell's capacity is C × open lanes ÷ lanes built, all else is the road's
+-- the road of a step with these lanes built and open: a cell's capacity is C × open lanes ÷ lanes built, and the rest is the road's
 abbrev pub openRoad : Road → List ℕ → List ℕ → Road
 openRoad r built usable = withCapacity r (openCapacities (r .capacity) built usable (r .n))
 
--- the road of step k; an empty table means all open
+-- the road of step k; an empty table means that all lanes are open
 unfoldable pub roadAt : Study → ℕ → Road
 roadAt a k =
     cond (eqb (length (a .lanes)) 0) (a .road)
     (openRoad (a .road) (builtIn (a .lanes) (a .road .n)) (openIn (a .lanes) (a .road .n) k))
 
--- the places of the road, the gate first
+-- the number of places of the road, gate included
 abbrev pub places : Study → ℕ
 places a = a .road .n + 1
 
@@ -61,25 +61,25 @@ places a = a .road .n + 1
 abbrev pub tableSize : Study → ℕ
 tableSize a = a .steps * places a
 
--- each release fits: it exceeds neither what it may be at most nor the supply of its cell
+-- each release fits: it is at most queue plus arrivals, and at most the supply of its cell
 pub record Released (r : Road) (s : State) (row : List ℕ) : Type 0 where
   pub queue : (i : ℕ) → i < r .n → releaseAt row i ≤ mostReleaseAt s row i
   pub supply : (i : ℕ) → i < r .n → releaseAt row i ≤ supplyAt r s i
 
--- the row y obeys the rules: each release fits, each outflow is at most the demand, and what enters each cell is at most supply less release
+-- the row y obeys the rules: each release fits, each outflow is at most the demand, and what enters each cell from upstream is at most its room
 pub record Obeys (r : Road) (s : State) (row y : List ℕ) : Type 0 where
   pub released : Released r s row
   pub demand : (p : ℕ) → p ≤ r .n → at y p ≤ demandAt r s p
   pub enters : (p : ℕ) → p < r .n → enteringAt r s y p ≤ roomAt r s row p
 
--- y holds the greatest outflows in state s: whatever is at most the demand and fits the room is at most y's; the last cell's is its demand
+-- y holds the greatest outflows in state s: every number that is at most the demand and fits the room is at most y's; the last cell's is its demand
 pub record Greatest (r : Road) (s : State) (row y : List ℕ) : Type 0 where
   pub demand : (p : ℕ) → p ≤ r .n → at y p ≤ demandAt r s p
   pub fits : (p : ℕ) → p < r .n → enteringAt r s y p ≤ roomAt r s row p
   pub most : (p : ℕ) → p < r .n → (z : ℕ) → z ≤ demandAt r s p → enteringOf (shareAt r p) (cumulativeAt s p) z ≤ roomAt r s row p → z ≤ at y p
   pub last : at y (r .n) ≡ demandAt r s (r .n)
 
--- the engine's outflows: the greatest of each place, and the last cell's is its demand
+-- the engine's outflows: the greatest at each place; at the last cell the demand
 unfoldable pub outflowsOf : Road → State → List ℕ → List ℕ
 outflowsOf r s row = listOf (outflowAt r s row) (r .n) ++ (demandAt r s (r .n) ∷ [])
 
@@ -88,7 +88,7 @@ unfoldable pub scheduleAfter : Study → (ℕ → List ℕ) → ℕ → State
 scheduleAfter a ys zero = a .start
 scheduleAfter a ys (suc k) = nextOf (roadAt a k) (scheduleAfter a ys k) (a .rows k) (ys k)
 
--- the engine's state after k steps: in each, the greatest outflows in the run's own state
+-- the engine's state after k steps: each step has the greatest outflows in the run's own state
 unfoldable pub engineAfter : Study → ℕ → State
 engineAfter a zero = a .start
 engineAfter a (suc k) = nextOf (roadAt a k) (engineAfter a k) (a .rows k) (outflowsOf (roadAt a k) (engineAfter a k) (a .rows k))
@@ -101,7 +101,7 @@ outflowsAt a k = outflowsOf (roadAt a k) (engineAfter a k) (a .rows k)
 abbrev pub Obeying : Study → (ℕ → List ℕ) → ℕ → Type 0
 Obeying a ys k = (j : ℕ) → j < k → Obeys (roadAt a j) (scheduleAfter a ys j) (a .rows j) (ys j)
 
--- a schedule is a table of outflows, gate first, one row a step: its row k
+-- a schedule is a table of outflows, gate first, one row per step: this is row k
 abbrev pub proposedAt : Study → List ℕ → ℕ → List ℕ
 proposedAt a zs k = rowAt zs (places a) k
 

@@ -1,4 +1,4 @@
--- docs/MODEL.md, 'Several ramps on one street': what each is granted in a step, and what granting answers. Assumes nothing.
+-- docs/MODEL.md, 'Several ramps on one street': what each ramp is granted in a step, and what granting answers. Assumes nothing.
 use mathlib.Core.Path.{_≡_}
 use mathlib.Core.Bool.{Bool, _&&_}
 use mathlib.Core.List.{List}
@@ -19,7 +19,7 @@ pub record GrantRequest (limit : ℕ) (guarantees wishes : List ℕ) : Type 0 wh
   pub wished : (i : ℕ) → i < length wishes → at wishes i ≤ mostRate
   pub together : sumOf guarantees ≤ limit
 
--- and as a test; refusal 24: ramps not 1 to 8, lists of unequal length, a guarantee, wish or limit above 1,000,000, guarantees that together pass the limit
+-- refusal 24 applies if these tests fail: 1 to 8 ramps, lists of equal length, no guarantee, wish or limit above 1,000,000, and guarantees within the limit
 abbrev pub streetFrameOk : ℕ → ℕ → ℕ → ℕ → Bool
 streetFrameOk limit ramps wishes places = leb 1 ramps && (leb ramps mostRamps && (eqb wishes ramps && (eqb places ramps && leb limit mostRate)))
 
@@ -28,11 +28,11 @@ streetOk limit guarantees wishes places =
     streetFrameOk limit (length guarantees) (length wishes) places
     && (allWithin guarantees mostRate && (allWithin wishes mostRate && leb (sumOf guarantees) limit))
 
--- it first gets the smaller of the two
+-- each ramp first gets the smaller of wish and guarantee
 abbrev pub sureOf : List ℕ → List ℕ → ℕ → ℕ
 sureOf guarantees wishes i = min (at wishes i) (at guarantees i)
 
--- what remains of the limit goes in ramp order, each up to its wish: what remains before ramp i
+-- what remains of the limit goes in ramp order, each up to its wish: this is what remains before ramp i
 unfoldable pub restBefore : ℕ → List ℕ → List ℕ → ℕ → ℕ
 restBefore limit guarantees wishes zero = limit - sumOf (listOf (sureOf guarantees wishes) (length guarantees))
 restBefore limit guarantees wishes (suc i) =
@@ -51,25 +51,25 @@ grantsOf limit guarantees wishes = listOf (grantAt limit guarantees wishes) (len
 unfoldable pub grantingOf : ℕ → List ℕ → List ℕ → ℕ → ℕ
 grantingOf limit guarantees wishes places = unless (streetOk limit guarantees wishes places) 24 0
 
--- the lent grants then; 24 leaves them unchanged
+-- the lent grants afterwards; 24 leaves them unchanged
 unfoldable pub grantsAfter : ℕ → List ℕ → List ℕ → List ℕ → List ℕ
 grantsAfter limit guarantees wishes grants = unless (streetOk limit guarantees wishes (length grants)) grants (grantsOf limit guarantees wishes)
 
 -- the grants of a street's ramps in a step
 pub record Fair (limit : ℕ) (guarantees wishes grants : List ℕ) : Type 0 where
   pub ramps : length grants ≡ length guarantees
-  -- the limit is never passed
+  -- the sum of the grants never exceeds the limit
   pub limited : sumOf grants ≤ limit
   -- no ramp gets less than the smaller of wish and guarantee
   pub sure : (i : ℕ) → i < length guarantees → min (at wishes i) (at guarantees i) ≤ at grants i
-  -- each up to its wish
+  -- no ramp gets more than its wish
   pub wish : (i : ℕ) → i < length guarantees → at grants i ≤ at wishes i
-  -- in ramp order: after a ramp that got less than its wish, each got exactly the smaller of wish and guarantee
+  -- in ramp order: after a ramp that got less than its wish, each gets exactly the smaller of wish and guarantee
   pub order : (i j : ℕ) → i < j → j < length guarantees → at grants i < at wishes i → at grants j ≡ min (at wishes j) (at guarantees j)
-  -- nothing is wasted: the whole limit is granted, or every wish
+  -- either the whole limit is granted or every wish
   pub whole : sumOf grants ≡ min limit (sumOf wishes)
 
--- both ends, with what each leaves of the lent grants
+-- both cases of the answer, with the lent grants that each leaves
 pub data GrantEnds (limit : ℕ) (guarantees wishes grants : List ℕ) : ℕ → List ℕ → Type 0 where
   refused : (GrantRequest limit guarantees wishes → length grants ≡ length guarantees → ⊥) → GrantEnds limit guarantees wishes grants 24 grants
   granted : GrantRequest limit guarantees wishes → length grants ≡ length guarantees → {filled : List ℕ} → Fair limit guarantees wishes filled

@@ -12,7 +12,7 @@ use Rattle.model.specs.Road.{mostSteps, mostRate, mostStart}
 use Rattle.model.specs.Refusals.{refusalNumber}
 use Rattle.model.specs.Limits.{allWithin}
 
--- the queue after k steps that release what a table says
+-- the queue after k steps with the releases of a table
 unfoldable pub rampQueueAfter : ℕ → List ℕ → List ℕ → ℕ → ℕ
 rampQueueAfter start arrivals table zero = start
 rampQueueAfter start arrivals table (suc k) = rampQueueAfter start arrivals table k + at arrivals k - at table k
@@ -44,7 +44,7 @@ pub record WantedRequest (start ceiling rate : ℕ) (arrivals : List ℕ) (place
   pub limits : Limits start ceiling rate arrivals
   pub same : places ≡ length arrivals
 
--- and as a test; refusal 23: no step, more than 1,440, lists of unequal length, a rate or arrival above 1,000,000, a start or ceiling above 1,000,000,000
+-- refusal 23 applies if these tests fail: 1 to 1,440 steps, lists of equal length, no rate or arrival above 1,000,000, no start or ceiling above 1,000,000,000
 abbrev pub wantedFrameOk : ℕ → ℕ → ℕ → ℕ → ℕ → Bool
 wantedFrameOk start ceiling rate steps places =
     leb 1 steps && (leb steps mostSteps && (eqb places steps && (leb rate mostRate && (leb start mostStart && leb ceiling mostStart))))
@@ -52,7 +52,7 @@ wantedFrameOk start ceiling rate steps places =
 abbrev pub wantedOk : ℕ → ℕ → ℕ → List ℕ → ℕ → Bool
 wantedOk start ceiling rate arrivals places = wantedFrameOk start ceiling rate (length arrivals) places && allWithin arrivals mostRate
 
--- the queue after k steps that each release as much as they may: no table brings it lower
+-- the queue after k steps that each release as much as possible: no table makes it shorter
 unfoldable pub lowestQueue : ℕ → ℕ → List ℕ → ℕ → ℕ
 lowestQueue start rate arrivals zero = start
 lowestQueue start rate arrivals (suc k) = lowestQueue start rate arrivals k + at arrivals k - rate
@@ -61,11 +61,11 @@ lowestQueue start rate arrivals (suc k) = lowestQueue start rate arrivals k + at
 unfoldable pub possibleOf : ℕ → ℕ → ℕ → List ℕ → Bool
 possibleOf start ceiling rate arrivals = allOf (λ k. leb (lowestQueue start rate arrivals (suc k)) ceiling) (length arrivals)
 
--- the start queue and what arrived in k steps
+-- the start queue and the arrivals of k steps
 unfoldable pub inflowOf : ℕ → List ℕ → ℕ → ℕ
 inflowOf start arrivals k = start + sumOf (take k arrivals)
 
--- the least that is released by the end of step k, where n steps follow it: all above the ceiling, and what the next step cannot release alone
+-- the least sum released by the end of step k, with n steps after it: enough for the ceiling, and enough that the next step's least needs at most the rate
 unfoldable pub leastFrom : ℕ → ℕ → ℕ → List ℕ → ℕ → ℕ → ℕ
 leastFrom start ceiling rate arrivals k zero = inflowOf start arrivals (suc k) - ceiling
 leastFrom start ceiling rate arrivals k (suc n) =
@@ -74,12 +74,12 @@ leastFrom start ceiling rate arrivals k (suc n) =
 abbrev pub leastAt : ℕ → ℕ → ℕ → List ℕ → ℕ → ℕ
 leastAt start ceiling rate arrivals k = leastFrom start ceiling rate arrivals k (length arrivals - suc k)
 
--- the release of each step: how much that least grows
+-- the release of each step: the growth of that least sum
 unfoldable pub leastRelease : ℕ → ℕ → ℕ → List ℕ → ℕ → ℕ
 leastRelease start ceiling rate arrivals zero = leastAt start ceiling rate arrivals 0
 leastRelease start ceiling rate arrivals (suc k) = leastAt start ceiling rate arrivals (suc k) - leastAt start ceiling rate arrivals k
 
--- and the table of all of them
+-- the table of these releases
 unfoldable pub leastTable : ℕ → ℕ → ℕ → List ℕ → List ℕ
 leastTable start ceiling rate arrivals = listOf (leastRelease start ceiling rate arrivals) (length arrivals)
 
@@ -98,14 +98,14 @@ wantedAnswer (Refused refusal) = searchAnswer (refusalNumber refusal) false fals
 wantedAnswer None = searchAnswer 0 true false
 wantedAnswer Found = searchAnswer 0 true true
 
--- 23 precedes any search; if no table does it, the result is none
+-- 23 precedes any search; if no table obeys, the answer is none
 unfoldable pub wantedOf : ℕ → ℕ → ℕ → List ℕ → ℕ → WantedAnswer
 wantedOf start ceiling rate arrivals places =
     unless (wantedOk start ceiling rate arrivals places) (searchAnswer 23 false false)
     (unless (possibleOf start ceiling rate arrivals) (searchAnswer 0 true false)
     (searchAnswer 0 true true))
 
--- the lent table then: the table found, and unchanged after none as after a refusal
+-- the lent table afterwards: the table found; unchanged after none and after 23
 unfoldable pub tableAfter : ℕ → ℕ → ℕ → List ℕ → List ℕ → List ℕ
 tableAfter start ceiling rate arrivals table =
     cond (wantedOf start ceiling rate arrivals (length table) .found) (leastTable start ceiling rate arrivals) table
@@ -115,7 +115,7 @@ pub record Least (start ceiling rate : ℕ) (arrivals table : List ℕ) : Type 0
   pub obeys : TableObeys start ceiling rate arrivals table
   pub least : (other : List ℕ) → TableObeys start ceiling rate arrivals other → (k : ℕ) → k ≤ length arrivals → runningSum table k ≤ runningSum other k
 
--- the three ends, with what each leaves of the lent table
+-- the three cases of the answer, with the lent table that each leaves
 pub data WantedEnds (start ceiling rate : ℕ) (arrivals table : List ℕ) : WantedAnswer → List ℕ → Type 0 where
   refused : (WantedRequest start ceiling rate arrivals (length table) → ⊥) → WantedEnds start ceiling rate arrivals table (searchAnswer 23 false false) table
   none : WantedRequest start ceiling rate arrivals (length table) → ((other : List ℕ) → TableObeys start ceiling rate arrivals other → ⊥)

@@ -7,7 +7,7 @@ use Rattle.model.specs.Schedules.{Study, engineAfter, scheduledAt}
 use Rattle.model.specs.Reading.{studyOf}
 use Rattle.model.specs.Running.{stepsMade, runningOf}
 
--- weights times counts, of the first n cells
+-- the sum of weight times count over the first n cells
 abbrev pub weightedSum : (ℕ → ℕ) → (ℕ → ℕ) → ℕ → ℕ
 weightedSum weight count n = sumOf (listOf (λ i. weight i * count i) n)
 
@@ -23,7 +23,7 @@ weightedTotal w u n after k = sumOf (listOf (λ j. weightedPresent w u n (after 
 pub record Falling (w : ℕ → ℕ) (n : ℕ) : Type 0 where
   pub falls : (p : ℕ) → p < n → w (suc p) ≤ w p
 
--- running takes the weights w of places, gate first, and u of ramps too, and gives the weighted sum of present over the steps done, 0 where none was done
+-- a weighted run takes weights w of places, gate first, and u of ramps, and gives the weighted sum of present over the steps done; 0 if none was done
 unfoldable pub weightedTotalOfRun : (ℕ → ℕ) → (ℕ → ℕ) → List ℕ → List ℕ → List ℕ → ℕ
 weightedTotalOfRun w u bytes lanes list =
     weightedTotal w u (studyOf bytes lanes .road .n) (engineAfter (studyOf bytes lanes)) (stepsMade (studyOf bytes lanes) (runningOf bytes lanes list))

@@ -6,11 +6,11 @@ use lib.Dec.{ltb}
 use Rattle.model.specs.declared.State.{State}
 use Rattle.model.specs.Road.{mostLong, totalOf}
 
--- what a total of part-steps is in vehicle-seconds, at so many seconds a step: total × seconds ÷ 1,000 rounded down
+-- a total of part-steps in vehicle-seconds, with so many seconds per step: total × seconds ÷ 1,000 rounded down
 unfoldable pub vehicleSeconds : ℕ → ℕ → ℕ
 vehicleSeconds total seconds = total * seconds / 1000
 
--- of any state: of the total as a number of 64 bits, and the greatest such number where it passes that
+-- the same for any state: total and result are each at most the greatest number of 64 bits
 abbrev pub vehicleSecondsOf : ℕ → State → ℕ
 vehicleSecondsOf seconds state = min (vehicleSeconds (min (totalOf state) mostLong) seconds) mostLong
 
@@ -25,7 +25,7 @@ newline = 10
 abbrev pub digitOf : ℕ → ℕ
 digitOf d = 48 + d
 
--- a number in decimal, its highest digit first: as many digits as it has, at most `most`
+-- a number in decimal, highest digit first: as many digits as it has, at most `most`
 unfoldable pub digitsOf : ℕ → ℕ → List ℕ
 digitsOf zero n = []
 digitsOf (suc most) n = cond (ltb n 10) (digitOf n ∷ []) (digitsOf most (n / 10) ++ (digitOf (n % 10) ∷ []))
@@ -42,6 +42,6 @@ wordOf n after = decimalOf n ++ (after ∷ [])
 abbrev pub namedOf : List ℕ → ℕ → ℕ → List ℕ
 namedOf name n after = name ++ wordOf n after
 
--- how long a word may be
+-- the greatest length of a word
 abbrev pub mostWord : ℕ
 mostWord = 21

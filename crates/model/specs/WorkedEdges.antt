@@ -17,7 +17,7 @@ use Rattle.model.specs.Limits.{placeOk, rowOk, frameOk, inputOk}
 use Rattle.model.specs.Stepping.{Answer, lowestOf, steppingOf}
 use Rattle.model.specs.WorkedPrinted.{past, road, start, row, built, works}
 
--- what a rule gives, and what the document says
+-- what a rule gives, and the number on the page
 pub record Edge : Type 0 where
   pub gives : ℕ
   pub says : ℕ
@@ -29,7 +29,7 @@ unfoldable pub holds : List Edge → Bool
 holds [] = true
 holds (e ∷ es) = eqb (e .gives) (e .says) && holds es
 
--- the state after k steps with all lanes open, each taking the state that the last one left
+-- the state after k steps with all lanes open, each from the state that the last one left
 unfoldable pub after : ℕ → State
 after zero = start
 after (suc k) = steppingOf road (after k) (row 300) built built .state
@@ -48,7 +48,7 @@ cell-line k i outflow held queue =
     ∷ edge (at (after (suc k) .queue) i) queue
     ∷ []
 
--- a step from the start with the ramp's queue, the release and the lanes open at cell 2: its refusal and place
+-- a step from the start with the ramp's queue, the release and the lanes open at cell 2
 unfoldable pub releasedBy : ℕ → ℕ → List ℕ → Answer
 releasedBy queue release usable = steppingOf road (record {
   done = 0;
@@ -77,23 +77,23 @@ rules =
     -- b 750, F 934: outflow 933 lets in 700, 934 lets in 701
     ∷ edge (enteringOf 750 934 933) 700
     ∷ edge (enteringOf 750 934 934) 701
-    -- arrivals 500: release equal to queue plus arrivals passes; one more is 9
+    -- arrivals 500: a release equal to queue plus arrivals passes; one more is refused with 9
     ∷ edge (released 0 500 .number) 0
     ∷ edge (released 0 501 .number) 9
     ∷ edge (released 0 501 .place) 2
     ∷ edge (released 300 800 .number) 0
     ∷ edge (released 300 801 .number) 9
     ∷ edge (released 300 801 .place) 2
-    -- release equal to supply passes; one more is 10
+    -- a release equal to the supply passes; one more is refused with 10
     ∷ edge (released 1500 1000 .number) 0
     ∷ edge (released 1500 1001 .number) 10
     ∷ edge (released 1500 1001 .place) 2
-    -- a lane of three closed at cell 2, C 1000: supply 666
+    -- one of three lanes closed at cell 2, C 1000: supply 666
     ∷ edge (openCapacity 1000 7 6) 666
     ∷ edge (releasedBy 1500 666 works .number) 0
     ∷ edge (releasedBy 1500 667 works .number) 10
     ∷ edge (releasedBy 1500 300 (7 ∷ 0 ∷ past 62) .number) 10
-    -- an open lane that is not built is 18, before 10; entries past cell 2 are not read
+    -- an open lane that is not built is refused with 18, before 10; entries past cell 2 are not read
     ∷ edge (releasedBy 1500 1001 (7 ∷ 8 ∷ past 62) .number) 18
     ∷ edge (releasedBy 1500 1001 (7 ∷ 8 ∷ past 62) .place) 2
     ∷ edge (releasedBy 1500 300 (7 ∷ 7 ∷ 8 ∷ past 61) .number) 0

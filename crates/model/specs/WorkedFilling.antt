@@ -1,4 +1,4 @@
--- docs/MODEL.md, 'Filling': the printed run's record, its ramp's releases filled by ALINEA, and the schedule that sends nothing against it. Assumes nothing.
+-- docs/MODEL.md, 'Filling': the printed run's record, filled by ALINEA at its ramp, and compared with the schedule that sends nothing. Assumes nothing.
 use mathlib.Core.Path.{_≡_, refl}
 use mathlib.Core.List.{List, [], _∷_}
 use lib.Ieee.{round, add, sub, mul, le, ofInt}
@@ -23,7 +23,7 @@ use Rattle.model.specs.WorkedRecord.{sample, header, upstream, downstrea
 use Rattle.model.specs.WorkedSchedule.{still}
 use Rattle.model.specs.WorkedWishes.{number}
 
--- cell 1 has no ramp, and its law is ignored; that of cell 2 is ALINEA with gain 0.1 and a target of 5,000 parts
+-- cell 1 has no ramp, and its law is ignored; the law of cell 2 is ALINEA with gain 0.1 and a target of 5,000 parts
 unfoldable pub laws : List Law
 laws = law.Fixed (number 0 1) ∷ law.Alinea (record { gain = number 1 10; target = number 5000 1 }) ∷ []
 
@@ -43,7 +43,7 @@ unfolding sample header upstream downstream row readingBy oneOf numberOf seconds
     releasedRow releaseOf grantedAt filledRow meteredOf meteredFrom fillingOf filledList frontOf concatOf
 fills = record { number = refl; total = refl; rampTime = refl; outflows = refl }
 
--- the filled record, against the schedule that sends nothing: judging accepts it, with the larger total and the same ramp time
+-- judging accepts the schedule that sends nothing for the filled record, with the larger total and the same ramp time
 pub record Rival : Type 0 where
   pub judged : judgingOf (recordAfter laws sample [] still) [] still .number ≡ 0
   pub total : totalOf (judgingOf (recordAfter laws sample [] still) [] still .state) ≡ 40500

@@ -1,4 +1,4 @@
--- docs/MODEL.md, 'Going on': the printed run's record cut after its first step, and run, judged and filled in two stretches. Assumes nothing.
+-- docs/MODEL.md, 'Going on': the printed run's record cut after its first step; both parts run, judged and filled one after the other. Assumes nothing.
 use mathlib.Core.Path.{_≡_, refl}
 use mathlib.Core.List.{List, [], _∷_, _++_}
 use Prim.Native.Nat.{ℕ}
@@ -29,7 +29,7 @@ use Rattle.model.specs.WorkedRecord.{header, upstream, downstream, row}
 use Rattle.model.specs.WorkedWishes.{number}
 use Rattle.model.specs.WorkedFilling.{laws}
 
--- one row, and two
+-- the record with one row, and with two
 unfoldable pub one : List ℕ
 one = set (set header 3 80) 7 1 ++ (upstream ++ (downstream ++ row))
 
@@ -43,7 +43,7 @@ still = replicate 6 0
 abbrev pub between : State
 between = runningOf one [] still .state
 
--- the two rows run from it: the printed run's last six outflows, its total and its exits. Weights and longest queues are of these two steps alone
+-- the two rows run from it: the printed run's last six outflows, its total and its exits. Weights and longest queues are those of these two steps
 pub record RunsOn : Type 0 where
   pub outflows : listOn two [] between still ≡ 1358 ∷ 933 ∷ 1000 ∷ 1252 ∷ 934 ∷ 1000 ∷ []
   pub done : runningOn two [] between still .state .done ≡ 3
@@ -61,7 +61,7 @@ unfolding one two header upstream downstream row readingBy oneOf numberOf second
     stateFault runningOn listOn weightedTotalOn longestOn
 runs-on = record { outflows = refl; done = refl; total = refl; exits = refl; weighted = refl; longest = refl }
 
--- a state of s steps in which so much has left cell 1
+-- a state after s steps with cumulative outflow F of cell 1
 abbrev left : ℕ → ℕ → State
 left s F = record {
   done = s;
@@ -75,7 +75,7 @@ left s F = record {
   cumulative = F ∷ replicate 63 0;
 }
 
--- 7 before 8, 8 before 11 and 12; two steps after 1,438 pass
+-- 7 comes before 8, and 8 before 11 and 12; two steps after 1,438 pass
 pub refused-on : runningOn two [] (left 1439 1439000001) [] .number
     ∷ runningOn two [] (left 1439 0) [] .number
     ∷ runningOn two [] (left 1438 0) [] .number
@@ -87,7 +87,7 @@ unfolding two header upstream downstream row readingBy oneOf numberOf secondsSiz
     fillOf listOf firstFrom firstOf placeOk rowOk stateOk tableFault openingOf stateFault runningOn judgingOn historyOn
 refused-on = refl
 
--- judging: 934 at place 1 in the first of these rows lets in too much, for what left in step 0 counts; of the run's own rows the states
+-- judging: 934 at place 1 in the first of these rows lets in too much, because F of step 0 counts; then the states of the run's own rows
 pub record JudgesOn : Type 0 where
   pub number : judgingOn two [] between (1358 ∷ 934 ∷ 1000 ∷ 1252 ∷ 934 ∷ 1000 ∷ []) .number ≡ 14
   pub step : judgingOn two [] between (1358 ∷ 933 ∷ 1000 ∷ 1252 ∷ 935 ∷ 1000 ∷ []) .step ≡ 1
@@ -102,7 +102,7 @@ unfolding one two header upstream downstream row readingBy oneOf numberOf second
     tableFault roadAt scheduleAfter engineAfter rowAt endOf openingOf runningOf stateFault judgingOn historyOn heldOn queueOn
 judges-on = record { number = refl; step = refl; held = refl; queue = refl }
 
--- filling in two stretches: the outflows and the total of 'Filling'; of the last step each release and entry
+-- filling in two stretches: the outflows and the total of 'Filling', and each release and entry of the last step
 pub record FillsOn : Type 0 where
   pub total : totalOf (fillingOn laws two [] (progressOn laws one [] (unmetered first) still) still .state) ≡ 33002
   pub outflows : filledListOn laws two [] (progressOn laws one [] (unmetered first) still) still ≡ 1375 ∷ 1047 ∷ 1000 ∷ 1293 ∷ 894 ∷ 1000 ∷ []
@@ -110,7 +110,7 @@ pub record FillsOn : Type 0 where
   pub entries : at (progressOn laws one [] (unmetered first) still .entries) 0 ≡ 1500
   pub longest : longestFillOn laws two [] (progressOn laws one [] (unmetered first) still) still .gate ≡ 2125
   pub bytes : at (recordOn laws one [] (unmetered first) still) 83 ≡ 100
-  -- a last entry above what its cell holds
+  -- a last entry above what its cell holds is refused with 7
   pub refused : fillingOn laws two [] (metered first zeros (2001 ∷ replicate 63 0)) still .number ≡ 7
 
 pub fills-on : FillsOn

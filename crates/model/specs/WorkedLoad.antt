@@ -10,12 +10,12 @@ pub stated-list : loadedList 0 1000 (replicate 10 7) ≡ 236 ∷ 278 ∷ 820 ∷
 unfolding loadedList arrivalsOf numberAfter listOf
 stated-list = refl
 
--- and after these ten the last number is
+-- the last number after these ten
 pub stated-last : loadingOf 0 1000 10 ≡ loaded 0 2498801434
 unfolding loadingOf numberAfter
 stated-last = refl
 
--- an empty list gives the seed; a peak of 1,000,000 passes, one more is 25
+-- an empty list gives the seed; a peak of 1,000,000 passes, one more is refused with 25
 pub stated-empty : loadingOf 42 1000000 0 ≡ loaded 0 42
 unfolding loadingOf numberAfter
 stated-empty = refl

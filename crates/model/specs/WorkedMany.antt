@@ -26,7 +26,7 @@ use Rattle.model.specs.WorkedSchedule.{still}
 use Rattle.model.specs.WorkedWishes.{number}
 use Rattle.model.specs.WorkedFilling.{laws}
 
--- the record's own arrivals; one of the gate above 1,000,000 in step 1; and none but 2,500 at the ramp in step 2
+-- the record's own arrivals; gate arrivals above 1,000,000 in step 1; and only 2,500 at the ramp in step 2
 unfoldable pub tables : List ℕ
 tables =
     1000 ∷ 0 ∷ 500 ∷ 1000 ∷ 0 ∷ 500 ∷ 1000 ∷ 0 ∷ 500
@@ -38,11 +38,11 @@ tables =
 abbrev room : List ℕ
 room = replicate 219 0
 
--- of each entry all that is not a ramp past cell 2's
+-- each entry without the ramps past cell 2
 abbrev shown : List ℕ → ℕ → List ℕ
 shown answers k = take 11 (rowAt answers 73 k)
 
--- running: each study's own answer, the outflows of the last, and its arrivals beside the record's releases
+-- running: each study's own answer, and the last study's outflows and arrivals with the record's releases
 pub record Ran : Type 0 where
   pub answer : manyFault sample tables room ≡ fault 0 0
   pub first : shown (runAnswers sample [] tables still room) 0 ≡ 0 ∷ 0 ∷ 0 ∷ 6532 ∷ 20866 ∷ 5700 ∷ 3701 ∷ 2500 ∷ 1500 ∷ 0 ∷ 2100 ∷ []
@@ -60,7 +60,7 @@ unfolding sample header upstream downstream row tables readingBy oneOf numberOf 
     longestOne longestOf longestRun putArrivals putArrivalRows answerEntry manyFault runAnswers listAfterRuns runLists recordAfterRuns runRecord
 ran = record { answer = refl; first = refl; refused = refl; last = refl; outflows = refl; arrivals = refl }
 
--- filling by the laws of 'Filling': the refused study leaves the releases of the first, and the last its own
+-- filling by the laws of 'Filling': the refused study leaves the releases of the first study, and the last study leaves its own
 pub record Filled : Type 0 where
   pub last : shown (fillAnswers laws sample [] tables still room) 2 ≡ 0 ∷ 0 ∷ 0 ∷ 1625 ∷ 18937 ∷ 5940 ∷ 3736 ∷ 1500 ∷ 1500 ∷ 0 ∷ 3355 ∷ []
   pub kept : recordRow (recordAfterFillings laws sample [] tables still 2) 2 1 ≡ 1000001 ∷ 0 ∷ 0 ∷ 0 ∷ 215 ∷ []
@@ -76,7 +76,7 @@ unfolding sample header upstream downstream row tables readingBy oneOf numberOf 
     frontOf concatOf rowAt longestOne longestOf longestFill putArrivals putArrivalRows answerEntry manyFault fillAnswers recordAfterFillings fillRecord
 filled = record { last = refl; kept = refl; arrivals = refl }
 
--- 27: eight numbers are no table of nine, and 218 have no room for three entries; the lent lists are unchanged
+-- 27: eight numbers are no table of nine, and 218 leave no room for three entries; the lent lists are unchanged
 pub record Lengths : Type 0 where
   pub arrivals : manyFault sample (replicate 8 0) room ≡ fault 27 1
   pub answers : manyFault sample tables (replicate 218 0) ≡ fault 27 2

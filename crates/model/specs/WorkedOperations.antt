@@ -1,5 +1,4 @@
--- docs/MODEL.md, 'Writing' to 'A run printed whole': more of their rules worked out in numbers, by evaluation, so that a wrong definition fails here.
--- Assumes nothing.
+-- docs/MODEL.md, 'Writing' to 'A run printed whole': more of their rules worked out in numbers, so that a wrong definition fails here. Assumes nothing.
 use mathlib.Core.Path.{_≡_, refl}
 use mathlib.Core.Bool.{true, false}
 use mathlib.Core.List.{List, [], _∷_, _++_}
@@ -55,7 +54,7 @@ wide n = study (record {
   capacity = zeros;
 }) emptyState 1 (λ t. []) []
 
--- 6 before 15: a row's number above 1,000,000, and a target without room
+-- 6 before 15: a row's number above 1,000,000, and a target that is too short
 pub row-before-target : writingBy (study (wide 1 .road) emptyState 1 (λ t. 1000001 ∷ []) []) 3 0 .number ≡ 6
 unfolding frameFault oneOf secondsSize placeOk rowOk firstFrom firstOf
 row-before-target = refl
@@ -69,7 +68,7 @@ pub too-wide : joiningBy (wide 64) (wide 1) 0 0 .number ≡ 22
 unfolding firstFrom firstOf secondsSize
 too-wide = refl
 
--- filling: 16 before 11, and a refusal leaves the list unchanged; what entered each cell in a step by a fixed rate of 300
+-- filling: 16 before 11, and a refusal leaves the list unchanged; what enters each cell in a step at a fixed rate of 300
 unfoldable pub endless : List Law
 endless = law.Fixed (number 0 1) ∷ law.Fixed (inf false) ∷ []
 
@@ -99,7 +98,7 @@ pub no-cell-zero : rampOk (1 ∷ []) 1 0 ∷ rampOk (1 ∷ []) 1 1 ∷ [] ≡ fa
 unfolding rampOk
 no-cell-zero = refl
 
--- what is printed: 661 vehicle-seconds, `661`, a refusal alone, and the totals of the last state; the room that the longest text takes
+-- printing: 661 vehicle-seconds, `661`, only the refusal's line, and the totals of the last state; the room that the longest text needs
 pub seconds-printed : vehicleSeconds 33098 20 ≡ 661
 unfolding vehicleSeconds
 seconds-printed = refl

@@ -1,4 +1,4 @@
--- docs/MODEL.md, 'A run printed whole': its road, start, row and lanes, from which other files work out numbers. Assumes nothing.
+-- docs/MODEL.md, 'A run printed whole': its road, start, row and lanes, which other files use. Assumes nothing.
 use mathlib.Core.List.{List, [], _∷_}
 use Prim.Native.Nat.{ℕ}
 use lib.ListN.{replicate}
@@ -39,7 +39,7 @@ start = record {
 unfoldable pub row : ℕ → List ℕ
 row release = 1000 ∷ 0 ∷ 0 ∷ 500 ∷ release ∷ []
 
--- three lanes built in each cell; in all of them open, or one of them closed in cell 2
+-- three lanes built in each cell; all open, or one closed in cell 2
 unfoldable pub built : List ℕ
 built = 7 ∷ 7 ∷ past 62
 

@@ -9,7 +9,7 @@ use Rattle.model.specs.Reading.{readingBy}
 use Rattle.model.specs.Put.{rampOk, puttingOf, releasedRecord}
 use Rattle.model.specs.WorkedRecord.{header, upstream, downstream, row, sample}
 
--- cells 0 and 3 are not on the road, and cell 1 has no ramp; 5 is looked at before 6
+-- cells 0 and 3 are not on the road, and cell 1 has no ramp; 5 comes before 6
 pub no-cell : puttingOf sample 0 0 300 ≡ fault 5 0
 unfolding puttingOf rampOk readingBy sample header upstream downstream row numberOf secondsSize oneOf firstOf firstFrom placeOk rowOk fillOf listOf
 no-cell = refl
@@ -35,7 +35,7 @@ pub above-rate : puttingOf sample 2 2 1000001 ≡ fault 6 2
 unfolding puttingOf rampOk readingBy sample header upstream downstream row numberOf secondsSize oneOf firstOf firstFrom placeOk rowOk fillOf listOf
 above-rate = refl
 
--- the release of cell 2 in step 1 becomes 7, and the row's other numbers stay
+-- the release of cell 2 in step 1 becomes 7, and the row's other numbers do not change
 pub put-there : recordRow (releasedRecord sample 1 2 7) 2 1 ≡ 1000 ∷ 0 ∷ 0 ∷ 500 ∷ 7 ∷ []
 unfolding releasedRecord placed bytesOf
     puttingOf rampOk readingBy sample header upstream downstream row numberOf secondsSize oneOf firstOf firstFrom placeOk rowOk fillOf listOf

@@ -1,4 +1,4 @@
--- docs/MODEL.md, 'A run printed whole': its record, read by the definitions, and faults put into it. Assumes nothing.
+-- docs/MODEL.md, 'A run printed whole': its record, read by the definitions, and the same record with faults. Assumes nothing.
 use mathlib.Core.Path.{_≡_, refl}
 use mathlib.Core.Bool.{true, false}
 use mathlib.Core.List.{List, [], _∷_, _++_, map}
@@ -74,16 +74,16 @@ rows : map (recordRow sample 2) (0 ∷ 1 ∷ 2 ∷ []) ≡ replicate 3 (1000 ∷
 unfolding sample header upstream downstream row numberOf secondsSize listOf
 rows = refl
 
--- n 64 and T 1,440 pass their check; 65, 0 and 1,441 are 3
+-- n 64 and T 1,440 pass; 65, 0 and 1,441 are refused with 3
 counts : cellsAndStepsOk 64 1440 ∷ cellsAndStepsOk 65 3 ∷ cellsAndStepsOk 0 3 ∷ cellsAndStepsOk 2 1441 ∷ cellsAndStepsOk 2 0 ∷ []
     ≡ true ∷ false ∷ false ∷ false ∷ false ∷ []
 counts = refl
 
--- number and place where a byte is put in the place of another
+-- number and place of the refusal if byte i is replaced
 fault : ℕ → ℕ → List ℕ
 fault i byte = readingOf (set sample i byte) .number ∷ readingOf (set sample i byte) .place ∷ []
 
--- the first field one off; version 3; T 0; n 3
+-- the first field is one too large; version 3; T 0; n 3
 faults-header : fault 3 121 ∷ fault 4 3 ∷ fault 7 0 ∷ fault 5 3 ∷ [] ≡ (1 ∷ 0 ∷ []) ∷ (2 ∷ 0 ∷ []) ∷ (3 ∷ 0 ∷ []) ∷ (4 ∷ 0 ∷ []) ∷ []
 unfolding fault sample header upstream downstream row readingBy oneOf numberOf secondsSize fillOf listOf firstFrom firstOf placeOk rowOk
 faults-header = refl

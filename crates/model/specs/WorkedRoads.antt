@@ -1,4 +1,4 @@
--- docs/MODEL.md, 'Weights': what may not be raised, and what raising may meet. Assumes nothing.
+-- docs/MODEL.md, 'Weights': a larger share may make the total larger, and a larger v may cause a refusal. Assumes nothing.
 use mathlib.Core.Path.{_≡_, refl}
 use mathlib.Core.List.{List, [], _∷_, _++_}
 use Prim.Native.Nat.{ℕ}
@@ -15,14 +15,14 @@ use Rattle.model.specs.Reading.{readingBy}
 use Rattle.model.specs.Stepping.{lowestOf, tableFault}
 use Rattle.model.specs.Running.{endOf, openingOf, runningOf}
 
--- numbers of a record, of two bytes and of four: both have this high and low byte
+-- a number of two bytes with this high and low byte, and one of four with this low byte
 unfoldable pub two : ℕ → ℕ → List ℕ
 two high low = high ∷ low ∷ []
 
 unfoldable pub four : ℕ → List ℕ
 four low = 0 ∷ 0 ∷ 0 ∷ low ∷ []
 
--- version 1, n 2, T steps in so many bytes after the first field; gate capacity 0, gate queue 0
+-- version 1, n 2, T steps, `bytes` bytes after the first field; gate capacity 0, gate queue 0
 unfoldable pub header : ℕ → ℕ → List ℕ
 header bytes T = four bytes ++ (1 ∷ 2 ∷ 0 ∷ T ∷ (four 0 ++ four 0))
 
@@ -34,11 +34,11 @@ cell speed share ramp held queue = speed ++ (two 3 232 ++ (share ++ (two 0 ramp 
 unfoldable pub row : ℕ → List ℕ
 row release = four 0 ++ (four 0 ++ (four 0 ++ (four 0 ++ four release)))
 
--- one part in cell 1, whose speed is 1000 and whose share is given: in the one step it leaves by the off-ramp or goes on into cell 2, whose speed is 0
+-- one part in cell 1, with speed 1000 and the share given: in the one step it leaves by the off-ramp or enters cell 2, which has speed 0
 unfoldable pub shared : List ℕ → List ℕ
 shared share = header 80 1 ++ (cell (two 3 232) share 0 1 0 ++ (cell (two 0 0) (two 0 0) 0 0 0 ++ row 0))
 
--- one part in cell 1, whose share is 1000 and whose speed is given, and one at the ramp of cell 2: it is released in step 1
+-- one part in cell 1, with share 1000 and the speed given, and one at the ramp of cell 2, which is released in step 1
 unfoldable pub hastened : List ℕ → List ℕ
 hastened speed = header 100 2 ++ (cell speed (two 3 232) 0 1 0 ++ (cell (two 3 232) (two 0 0) 1 0 1 ++ (row 0 ++ row 1)))
 
@@ -46,12 +46,12 @@ abbrev pub list : List ℕ
 list = replicate 6 0
 
 pub record Raised : Type 0 where
-  -- share 0 and then 1000: neither run is refused, and the total is 0 and then 1
+  -- with share 0 and with share 1000 the run is not refused, and the total is 0 and 1
   pub left : runningOf (shared (two 0 0)) [] list .number ≡ 0
   pub gone-on : runningOf (shared (two 3 232)) [] list .number ≡ 0
   pub small : totalOf (runningOf (shared (two 0 0)) [] list .state) ≡ 0
   pub large : totalOf (runningOf (shared (two 3 232)) [] list .state) ≡ 1
-  -- speed 500, and cell 2 is empty when the release comes; speed 1000, and refusal 10 comes in step 1 at cell 2
+  -- with speed 500 cell 2 is empty when the release comes; with speed 1000 step 1 is refused with 10 at cell 2
   pub slow : runningOf (hastened (two 1 244)) [] list .number ≡ 0
   pub fast : runningOf (hastened (two 3 232)) [] list .number ≡ 10
   pub step : runningOf (hastened (two 3 232)) [] list .step ≡ 1

@@ -1,4 +1,4 @@
--- docs/MODEL.md, 'Stepping' to 'History': more of their rules worked out in numbers, by evaluation, so that a wrong definition fails here. Assumes nothing.
+-- docs/MODEL.md, 'Stepping' to 'History': more of their rules worked out in numbers, so that a wrong definition fails here. Assumes nothing.
 use mathlib.Core.Path.{_≡_, refl}
 use mathlib.Core.List.{[], _∷_}
 use lib.Count.{onesIn, ones}
@@ -25,7 +25,7 @@ use Rattle.model.specs.WorkedRecord.{sample, header, upstream, downstrea
 use Rattle.model.specs.WorkedSchedule.{still}
 use Rattle.model.specs.WorkedRoads.{two, four, cell, hastened, list, header as raisedHeader, row as raisedRow}
 
--- lanes: one of three closed at cell 2 takes the outflow down to 666, and 18 names the lowest cell over all rows
+-- lanes: one of three closed at cell 2 reduces the outflow to 666, and 18 names the lowest cell over all rows
 pub closed-outflow : at (releasedBy 1500 300 works .state .cumulative) 1 ≡ 666
 unfolding releasedBy road row built works openCapacity ones onesIn lanesOk
     thousandthsOf demandOf gateDemandOf supplyOf roomOf onwardOf enteringOf greatestOf outflowOf
@@ -65,7 +65,7 @@ unfolding road start row verdictOf outflowFaultAt lowestOf firstFault firstOf fi
     thousandthsOf demandOf gateDemandOf supplyOf roomOf onwardOf enteringOf capacityAt demandAt mostReleaseAt shareAt cumulativeAt
 verdicts = refl
 
--- judging a schedule, in its own states: nothing is sent in steps 0 and 1, and then more than cell 1 demands
+-- judging a schedule in its own states: nothing is sent in steps 0 and 1, and then more than the demand of cell 1
 pub own-states : judgingOf sample [] (0 ∷ 0 ∷ 0 ∷ 0 ∷ 0 ∷ 0 ∷ 0 ∷ 1200 ∷ 0 ∷ []) .number ≡ 13
 unfolding sample header upstream downstream bytes readingBy oneOf numberOf secondsSize
     thousandthsOf demandOf gateDemandOf supplyOf roomOf onwardOf enteringOf greatestOf outflowOf
@@ -74,7 +74,7 @@ unfolding sample header upstream downstream bytes readingBy oneOf numberOf secon
     tableFault roadAt scheduleAfter engineAfter rowAt endOf openingOf judgingOf
 own-states = refl
 
--- running: 11 where a number is missing, the steps made before a refusal, and the state before it
+-- running: 11 if a number is missing, the steps made before a refusal, and the state before it
 pub short-list : runningOf sample [] (replicate 8 0) .number ≡ 11
 unfolding sample header upstream downstream bytes readingBy oneOf numberOf secondsSize
     fillOf listOf firstFrom firstOf placeOk rowOk tableFault openingOf runningOf

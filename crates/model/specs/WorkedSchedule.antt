@@ -1,4 +1,4 @@
--- docs/MODEL.md, 'A run printed whole': the schedule that sends nothing beside it, and both where works close a lane. Assumes nothing.
+-- docs/MODEL.md, 'A run printed whole': the run and the schedule that sends nothing, with all lanes open and with a lane closed. Assumes nothing.
 use mathlib.Core.Path.{_≡_, refl}
 use mathlib.Core.List.{List, [], _∷_}
 use Prim.Native.Nat.{ℕ}
@@ -32,7 +32,7 @@ pub record Both : Type 0 where
   pub judged : stepsMade (studyOf sample []) (judgingOf sample [] still) ≡ 3
   pub fast : totalOf (runningOf sample [] still .state) ≡ 33098
   pub slow : totalOf (judgingOf sample [] still .state) ≡ 40500
-  -- of each, the ramp time
+  -- the ramp time of each
   pub fastRamp : runningOf sample [] still .state .«ramp_time» ≡ 5700
   pub slowRamp : judgingOf sample [] still .state .«ramp_time» ≡ 5700
   pub exits : exitsOf (studyOf sample [] .road) (judgingOf sample [] still .state) ≡ 0
@@ -49,14 +49,14 @@ both = record { taken = record { reads = refl; opens = refl }; right = refl; run
 abbrev pub works : List ℕ
 works = 1 ∷ 3 ∷ 1 ∷ 3 ∷ 1 ∷ 1 ∷ 1 ∷ 3 ∷ []
 
--- the table has no fault, running writes all three rows under it and judging accepts the schedule
+-- the table has no fault, running writes all three rows under it, and judging accepts the schedule
 pub record BothClosed : Type 0 where
   pub taken : Taken sample works
   pub run : stepsMade (studyOf sample works) (runningOf sample works still) ≡ 3
   pub judged : stepsMade (studyOf sample works) (judgingOf sample works still) ≡ 3
   pub fast : totalOf (runningOf sample works still .state) ≡ 34431
   pub slow : totalOf (judgingOf sample works still .state) ≡ 40500
-  -- fewer leave than without works, where it is 3701
+  -- fewer vehicles leave than without works, when the exits are 3701
   pub exits : exitsOf (studyOf sample works .road) (runningOf sample works still .state) ≡ 3034
 
 pub both-closed : BothClosed

@@ -10,13 +10,13 @@ use Rattle.model.specs.Limits.{placeOk, rowOk}
 use Rattle.model.specs.Reading.{bothVersions, acceptedOf, readingBy, readingWithin, readingOf}
 use Rattle.model.specs.WorkedRecord.{header, upstream, downstream, row, sample, cells, start}
 
--- where version 1 and version 2 have the gate's capacity, its queue and the first cell
+-- where the gate's capacity, its queue and the first cell are in version 1 and in version 2
 layouts : map gateCapacityOffset bothVersions ∷ map gateQueueOffset bothVersions ∷ map headerSize bothVersions ∷ []
     ≡ (8 ∷ 10 ∷ []) ∷ (12 ∷ 14 ∷ []) ∷ (16 ∷ 18 ∷ []) ∷ []
 unfolding secondsSize
 layouts = refl
 
--- the same in version 2: 122 bytes follow the first field; n 2, T 3; 20 seconds a step; gate capacity 2000, queue 3000
+-- the same in version 2: 122 bytes follow the first field; n 2, T 3; the step's seconds; gate capacity 2000, queue 3000
 timedHeader : ℕ → ℕ → List ℕ
 timedHeader high low = 0 ∷ 0 ∷ 0 ∷ 122 ∷ 2 ∷ 2 ∷ 0 ∷ 3 ∷ high ∷ low ∷ 0 ∷ 0 ∷ 7 ∷ 208 ∷ 0 ∷ 0 ∷ 11 ∷ 184 ∷ []
 
@@ -42,7 +42,7 @@ unfolding timed timedHeader timedRoad upstream downstream row cells start
     readingBy oneOf numberOf secondsSize fillOf listOf firstFrom firstOf placeOk rowOk
 timed-accepted = refl
 
--- 1 and 900 seconds pass; 0 and 901 are 19. The bytes of 900 the other way round would be 33,795
+-- 1 and 900 seconds pass; 0 and 901 are refused with 19. The bytes of 900 in the other order would be 33,795
 timed-seconds : map (λ (s : List ℕ). readingOf s .number) (timed 0 1 ∷ timed 3 132 ∷ timed 0 0 ∷ timed 3 133 ∷ []) ≡ 0 ∷ 0 ∷ 19 ∷ 19 ∷ []
 unfolding timed timedHeader upstream downstream row readingBy oneOf numberOf secondsSize fillOf listOf firstFrom firstOf placeOk rowOk
 timed-seconds = refl
@@ -52,7 +52,7 @@ timed-order : map (λ (s : List ℕ). readingOf s .number) (set (timed 0 0) 7 0 
 unfolding timed timedHeader upstream downstream row readingBy oneOf numberOf secondsSize fillOf listOf firstFrom firstOf placeOk rowOk
 timed-order = refl
 
--- of 16, 17 and 18 bytes alone, the first field right: in version 2 the first two are 1; in version 1 and in version 3 no length is
+-- only 16, 17 or 18 bytes, with a correct first field: in version 2, 16 and 17 are refused with 1; in versions 1 and 3 none of them is
 alone : ℕ → ℕ → ℕ
 alone version rest = readingOf (0 ∷ 0 ∷ 0 ∷ (12 + rest) ∷ version ∷ replicate (11 + rest) 0) .number
 
@@ -61,7 +61,7 @@ alone-numbers : map (alone 2) (0 ∷ 1 ∷ 2 ∷ []) ++ (map (alone 1) (0 ∷ 1 
 unfolding alone readingBy oneOf numberOf secondsSize fillOf listOf firstFrom firstOf placeOk rowOk
 alone-numbers = refl
 
--- a caller that takes 2 cells and 124 bytes takes it; with a cell or a byte less it is 26
+-- a caller that takes 2 cells and 124 bytes reads it; with one cell or one byte less it is refused with 26
 within : ℕ → ℕ → ℕ
 within cells most = readingWithin cells most sample .number
 

@@ -1,4 +1,4 @@
--- docs/MODEL.md, 'Weights': that weights fall is needed. Assumes nothing.
+-- docs/MODEL.md, 'Weights': the weights must fall. Assumes nothing.
 use mathlib.Core.Path.{_≡_, refl}
 use mathlib.Core.List.{[], _∷_}
 use Prim.Native.Nat.{ℕ}
@@ -16,14 +16,14 @@ use Rattle.model.specs.Running.{endOf, openingOf, runningOf}
 use Rattle.model.specs.WorkedRecord.{sample, header, upstream, downstream, row}
 use Rattle.model.specs.WorkedSchedule.{still}
 
--- gate 0, cell 1 200, cell 2 255; no weight at the ramps
+-- weight 0 at the gate, 200 at cell 1, 255 at cell 2; 0 at the ramps
 abbrev pub rising : ℕ → ℕ
 rising = at (0 ∷ 200 ∷ 255 ∷ [])
 
 abbrev pub unweighed : ℕ → ℕ
 unweighed i = 0
 
--- the engine has held more upstream, and weight 255 makes less of the smaller count downstream
+-- the engine's total is larger than that of the schedule that sends nothing, which keeps vehicles at the gate, where the weight is 0
 pub record Beaten : Type 0 where
   pub engine : weightedTotalOfRun rising unweighed sample [] still ≡ 4833200
   pub schedule : weightedTotalOfSchedule rising unweighed (studyOf sample []) still 3 ≡ 4719000

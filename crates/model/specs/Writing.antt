@@ -1,4 +1,4 @@
--- docs/MODEL.md, 'Writing': the refusals in order, the target afterwards, and that what was written reads back. Assumes nothing.
+-- docs/MODEL.md, 'Writing': the refusals in order, the target afterwards, and that a written record reads back. Assumes nothing.
 use mathlib.Core.Path.{_≡_}
 use mathlib.Core.Bool.{Bool, cond}
 use mathlib.Core.List.{List, _++_}
@@ -35,12 +35,12 @@ unwritten number place = record { number = number; place = place; count = 0 }
 abbrev pub written : ℕ → WriteAnswer
 written count = record { number = 0; place = 0; count = count }
 
--- 6: the row of step t is within the limits
+-- 6 applies if this fails: the row of step t is within the limits
 abbrev pub givenOk : Study → ℕ → Bool
 givenOk a t = rowOk (a .road .ramp) (a .road .n) (a .rows t)
 
--- the frame's faults, of numbers that belong to no place: 2, a version that no record has; 3; 19; 1, more than 65,536 bytes;
--- 4, row numbers not T × (1 + 2n)
+-- the faults of numbers that belong to no place: 2, a version that no record has; 3; 19; 1, more than 65,536 bytes;
+-- 4, the count of row numbers isn't T × (1 + 2n)
 unfoldable pub frameFault : ℕ → ℕ → ℕ → ℕ → ℕ → ℕ
 frameFault version seconds n T numbers =
     unless (oneOf bothVersions version) 2
@@ -52,7 +52,7 @@ frameFault version seconds n T numbers =
 abbrev pub frameOf : Study → ℕ → ℕ
 frameOf a numbers = frameFault (a .road .version) (a .road .seconds) (a .road .n) (a .steps) numbers
 
--- the frame's; 5 with its place and 6 with its step, as in reading; 15, target too short
+-- these faults; 5 with its place and 6 with its step, as in reading; 15, target too short
 abbrev pub writingBy : Study → ℕ → ℕ → WriteAnswer
 writingBy a numbers room =
     unless (eqb (frameOf a numbers) 0) (unwritten (frameOf a numbers) 0)
@@ -61,11 +61,11 @@ writingBy a numbers room =
     (unless (leb (recordSize a) room) (unwritten 15 0)
     (written (recordSize a)))))
 
--- what writing answers of a road, T, a start and the numbers of all rows
+-- what writing answers for a road, T, a start and the numbers of all rows
 unfoldable pub writingOf : Road → ℕ → Start → List ℕ → List ℕ → WriteAnswer
 writingOf road T start rows target = writingBy (given road T start rows) (length rows) (length target)
 
--- the target then: the record's bytes in front of what was beyond them, or unchanged after a refusal
+-- the target afterwards: the record's bytes in front, and the bytes beyond them unchanged; all unchanged after a refusal
 unfoldable pub targetAfter : Road → ℕ → Start → List ℕ → List ℕ → List ℕ
 targetAfter road T start rows target =
     cond (eqb (writingOf road T start rows target .number) 0)
@@ -76,11 +76,11 @@ targetAfter road T start rows target =
 abbrev pub cutOf : ℕ → List ℕ → List ℕ
 cutOf n l = fillOf (λ i. at l i) n zeros
 
--- the step's seconds, 0 where the version has none
+-- the step's seconds, 0 if the version has none
 abbrev pub keptSeconds : ℕ → ℕ → ℕ
 keptSeconds version seconds = cond (eqb version secondVersion) seconds 0
 
--- a road and a state as a record keeps them: up to cell n, and 0 past it
+-- a road and a state in a record: values up to cell n, and 0 past it
 abbrev pub cutRoad : Road → Road
 cutRoad r = record {
   n = r .n;
@@ -108,8 +108,8 @@ cutState n s = record {
   cumulative = cutOf n (s .cumulative);
 }
 
--- the first `count` bytes of a target, as writing leaves it, read back as what was given: version, n, T and the values up to cell n, 0 past it;
--- and each row's numbers are those given
+-- the first `count` bytes of the target that writing leaves read back as what was given: version, n, T and the values up to cell n,
+-- 0 past it; each row's numbers are those given
 pub record ReadsBack (road : Road) (T : ℕ) (start : Start) (rows : List ℕ) (count : ℕ) (after : List ℕ) : Type 0 where
   pub reads : readingOf (take count after) ≡ acceptedOf T (cutRoad road) (cutState (road .n) (startState start))
   pub row : (t : ℕ) → t < T → recordRow (take count after) (road .n) t ≡ rowAt rows (rowNumbers (road .n)) t

@@ -8,7 +8,7 @@ ghost use Rattle.model.specs.Refusals.{refusalNumber};
 #[repr(C)]
 pub struct Road {
     pub n: usize,
-    // Of the record, 1 or 2, and the step's length in seconds, 0 where version 1 names none. No step looks at either.
+    // The record's version, 1 or 2, and the step's length in seconds, which is 0 in version 1. No step depends on either.
     pub version: u8,
     pub seconds: u16,
     pub gate_capacity: u32,
@@ -16,9 +16,9 @@ pub struct Road {
     pub speed: [u16; 64],
     pub wave: [u16; 64],
     pub share: [u16; 64],
-    // The mark for an on-ramp: 1, or 0 without one.
+    // The ramp mark: 1 for a cell with an on-ramp, otherwise 0.
     pub ramp: [u16; 64],
-    // J and C, in parts and in parts a step.
+    // J in parts, and C in parts per step.
     pub jam: [u32; 64],
     pub capacity: [u32; 64],
 }
@@ -28,7 +28,7 @@ pub struct Road {
 pub struct State {
     // Steps done since the start.
     pub done: usize,
-    // The gate queue, all held counts and all ramp queues after each step done, each summed over the steps.
+    // Sums over the steps done: of the gate queue, of all held counts and of all ramp queues after each step.
     pub gate_time: u64,
     pub road_time: u64,
     pub ramp_time: u64,
@@ -48,22 +48,22 @@ impl Road {
 
     pub const BYTES: usize = 65536;
 
-    // Of a rate, in parts a step, and of a jam count.
+    // The limit of a rate, in parts per step, and of a jam count.
     pub const RATE: u32 = 1000000;
 
-    // Of a starting queue.
+    // The limit of a starting queue.
     pub const START: u32 = 1000000000;
 
-    // Of the step's seconds.
+    // The limit of the step's seconds.
     pub const SECONDS: u16 = 900;
 
-    // Of a speed, a wave and a share, and the gate's share: the whole in thousandths.
+    // The limit of a speed, a wave and a share; the gate's share. It is the whole in thousandths.
     pub const WHOLE: u16 = 1000;
 
-    // Of the ramps that share a street.
+    // The limit of the ramps that share a street.
     pub const RAMPS: usize = 8;
 
-    // Of the total, for each step done.
+    // The limit of the total, for each step done.
     pub const PRESENT: u64 = 200000000000;
 
     // The greatest number of 64 bits.
@@ -104,14 +104,14 @@ impl State {
         }
     }
 
-    // Total time spent: the three times together. Where an invented state's pass 64 bits, the greatest number of 64 bits.
+    // Total time spent: the three times together, at most the greatest number of 64 bits. Only an invented state exceeds that.
     pub fn total(self) -> u64
         ensures { λ r. ⌜ r ≡ min (totalOf self) mostLong ⌝ }
     {
         together(together(self.gate_time, self.road_time), self.ramp_time)
     }
 
-    // What a study that begins with this state starts from.
+    // The start of a study that begins with this state.
     pub fn start(self) -> Start
         ensures { λ r. ⌜ r ≡ startIn self ⌝ }
     {
@@ -125,7 +125,7 @@ impl State {
     }
 }
 
-// Two numbers together, or the greatest of 64 bits where they pass it.
+// The sum of two numbers, at most the greatest number of 64 bits.
 fn together(a: u64, b: u64) -> u64
     ensures { λ r. ⌜ r ≡ min (a + b) mostLong ⌝ }
 {
@@ -135,7 +135,7 @@ fn together(a: u64, b: u64) -> u64
     a + b
 }
 
-// What a study starts from: the gate's queue, held counts and the on-ramps' queues.
+// The start of a study: the gate's queue, held counts and the on-ramps' queues.
 #[repr(C)]
 pub struct Start {
     pub gate_queue: u32,
@@ -245,7 +245,7 @@ pub struct Stepped {
 // What reading answers.
 pub struct Reading {
     pub refusal: Refusal,
-    // The lowest place out of its limits, the first step whose row is, and otherwise 0.
+    // The lowest place out of its limits (5), the first step whose row is out of them (6), and otherwise 0.
     pub place: usize,
     // T.
     pub steps: usize,
@@ -257,7 +257,7 @@ pub struct Reading {
 // What writing answers.
 pub struct Written {
     pub refusal: Refusal,
-    // The lowest place out of its limits, the first step whose row is, and otherwise 0.
+    // The lowest place out of its limits (5), the first step whose row is out of them (6), and otherwise 0.
     pub place: usize,
     // The bytes written, 0 after a refusal.
     pub count: usize,
@@ -266,23 +266,23 @@ pub struct Written {
 // What loading answers.
 pub struct Loaded {
     pub refusal: Refusal,
-    // The number of the last arrival, the seed where there is none.
+    // The generator's number after the last arrival; the seed if there is none.
     pub last: u32,
 }
 
-// What the search for releases that keep a wanted queue came to.
+// The answer of the search for releases that keep a wanted queue.
 pub enum Wanted {
     Refused(Refusal),
-    // No table of releases keeps it.
+    // No table of releases keeps the wanted queue.
     None,
     Found,
 }
 
-// A refusal, or none, with its place: of a table of lanes, of a row of releases or of outflows, of a release put into a record, and of many
+// A refusal, or none, with its place: for a table of lanes, a row of releases or of outflows, a release put into a record, and for many
 // studies as a whole.
 pub struct Fault {
     pub refusal: Refusal,
-    // Of a release put into a record: of a refusal of reading its place; of 5 the cell given, of 6 the step given.
+    // For a release put into a record: the place of a refusal of reading, the cell given for 5, the step given for 6.
     pub place: usize,
 }
 
@@ -295,7 +295,7 @@ pub struct Ended {
     pub state: State,
 }
 
-// Weights of waiting, 0 to 255: of the gate and each cell, the gate first, and of each on-ramp's queue. None is read past cell n.
+// Weights of waiting, 0 to 255: of the gate and each cell, gate first, and of each on-ramp's queue. Weights past cell n are not read.
 #[repr(C)]
 pub struct Weights {
     pub places: [u8; 65],
@@ -322,7 +322,7 @@ impl Ended {
         }
     }
 
-    // A fault comes with its step, its place and the state before that step.
+    // A refused step, with its place and the state before it.
     pub fn at_step(refusal: Refusal, step: usize, place: usize, road: Road, state: State) -> Self
         ensures { λ e. ⌜ e ≡ endedAt refusal step place road state ⌝ }
     {
@@ -349,9 +349,9 @@ impl Ended {
     }
 }
 
-// What a run with its longest queues answers: running's or filling's answer, and the longest queue after any step done of the gate and of
-// each cell's on-ramp, 0 where no step was done. `waiting` is the gate's without the step's arrivals: the most that were there before a step
-// and did not leave in it.
+// What a run with its longest queues answers: running's or filling's answer, and the longest queue of the gate and of each cell's on-ramp
+// after any step done, 0 if no step was done. `waiting` is the gate's without the step's arrivals: the most vehicles that were there
+// before a step and did not leave in it.
 pub struct Longest {
     pub ended: Ended,
     pub gate: u32,
@@ -365,7 +365,7 @@ pub struct Tallied {
     pub weighted: u64,
 }
 
-// What filling goes on from: a state, and of the step before it each release and what entered each cell from upstream.
+// What filling goes on from: a state, and for the step before it each release and what entered each cell from upstream.
 #[repr(C)]
 pub struct Progress {
     pub state: State,
@@ -373,27 +373,27 @@ pub struct Progress {
     pub entries: [u32; 64],
 }
 
-// What filling that goes on from a progress answers: its answer with its longest queues, and with its state what the next goes on from.
+// What filling that goes on answers: its answer with its longest queues, and the last releases and entries, from which the next filling goes on.
 pub struct FilledOn {
     pub longest: Longest,
     pub releases: [u32; 64],
     pub entries: [u32; 64],
 }
 
-// The ALINEA feedback: a gain, and the count that the cell is to hold.
+// ALINEA: a gain, and the target count of the cell.
 pub struct Alinea {
     pub gain: f64,
     pub target: f64,
 }
 
-// Demand-capacity: up to the critical count what is left of the capacity, above it the least rate.
+// Demand-capacity: up to the critical count the wish is what remains of the capacity, above it the least rate.
 pub struct DemandCapacity {
     pub capacity: f64,
     pub critical: f64,
     pub least: f64,
 }
 
-// What a ramp follows; a fixed law has its rate.
+// The meter law of a ramp; a fixed law has its rate.
 pub enum Law {
     Fixed(f64),
     Alinea(Alinea),

@@ -1,4 +1,4 @@
--- `model::Refusal::number` meets its contract: in each case the number of the case that was met. Assumes nothing.
+-- `model::Refusal::number` meets its contract: each case gives its own number. Assumes nothing.
 use mathlib.Core.Path.{_≡_, sym, ap}
 use Rattle.model.specs.declared.Refusal.{Refusal}
 use Rattle.model.specs.Refusals.{refusalNumber}
@@ -6,7 +6,7 @@ use Rattle.model.proofs.Refusal.number.Statement.{statement}
 use Rattle.model.proofs.Refusal.number.Tie as tie
 use borrow.Author.Needs.{needs}
 
--- the number of the case that a refusal is
+-- the number of the refusal's case
 case : {refusal met : Refusal} → refusal ≡ met → refusalNumber met ≡ refusalNumber refusal
 case e = sym (ap refusalNumber e)
 
