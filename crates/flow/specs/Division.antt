@@ -1,13 +1,13 @@
--- The outflow by one division. Students divide, the course narrows down by halves: both give the same number for every demand,
--- share, F and room, within the limits and beyond them. Assumes nothing.
+-- The outflow by one division. The engine divides, and the course narrows the number down by halves. Both give the same number for
+-- every demand, share, F and room, within the limits and beyond them. Assumes nothing.
 use Prim.Native.Nat.{ℕ, zero, suc, _+_, _-_, _*_, _/_, min, _≤_, _<_}
 use mathlib.Core.Path.{_≡_, refl}
 use native.Mathlib.Omega.{arith}
 use Rattle.model.specs.Flow.{whole, onwardOf, thousandthsOf, enteringOf, outflowOf}
 use Rattle.flow.specs.FlowLaws.{onward-within, within-onward, onward-entering, outflow-unique, outflow-exit}
 
--- the same number by one division from the onward total, as on paper: the smaller of the demand and
--- (1,000 × (onward total + room) + 999) ÷ share rounded down, less F (never below 0); with share 0, the demand
+-- the outflow by one division, as on paper: the smaller of the demand and (1,000 × (onward total + room) + 999) ÷ share rounded down,
+-- less F (never below 0); with share 0, the demand
 unfoldable pub dividedOf : ℕ → ℕ → ℕ → ℕ → ℕ
 dividedOf zero cumulative room demand = demand
 dividedOf (suc b) cumulative room demand =
@@ -20,7 +20,7 @@ on-paper : (dividedOf 500 0 50000 40000 ≡ 40000)
 unfolding dividedOf onwardOf thousandthsOf
 on-paper = (refl, (refl, (refl, refl)))
 
--- the number on paper is the outflow: the greatest that the demand and the room allow
+-- this number is the outflow: the greatest that the demand and the room allow
 pub divided-is-greatest : (share F room demand : ℕ) → dividedOf share F room demand ≡ outflowOf share F room demand
 unfolding dividedOf
 divided-is-greatest zero F room demand = omega (arith, outflow-exit F room demand)
@@ -34,7 +34,7 @@ divided-is-greatest (suc b) F room demand =
     outflow-unique share F room demand r (omega arith) fits
     (λ y above below enters. omega (arith, within-onward share (F + y) most some (omega (arith, onward-entering share F y))))
 
--- so is what a function gives that works the line out, for a share other than 0
+-- the same for a function that computes the formula with a share other than 0
 pub line-is-greatest : (share F room demand most r : ℕ) → 0 < share → most ≡ onwardOf share F + room
     → r ≡ min demand ((whole * most + 999) / share - F) → r ≡ outflowOf share F room demand
 unfolding dividedOf

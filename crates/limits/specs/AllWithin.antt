@@ -1,4 +1,4 @@
--- Whether every number of a list is within a limit: as a test, and as a fact. Assumes nothing.
+-- The test whether every number of a list is within a limit, as a fact. Assumes nothing.
 use mathlib.Core.Path.{_≡_, sym}
 use mathlib.Core.Bool.{true, false}
 use mathlib.Core.List.{List}

@@ -12,13 +12,13 @@ use Rattle.numbers.specs.RowsLaws.{length-list, list-at}
 use Rattle.model.specs.Road.{mostRate}
 use Rattle.model.specs.Load.{numbers, half, nextNumber, arrivalOf, numberAfter, arrivalAt, arrivalsOf, loaded, loadingOf, loadedList}
 
--- one law for every width: the product of two numbers of k bits has at most k + k
+-- one law for every width: the product of two numbers of k bits has at most 2k bits
 pub product-below : (k : ℕ) {a b : ℕ} → a < 2 ^ k → b < 2 ^ k → a * b < 2 ^ (k + k)
 product-below k {a} {b} ha hb =
     subst⁻¹ (λ (n : ℕ). a * b < n) (pow-add 2 k k)
     (lt-of-le-of-lt (mul-le-mul-left a (le-of-lt hb)) (mul-lt-mul-of-pos-right ha (pow-pos k)))
 
--- what an arrival is divided from
+-- the dividend of an arrival
 pub dividend-most : (number peak : ℕ) → number < numbers → peak ≤ mostRate → number / half * (peak + 1) ≤ 65535 * (mostRate + 1)
 dividend-most number peak h l =
     let a : number / half ≤ 65535 = omega arith in
@@ -51,7 +51,7 @@ module _ (seed peak : ℕ) where
   unfolding arrivalsOf
   arrivals-at n k l = list-at (arrivalAt seed peak) n k l
 
-  -- both ends, by the peak
+  -- both cases of the answer, by the peak
   module _ (h : mostRate < peak) where
     pub refused-answer : (n : ℕ) → loadingOf seed peak n ≡ loaded 25 seed
     unfolding loadingOf

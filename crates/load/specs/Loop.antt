@@ -1,4 +1,4 @@
--- What the loop that fills the list knows. Assumes nothing.
+-- The invariant of the loop that fills the list. Assumes nothing.
 use mathlib.Core.Path.{_≡_, refl, ap, _∙_}
 use mathlib.Core.List.{List, _++_, append-nil}
 use Prim.Native.Nat.{ℕ, suc, _+_, _≤_, _<_}
@@ -10,7 +10,7 @@ use Rattle.model.specs.Numbers.{fillOf, listOf}
 use Rattle.numbers.specs.RowsLaws.{fill-more, fill-list, length-fill}
 use Rattle.model.specs.Load.{nextNumber, arrivalOf, numberAfter, arrivalAt, arrivalsOf}
 
--- i arrivals are stored, and `number` made the last of them
+-- i arrivals are stored, and `number` gave the last of them
 pub record StoredArrivals (seed peak : ℕ) (lent : List ℕ) (number i : ℕ) (list : List ℕ) : Type 0 where
   pub within : i ≤ length lent
   pub last : number ≡ numberAfter seed i

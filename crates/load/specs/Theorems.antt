@@ -1,4 +1,4 @@
--- The theorems of loading: no arrival above the peak, the same list whatever was lent, a load that goes on where it stopped, 25 exactly. Assumes nothing.
+-- The theorems of loading: no arrival above the peak; the same list whatever was lent; a load can be continued; 25 exactly. Assumes nothing.
 use mathlib.Core.Path.{_≡_, refl, sym, ap, _∙_}
 use mathlib.Core.Logic.{⊎-elim}
 use mathlib.Core.List.{List, [], _∷_, _++_, append-nil, append-assoc}
@@ -27,7 +27,7 @@ pub same-list : (seed peak : ℕ) (one other : List ℕ) → peak ≤ mostRate �
     → loadedList seed peak one ≡ loadedList seed peak other
 same-list seed peak one other h e = loaded-list seed peak h one ∙ ap (arrivalsOf seed peak) e ∙ sym (loaded-list seed peak h other)
 
--- 3: k + m numbers are k, and then m from the last of them
+-- 3: k + m numbers are k numbers and then m from the last of them
 numbers-on : (seed k m : ℕ) → numberAfter seed (k + m) ≡ numberAfter (numberAfter seed k) m
 unfolding numberAfter
 numbers-on seed k zero = rw add-zero refl
@@ -41,7 +41,7 @@ arrivals-on seed peak k (suc m) =
     let next = listOf (arrivalAt (numberAfter seed k) peak) m in
     rw (add-suc k m, arrivals-on seed peak k m, numbers-on seed k m) (append-assoc first next (arrivalAt (numberAfter seed k) peak m ∷ []))
 
--- so a study can go on where it stopped: its two lists, one after the other, are the list of both
+-- so a load can be continued: its two lists, one after the other, are the list of both
 pub goes-on : (seed peak : ℕ) (first second : List ℕ)
     → loadedList seed peak (first ++ second) ≡ loadedList seed peak first ++ loadedList (loadingOf seed peak (length first) .last) peak second
 goes-on seed peak first second = ⊎-elim
@@ -68,7 +68,7 @@ empty-list seed peak = ⊎-elim
     (λ (h : mostRate < peak). rw (refused-answer seed peak h 0) refl)
     (order peak mostRate)
 
--- 5: 25 comes exactly where the peak is above 1,000,000; it leaves the list unchanged and returns the seed
+-- 5: 25 applies exactly if the peak is above 1,000,000; it leaves the list unchanged and returns the seed
 pub refused-exactly : (seed peak n : ℕ) → loadingOf seed peak n .number ≡ 25 → mostRate < peak
 refused-exactly seed peak n e = ⊎-elim
     (λ (h : peak ≤ mostRate). absurd (let z = ap (λ (a : LoadAnswer). a .number) (loaded-answer seed peak h n) in omega arith))
@@ -85,14 +85,14 @@ arrivals seed peak list h = record {
   within = at-most-peak seed peak list h;
 }
 
--- 6: every answer is one of them
+-- 6: every answer is one of the two cases
 pub ends : (seed peak : ℕ) (list : List ℕ) → LoadEnds seed peak list (loadingOf seed peak (length list)) (loadedList seed peak list)
 ends seed peak list = ⊎-elim
     (λ (h : peak ≤ mostRate). rw (loaded-answer seed peak h (length list)) (LoadEnds.filled h (arrivals seed peak list h)))
     (λ (h : mostRate < peak). rw (refused-answer seed peak h (length list), refused-list seed peak h list) (LoadEnds.refused h))
     (order peak mostRate)
 
--- an answer and a list that are those of the definitions are one of them; so a contract may promise all three
+-- an answer and a list that the definitions give are one of the cases, so a contract may promise all three
 pub ended : (seed peak : ℕ) (list : List ℕ) {a : LoadAnswer} {left : List ℕ} → a ≡ loadingOf seed peak (length list) → left ≡ loadedList seed peak list
     → (a ≡ loadingOf seed peak (length list)) × ((left ≡ loadedList seed peak list) × LoadEnds seed peak list a left)
 ended seed peak list e f = (e, (f, rw (e, f) (ends seed peak list)))

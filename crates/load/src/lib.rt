@@ -1,4 +1,4 @@
-// The stated load for trials: arrivals made from a seed by a generator that wraps at 32 bits.
+// The stated load for trials: arrivals from a seed, by a generator that wraps at 32 bits.
 use model::Loaded;
 use model::Refusal;
 use model::Road;
@@ -8,10 +8,10 @@ ghost use lib.ListN.{length};
 ghost use Rattle.model.specs.Road.{mostRate};
 ghost use Rattle.model.specs.Load.{numbers, nextNumber, arrivalOf, numberAfter, arrivalsOf, loadAnswer, loadingOf, loadedList, LoadEnds};
 
-// How many numbers have 32 bits.
+// How many numbers 32 bits can hold.
 const NUMBERS: u64 = 4294967296;
 
-// How many numbers have 16 bits: divided by it, a number is its upper 16.
+// How many numbers 16 bits can hold: a number divided by it is its upper 16 bits.
 const HALF: u32 = 65536;
 
 const MULTIPLIER: u32 = 1664525;
@@ -25,14 +25,14 @@ fn product(a: u32, b: u32) -> u32
     ((a as u64) * (b as u64) % NUMBERS) as u32
 }
 
-// The number that follows.
+// The generator's next number.
 fn next(number: u32) -> u32
     ensures { λ r. ⌜ r ≡ nextNumber number ⌝ }
 {
     std::num::wrapping_add_u32(product(MULTIPLIER, number), INCREMENT)
 }
 
-// The arrival of a number.
+// The arrival that a number gives.
 fn arrival(number: u32, peak: u32) -> u32
     requires { ⌜ peak ≤ mostRate ⌝ }
     ensures { λ r. ⌜ r ≡ arrivalOf number peak ⌝ }
@@ -40,7 +40,7 @@ fn arrival(number: u32, peak: u32) -> u32
     (((number / HALF) as u64) * ((peak + 1) as u64) / (HALF as u64)) as u32
 }
 
-// Fills the list with arrivals, and gives the last number.
+// Fills the list with arrivals, and returns the last number.
 fn fill(seed: u32, peak: u32, list: &mut [u32]) -> u32
     requires { ⌜ peak ≤ mostRate ⌝ }
     ensures last { λ r. ⌜ r ≡ numberAfter seed (length (now (list .entry))) ⌝ }

@@ -1,4 +1,4 @@
--- Laws in columns: a kind for each cell, and three numbers for each. Assumes nothing.
+-- Laws in columns: a kind and three numbers for each cell. Assumes nothing.
 use mathlib.Core.Path.{_≡_, refl, ap, _∙_}
 use mathlib.Core.Bool.{cond}
 use mathlib.Core.List.{List}
@@ -17,7 +17,7 @@ use Rattle.meter.specs.MeterLaws.{law-at}
 use Rattle.model.specs.declared.Law.{Law}
 use Rattle.model.specs.declared.Law.the-variants as law
 
--- kind 1 is ALINEA (gain, target), 2 demand-capacity (capacity, critical, least), every other a fixed rate
+-- kind 1 is ALINEA (gain, target), kind 2 demand-capacity (capacity, critical, least), and every other kind a fixed rate
 unfoldable pub lawBy : ℕ → Float → Float → Float → Law
 lawBy kind first second third =
     cond (eqb kind 1) (law.Alinea (record { gain = first; target = second }))
@@ -28,7 +28,7 @@ lawBy kind first second third =
 abbrev pub lawIn : List ℕ → List Float → ℕ → Law
 lawIn kinds numbers i = lawBy (at kinds i) (getD numbers (3 * i) nan) (getD numbers (3 * i + 1) nan) (getD numbers (3 * i + 2) nan)
 
--- the columns have the laws of a list
+-- the columns hold the laws of a list
 abbrev pub InColumns : List Law → List ℕ → List Float → Type 0
 InColumns laws kinds numbers = (i : ℕ) → i < mostCells → lawIn kinds numbers i ≡ lawAt laws i
 
@@ -44,7 +44,7 @@ pub split-none : {laws : List Law} {kinds : List ℕ} {numbers : List Float} →
 split-none e f = record { within = omega arith; cells = e; threes = f; stored = λ j l. absurd (omega arith) }
 
 module _ {laws : List Law} {kinds : List ℕ} {numbers : List Float} {i : ℕ} (h : Split laws kinds numbers i) where
-  -- the numbers of one more law leave those before it
+  -- storing the numbers of one more law leaves those before it unchanged
   module _ (first second third : Float) where
     abbrev next : List Float
     next = set (set (set numbers (3 * i) first) (3 * i + 1) second) (3 * i + 2) third

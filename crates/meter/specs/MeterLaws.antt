@@ -1,4 +1,4 @@
--- Laws of wishes, of the releases that they give and of refusal 16: callers use these and leave the definitions shut. Assumes nothing.
+-- Laws of wishes, of their releases and of refusal 16: callers use these and do not unfold the definitions. Assumes nothing.
 use mathlib.Core.Path.{_≡_, refl, sym, ap, subst, _∙_}
 use mathlib.Core.Bool.{Bool, true, false, not, cond, _&&_, _||_, true≢false}
 use mathlib.Core.List.{List, [], _∷_}
@@ -36,13 +36,13 @@ module _ (p : DemandCapacity) (entered held : ℕ) where
 
 -- the release
 
--- of 2.5, 3, −2.5 and an infinite wish
+-- the release of 2.5, of 3, of −2.5 and of an infinite wish
 on-paper : (wholeBelow (fin false 5 (negsuc 0)) 9 ≡ 2)
     × ((wholeBelow (fin false 3 (pos 0)) 9 ≡ 3) × ((wholeBelow (fin true 5 (negsuc 0)) 9 ≡ 0) × (wholeBelow (inf false) 9 ≡ 9)))
 unfolding wholeBelow
 on-paper = (refl, (refl, (refl, refl)))
 
--- it is at most the cap
+-- the release is at most the cap
 pub whole-most : (x : Float) (cap : ℕ) → wholeBelow x cap ≤ cap
 unfolding wholeBelow
 whole-most nan cap = omega arith
@@ -51,7 +51,7 @@ whole-most (inf false) cap = omega arith
 whole-most (fin true m e) cap = omega arith
 whole-most (fin false m e) cap = omega arith
 
--- with a smaller cap it is the smaller of the two
+-- with a smaller cap the release is the smaller of the two
 pub whole-cap : (x : Float) (most cap : ℕ) → cap ≤ most → wholeBelow x cap ≡ min (wholeBelow x most) cap
 unfolding wholeBelow
 whole-cap nan most cap h = omega arith
@@ -60,7 +60,7 @@ whole-cap (inf false) most cap h = omega arith
 whole-cap (fin true m e) most cap h = omega arith
 whole-cap (fin false m e) most cap h = omega arith
 
--- it is 0 for a wish that is not a number or negative, and an infinite wish above takes the cap
+-- it is 0 for a wish that is negative or not a number, and positive infinity gives the cap
 pub whole-nan : (cap : ℕ) → wholeBelow nan cap ≡ 0
 unfolding wholeBelow
 whole-nan cap = refl
@@ -77,7 +77,7 @@ pub whole-infinite : (cap : ℕ) → wholeBelow (inf false) cap ≡ cap
 unfolding wholeBelow
 whole-infinite cap = refl
 
--- a 64-bit float holds each count of 32 bits
+-- a 64-bit float represents each count of 32 bits exactly
 pub count-value : (k : ℕ) → k < 2 ^ 32 → HasValue (count k) false k 1
 unfolding ofInt
 count-value k h = round-whole binary64 false k (omega arith)
@@ -106,7 +106,7 @@ module _ (cap k : ℕ) (some : 0 < k) (within : k ≤ cap) (short : k < 2 ^ 32) 
           let h = values-of-le (count k) (fin false m e) k 1 (m * up e) (down e) positive a (count-value k short) (refl, refl) t in
           omega (arith, le-div-iff-mul-le {k = down e} {x = k} {y = m * up e} (down-pos e) .1 (omega arith))
 
-  -- and one that is at most the release is not above the wish
+  -- a count that is at most the release is not above the wish
   not-above : (x : Float) → k ≤ wholeBelow x cap → T (le (count k) x)
   unfolding wholeBelow
   not-above nan h = absurd (omega arith)
@@ -117,7 +117,7 @@ module _ (cap k : ℕ) (some : 0 < k) (within : k ≤ cap) (short : k < 2 ^ 32) 
       let l : k * down e ≤ m * up e = le-div-iff-mul-le {k = down e} {x = k} {y = m * up e} (down-pos e) .0 (omega arith) in
       le-of-values (count k) (fin false m e) k 1 (m * up e) (down e) (lit< tt) (down-pos e) (count-value k short) (refl, refl) (omega arith)
 
--- two tests that imply each other are one
+-- two tests that imply each other are equal
 same : (a b : Bool) → (T a → T b) → (T b → T a) → a ≡ b
 same true true f g = refl
 same false false f g = refl
@@ -144,7 +144,7 @@ whole-under x cap k some within short h = leb-false k (wholeBelow x cap) (sym (w
 
 -- the wish without its fraction
 
--- below 2 ^ 64 the release is the smaller of the cap and the wish without its fraction
+-- if the cap is below 2 ^ 32, the release is the smaller of the cap and the wish without its fraction
 whole-cut : (x : Float) (cap : ℕ) → cap < 2 ^ 32 → wholeBelow x cap ≡ min (toUnsigned 64 x) cap
 unfolding wholeBelow toUnsigned
 whole-cut nan cap h = omega arith
@@ -153,7 +153,7 @@ whole-cut (inf false) cap h = omega arith
 whole-cut (fin true m e) cap h = omega arith
 whole-cut (fin false m e) cap h = omega arith
 
--- a wish that the cap is not above takes the cap
+-- a wish at or above the cap gives the cap
 pub whole-all : (x : Float) (cap : ℕ) → cap < 2 ^ 32 → le (count cap) x ≡ true → cap ≡ wholeBelow x cap
 whole-all x zero h t = omega (arith, whole-most x 0)
 whole-all x (suc k) h t = omega (arith, whole-most x (suc k), whole-greatest x (suc k) (suc k) (omega arith) (omega arith) h t)
@@ -162,7 +162,7 @@ zero-value : HasValue (ofBits binary64 0) false 0 1
 unfolding ofBits
 zero-value = (refl, refl)
 
--- a wish that 0 is not at most gives 0
+-- a wish that is not at least 0 gives 0
 pub whole-none : (x : Float) (cap : ℕ) → le (ofBits binary64 0) x ≡ false → 0 ≡ wholeBelow x cap
 unfolding wholeBelow
 whole-none nan cap h = refl
@@ -172,7 +172,7 @@ whole-none (fin true m e) cap h = refl
 whole-none (fin false m e) cap h =
     absurd (subst T h (le-of-values (ofBits binary64 0) (fin false m e) 0 1 (m * up e) (down e) (lit< tt) (down-pos e) zero-value (refl, refl) (omega arith)))
 
--- between 0 and the cap it is the wish without its fraction
+-- between 0 and the cap the release is the wish without its fraction
 pub whole-between : (x : Float) (cap : ℕ) → cap < 2 ^ 32 → le (count cap) x ≡ false → le (ofBits binary64 0) x ≡ true → toUnsigned 64 x ≡ wholeBelow x cap
 unfolding ofBits le ofInt
 whole-between x zero h t u = absurd (true≢false (sym u ∙ t))
@@ -194,7 +194,7 @@ above-minus-one (fin true m e) h =
     lt→ltb (m * up e * 1) (1 * down e) (omega (arith, zero-wish, down-pos e, zero-mul (down e)))
 above-minus-one (fin false m e) h = lt→ltb 0 (1 * down e + m * up e * 1) (omega (arith, down-pos e))
 
--- and below 2 ^ 64
+-- and it is below 2 ^ 64
 pub below-cast : (x : Float) (cap : ℕ) → cap < 2 ^ 32 → le (count cap) x ≡ false → le (ofBits binary64 0) x ≡ true → T (lt x (fin false 1 (pos 64)))
 unfolding lt le eq ofBits ofInt wholeBelow
 below-cast nan cap h t u = absurd (true≢false (sym u))
@@ -223,7 +223,7 @@ less-itself a c s h = rw (le-ltb a a (le-refl a), sub-self a) (zero-rounds (s &&
     none true = refl
     none false = refl
 
--- a number less itself is 0 exactly where it is finite
+-- a number less itself is 0 exactly if it is finite
 pub finite-test : (x : Float) → eq (sub binary64 x x) (ofBits binary64 0) ≡ finite x
 unfolding sub eq ofBits
 finite-test nan = refl
@@ -232,13 +232,13 @@ finite-test (inf false) = refl
 finite-test (fin true m e) = less-itself (m * up e * down e) (down e * down e) true (mul-pos (down-pos e) (down-pos e))
 finite-test (fin false m e) = less-itself (m * up e * down e) (down e * down e) false (mul-pos (down-pos e) (down-pos e))
 
--- two tests and what each is
+-- two tests joined by `&&`, each replaced by an equal one
 pub both-are : {s t u v : Bool} → s ≡ u → t ≡ v → s && t ≡ u && v
 both-are p q = rw (p, q)
 
 -- 16
 
--- the cell at i passes without a ramp; with one, where its law has finite numbers alone
+-- the cell at i passes if it has no ramp, or if all numbers of its law are finite
 pub ok-no-ramp : (laws : List Law) (ramp : List ℕ) (i : ℕ) → at ramp i ≡ 0 → lawOk laws ramp i ≡ true
 unfolding lawOk
 ok-no-ramp laws ramp i e = rw (eq-eqb (at ramp i) 0 e)
@@ -247,7 +247,7 @@ pub ok-ramp : (laws : List Law) (ramp : List ℕ) (i : ℕ) → (at ramp i ≡ 0
 unfolding lawOk
 ok-ramp laws ramp i ne = rw (ne-eqb (at ramp i) 0 ne)
 
--- within a list its entry is the same whatever an entry past its end counts as
+-- an entry within a list does not depend on the default
 any-default : (l : List Law) (i : ℕ) (d e : Law) → i < length l → getD l i d ≡ getD l i e
 any-default [] i d e h = absurd (omega arith)
 any-default (x ∷ l) zero d e h = refl
@@ -256,13 +256,13 @@ any-default (x ∷ l) (suc i) d e h = any-default l i d e (le-of-suc-le-suc h)
 pub law-at : (laws : List Law) (i : ℕ) (d : Law) → i < length laws → getD laws i d ≡ lawAt laws i
 law-at laws i d h = any-default laws i d (lawAt [] 0) h
 
--- what the code finds of the cell at i is this test
+-- the code's test of the cell at i is this test
 pub ok-is : (laws : List Law) (ramp : List ℕ) (i : ℕ) (d : Law) {t : Bool} → i < length laws → t ≡ lawFinite (getD laws i d)
     → eqb (at ramp i) 0 || t ≡ lawOk laws ramp i
 unfolding lawOk
 ok-is laws ramp i d h e = rw (e, law-at laws i d h)
 
--- the loop over the cells ends at the first that fails, after the last, or past the marks, where there is no ramp
+-- the loop over the cells ends at the first that fails, after the last, or past the arrays, where there is no ramp
 module _ (laws : List Law) (ramp : List ℕ) {n i : ℕ} (h : Passed (lawOk laws ramp) n i) where
   pub fault-stop : {t : Bool} → i < n → t ≡ lawOk laws ramp i → t ≡ false → i + 1 ≡ lawFaultOf laws ramp n
   unfolding lawFaultOf
@@ -279,7 +279,7 @@ module _ (laws : List Law) (ramp : List ℕ) {n i : ℕ} (h : Passed (lawOk laws
       past : (j : ℕ) → i ≤ j → lawOk laws ramp j ≡ true
       past j m = ok-no-ramp laws ramp j (List·getD-eq-default ramp 0 (omega arith))
 
--- 16's place: 0 where every ramp's law has finite numbers alone
+-- the place of 16 is 0 if every ramp's law has only finite numbers
 pub fault-none : (laws : List Law) (ramp : List ℕ) (n : ℕ) → lawFaultOf laws ramp n ≡ 0
     → (i : ℕ) → i < n → (at ramp i ≡ 0 → ⊥) → lawFinite (lawAt laws i) ≡ true
 unfolding lawFaultOf
@@ -289,7 +289,7 @@ fault-none laws ramp n h i l ne = sym (ok-ramp laws ramp i ne) ∙ go (allOf (la
     go true e z = all-at (lawOk laws ramp) n e i l
     go false e z = absurd (omega arith)
 
--- and else, counted from 1, the lowest cell with a ramp and a law with a number that isn't finite
+-- otherwise it is the lowest cell, counted from 1, with a ramp and a law with a number that isn't finite
 pub record LowestFault (laws : List Law) (ramp : List ℕ) (n i : ℕ) : Type 0 where
   pub cell : i < n
   pub marked : at ramp i ≡ 0 → ⊥
@@ -316,7 +316,7 @@ fault-lowest laws ramp n i h = go (allOf (lawOk laws ramp) n) refl h
           before = λ j l ne. sym (ok-ramp laws ramp j ne) ∙ lowest .before j l;
         }
 
--- cells without a ramp and entries past n are not looked at
+-- laws of cells without a ramp and past cell n are ignored
 pub fault-unread : (laws laws′ : List Law) (ramp : List ℕ) (n : ℕ)
     → ((i : ℕ) → i < n → (at ramp i ≡ 0 → ⊥) → lawAt laws i ≡ lawAt laws′ i) → lawFaultOf laws ramp n ≡ lawFaultOf laws′ ramp n
 unfolding lawFaultOf

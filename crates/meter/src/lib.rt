@@ -1,4 +1,4 @@
-// Meter laws: what a ramp's law wishes for, and the release that a wish gives.
+// Meter laws: the wish of a law, and the release of a wish.
 use model::Alinea;
 use model::DemandCapacity;
 use model::Law;
@@ -10,14 +10,14 @@ ghost use Rattle.model.specs.Road.{mostCells};
 ghost use Rattle.model.specs.Meter.{alineaOf, demandCapacityOf, wishOf, wholeBelow, lawFinite, lawFaultOf};
 ghost use Rattle.meter.specs.LawColumns.{lawBy, lawIn, InColumns};
 
-// Last release + gain × (target − held).
+// ALINEA's wish: last release + gain × (target − held).
 fn alinea_wish(p: Alinea, last: u32, held: u32) -> f64
     ensures { λ r. ⌜ r ≡ alineaOf p last held ⌝ }
 {
     (last as f64) + p.gain * (p.target - (held as f64))
 }
 
-// The capacity less what entered if held is at most critical, else the least rate.
+// Demand-capacity's wish: capacity less what entered if held is at most critical, else the least rate.
 fn capacity_wish(p: DemandCapacity, entered: u32, held: u32) -> f64
     ensures { λ r. ⌜ r ≡ demandCapacityOf p entered held ⌝ }
 {
@@ -28,7 +28,7 @@ fn capacity_wish(p: DemandCapacity, entered: u32, held: u32) -> f64
     }
 }
 
-// The wish of a law, by the last release, what entered the cell from upstream in the last step, and what the cell holds.
+// The wish of a law, from the last release, what entered the cell from upstream in the last step, and the cell's held count.
 pub fn wish(law: Law, last: u32, entered: u32, held: u32) -> f64
     ensures { λ r. ⌜ r ≡ wishOf law last entered held ⌝ }
 {
@@ -39,7 +39,7 @@ pub fn wish(law: Law, last: u32, entered: u32, held: u32) -> f64
     }
 }
 
-// The release of a wish: the greatest whole number up to the cap that is not above it, the wish without its fraction below the cap.
+// The release of a wish: the greatest whole number not above the wish, at most the cap.
 pub fn release(wish: f64, cap: u32) -> u32
     ensures { λ r. ⌜ r ≡ wholeBelow wish cap ⌝ }
 {
@@ -91,7 +91,7 @@ pub fn law_fault(laws: [Law; 64], ramp: [u16; 64], n: usize) -> usize
     0
 }
 
-// A law's kind and numbers: kind 1 is ALINEA, 2 demand-capacity, every other a fixed rate.
+// A law's kind and numbers: kind 1 is ALINEA, kind 2 demand-capacity, and every other kind a fixed rate.
 struct LawParts {
     kind: u8,
     first: f64,
@@ -124,7 +124,7 @@ fn parts(law: Law) -> LawParts
     }
 }
 
-// The law of a kind and its numbers.
+// The law with a kind and its numbers.
 fn law_of(kind: u8, first: f64, second: f64, third: f64) -> Law
     ensures { λ r. ⌜ r ≡ lawBy kind first second third ⌝ }
 {
@@ -144,7 +144,7 @@ fn law_of(kind: u8, first: f64, second: f64, third: f64) -> Law
     Law::Fixed(first)
 }
 
-// Laws in columns, which can be lent: a kind for each cell, and three numbers for each.
+// Laws in columns, which can be lent: a kind and three numbers for each cell.
 pub struct LawColumns {
     pub kinds: [u8; 64],
     pub numbers: [f64; 192],
@@ -172,7 +172,7 @@ pub fn columns(laws: [Law; 64]) -> LawColumns
     }
 }
 
-// The law of the cell at `i` of columns.
+// The law of the cell at `i` in columns.
 pub fn law_in(kinds: &[u8; 64], numbers: &[f64; 192], i: usize) -> Law
     requires { ⌜ i < mostCells ⌝ }
     ensures { λ r. ⌜ r ≡ lawIn (now (kinds .entry)) (now (numbers .entry)) i ⌝ }

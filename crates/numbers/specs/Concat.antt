@@ -10,7 +10,7 @@ use lib.ListN.{length, length-append, List·getD-append}
 use lib.Seq.{getD-append-add}
 use Rattle.model.specs.Numbers.{at, concatOf}
 
--- an entry of the first list, and one of the second
+-- an entry of the first list, and an entry of the second
 pub at-first : (a b : List ℕ) (k : ℕ) → k < length a → at (a ++ b) k ≡ at a k
 at-first a b k l = List·getD-append a b 0 k l
 
@@ -25,13 +25,13 @@ pub concat-none : (f : ℕ → List ℕ) → concatOf f 0 ≡ []
 unfolding concatOf
 concat-none f = refl
 
--- lists that are the same up to n
+-- lists that agree up to n have the same concatenation
 pub concat-same : (f g : ℕ → List ℕ) (n : ℕ) → ((i : ℕ) → i < n → f i ≡ g i) → concatOf f n ≡ concatOf g n
 unfolding concatOf
 concat-same f g zero h = refl
 concat-same f g (suc n) h = rw (concat-same f g n (λ i l. h i (omega arith)), h n (le-refl (suc n)))
 
--- each of w numbers
+-- each list has w numbers
 module _ (f : ℕ → List ℕ) (w : ℕ) (same : (i : ℕ) → length (f i) ≡ w) where
   pub length-concat : (n : ℕ) → length (concatOf f n) ≡ n * w
   unfolding concatOf

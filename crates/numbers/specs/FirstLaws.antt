@@ -10,7 +10,7 @@ use borrow.Author.Tests.{eqb-true, eqb-false, eq-eqb, ne-eqb}
 use borrow.Author.Count.{below-more, below-none}
 use Rattle.model.specs.Numbers.{firstFrom, firstOf, allOf, firstFault}
 
--- what holds of firstOf f n, and of no other number
+-- these hold for firstOf f n, and for no other number
 pub record First (f : ℕ → Bool) (n i : ℕ) : Type 0 where
   pub within : i ≤ n
   pub before : (j : ℕ) → j < i → f j ≡ true
@@ -65,7 +65,7 @@ first-is f n i h =
 pub first-none : (f : ℕ → Bool) (n : ℕ) → ((j : ℕ) → j < n → f j ≡ true) → firstOf f n ≡ n
 first-none f n h = first-is f n n (record { within = le-refl n; before = h; stops = λ l. absurd (omega arith) })
 
--- tests that agree below n have the same first
+-- tests that agree below n first fail at the same number
 pub first-same : (f g : ℕ → Bool) (n : ℕ) → ((i : ℕ) → i < n → f i ≡ g i) → firstOf f n ≡ firstOf g n
 first-same f g n h =
     let a = first g n in
@@ -75,7 +75,7 @@ first-same f g n h =
       stops = λ l. h (firstOf g n) l ∙ a .stops l;
     })
 
--- all, taken apart and put together
+-- that a test holds for all numbers below n, as a fact about each number
 pub all-at : (f : ℕ → Bool) (n : ℕ) → allOf f n ≡ true → (i : ℕ) → i < n → f i ≡ true
 all-at f n h i l = first f n .before i (omega (arith, eqb-true (firstOf f n) n h))
 
@@ -102,14 +102,14 @@ module _ {f : ℕ → Bool} {n : ℕ} where
     pub passed-more : {b : Bool} → i < n → b ≡ f i → b ≡ true → Passed f n (i + 1)
     passed-more l e t = record { within = omega arith; before = below-more _ _ (h .before) (sym e ∙ t) }
 
-    -- it ends at the first failure, or with none
+    -- it ends at the first failure, or without one
     pub passed-stop : {b : Bool} → i < n → b ≡ f i → b ≡ false → i ≡ firstOf f n
     passed-stop l e z = sym (first-is f n i (record { within = h .within; before = h .before; stops = λ _. sym e ∙ z }))
 
     pub passed-end : n ≤ i → i ≡ firstOf f n
     passed-end l = sym (first-is f n i (record { within = h .within; before = h .before; stops = λ m. absurd (omega arith) }))
 
-    -- and as one test of all
+    -- the same for the test whether all pass
     pub passed-fails : {b : Bool} → i < n → b ≡ f i → b ≡ false → false ≡ allOf f n
     passed-fails l e z = sym (all-fails f n i l (sym e ∙ z))
 
@@ -150,7 +150,7 @@ module _ {f : ℕ → ℕ} {n : ℕ} where
     tests : Passed (λ j. eqb (f j) 0) n i
     tests = record { within = h .within; before = λ j l. eq-eqb (f j) 0 (h .before j l) }
 
-    -- it ends at the first fault, or with none
+    -- it ends at the first fault, or without one
     pub faultless-stop : {m : ℕ} → i < n → m ≡ f i → (m ≡ 0 → ⊥) → i ≡ firstFault f n
     unfolding firstFault
     faultless-stop l e ne = passed-stop tests l refl (ne-eqb (f i) 0 (λ z. ne (e ∙ z)))
@@ -159,13 +159,13 @@ module _ {f : ℕ → ℕ} {n : ℕ} where
     unfolding firstFault
     faultless-end l = passed-end tests l
 
-    -- and the first fault is not before it
+    -- the first fault is not before i
     pub faultless-far : i ≤ firstFault f n
     faultless-far =
         let m : firstFault f n < i → ⊥ = λ k. fault-there f n (omega (arith, h .within)) (h .before (firstFault f n) k) in
         omega arith
 
--- faults that agree below n have the same first
+-- faults that agree below n occur first at the same number
 pub fault-same : (f g : ℕ → ℕ) (n : ℕ) → ((i : ℕ) → i < n → f i ≡ g i) → firstFault f n ≡ firstFault g n
 unfolding firstFault
 fault-same f g n h = first-same (λ i. eqb (f i) 0) (λ i. eqb (g i) 0) n (λ i l. ap (λ (x : ℕ). eqb x 0) (h i l))

@@ -9,7 +9,7 @@ use lib.ListN.{length, getD, take, drop, set, length-append}
 use lib.Seq.{sets, length-sets, sets-eq, take-suc, take-at, take-all, length-take-le}
 use Rattle.model.specs.Numbers.{placed}
 
--- `after` is `before` with the text placed at `at`, and `end` the index after it
+-- `after` is `before` with the text placed at `at`, and `end` is the index after the text
 abbrev pub Puts : List ℕ → ℕ → List ℕ → List ℕ → ℕ → Type 0
 Puts before at text after end = (end ≡ at + length text) × (after ≡ placed before at text)
 
@@ -17,13 +17,13 @@ pub length-placed : (list : List ℕ) (at : ℕ) (text : List ℕ) → length (p
 unfolding placed
 length-placed list at text = length-sets list at text
 
--- where there is room, the text is there, and all else is as it was
+-- if there is room, the text is there, and everything else is unchanged
 pub placed-there : (list : List ℕ) (at : ℕ) (text : List ℕ) → at + length text ≤ length list
     → placed list at text ≡ take at list ++ text ++ drop (at + length text) list
 unfolding placed
 placed-there list at text h = sets-eq text list at h
 
--- placed at the start, it is the first bytes
+-- a text placed at the start is the list's first bytes
 pub puts-first : (a text b : List ℕ) (end : ℕ) → Puts a 0 text b end → length text ≤ length a → take end b ≡ text
 puts-first a text b end p h =
     let z : 0 + length text ≡ length text = omega arith in
@@ -33,7 +33,7 @@ pub placed-none : (list : List ℕ) (at : ℕ) → placed list at [] ≡ list
 unfolding placed
 placed-none list at = refl
 
--- a text after another
+-- one text placed after another is both placed together
 pub placed-more : (list : List ℕ) (at : ℕ) (a b : List ℕ) → placed (placed list at a) (at + length a) b ≡ placed list at (a ++ b)
 unfolding placed
 placed-more list at [] b = ap (λ (k : ℕ). sets list k b) (add-zero at)
@@ -79,7 +79,7 @@ puts-more a at x b m y c e p q = (
   q .1 ∙ rw (p .1, p .0) (placed-more a at x y),
 )
 
--- what is left of the room
+-- an upper bound for the index after the text; the list's length is unchanged
 pub record Room (a : List ℕ) (at : ℕ) (b : List ℕ) (m k : ℕ) : Type 0 where
   pub end : m ≤ at + k
   pub same : length b ≡ length a
@@ -87,11 +87,11 @@ pub record Room (a : List ℕ) (at : ℕ) (b : List ℕ) (m k : ℕ) : Type 0 wh
 pub room : (a : List ℕ) (at : ℕ) (x b : List ℕ) (m k : ℕ) → Puts a at x b m → length x ≤ k → Room a at b m k
 room a at x b m k p h = record { end = omega (arith, p .0); same = ap length (p .1) ∙ length-placed a at x }
 
--- a text that was put, as a type from which laws infer the text and where it is
+-- that a text was put, as a type from which laws infer the text and its index
 pub data Text (a : List ℕ) (at : ℕ) (x b : List ℕ) (m : ℕ) : Type 0 where
   put : Puts a at x b m → Text a at x b m
 
--- it leaves the room but its length, and what is put after it leaves less
+-- a text uses as much room as its length, and a second text after it adds its own length
 pub text-room : {a : List ℕ} {at : ℕ} {x b : List ℕ} {m : ℕ} → Text a at x b m → Room a at b m (length x)
 text-room {a} {at} {x} {b} {m} (Text.put p) = room a at x b m (length x) p (omega arith)
 

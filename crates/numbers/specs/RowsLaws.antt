@@ -30,7 +30,7 @@ fill-at f (suc n) l i h m = ⊎-elim
     (λ (k : i < n). getD-set-other (fillOf f n l) n i (f n) 0 (λ e. omega arith) ∙ fill-at f n l i k (omega arith))
     (eq-or-lt-of-le (le-of-suc-le-suc h))
 
--- an entry from n on is kept
+-- an entry from n on is unchanged
 pub fill-past : (f : ℕ → ℕ) (n : ℕ) (l : List ℕ) (i : ℕ) → n ≤ i → getD (fillOf f n l) i 0 ≡ getD l i 0
 unfolding fillOf
 fill-past f zero l i h = refl
@@ -59,7 +59,7 @@ fill-list f (suc n) l h =
     ∙ set-at (listOf f n) (getD l n 0) (drop (suc n) l) (f n) n (length-list f n)
     ∙ sym (append-snoc (listOf f n) (f n) (drop (suc n) l))
 
--- the sum of n values grows value by value
+-- the sum of n values, value by value
 pub sum-list-none : (f : ℕ → ℕ) → sumOf (listOf f 0) ≡ 0
 unfolding listOf sumOf
 sum-list-none f = refl
@@ -83,13 +83,13 @@ sum-list-same f g n h =
       sum-list-le g f n (λ i l. le-of-eq (sym (h i l))),
     )
 
--- the first n entries of a row, as values
+-- the sum of a row's first n entries, as a sum of values
 pub sum-list-take : (f : ℕ → ℕ) (l : List ℕ) (n : ℕ) → n ≤ length l → ((i : ℕ) → i < n → f i ≡ getD l i 0) → sumOf (listOf f n) ≡ sumOf (take n l)
 sum-list-take f l zero h e = omega (arith, sum-list-none f, sum-start l)
 sum-list-take f l (suc n) h e =
     omega (arith, sum-list-more f n, sum-more n l h, e n (le-refl (suc n)), sum-list-take f l n (omega arith) (λ i k. e i (omega arith)))
 
--- where all values from m on are 0 the first m of them are the sum, however many are added
+-- if all values from m on are 0, the sum of the first m is the sum of any more
 sum-list-past : (f : ℕ → ℕ) (m k : ℕ) → ((i : ℕ) → m ≤ i → f i ≡ 0) → sumOf (listOf f (m + k)) ≡ sumOf (listOf f m)
 sum-list-past f m zero h = let e : m + 0 ≡ m = omega arith in rw e refl
 sum-list-past f m (suc k) h =
@@ -105,7 +105,7 @@ sum-list-min f m n h = ⊎-elim
     rw e (sym (sum-list-past f m (n - m) h) ∙ ap (λ (k : ℕ). sumOf (listOf f k)) g))
     (order n m)
 
--- entries given alike up to n
+-- functions that agree up to n fill a list alike
 pub fill-same : (f g : ℕ → ℕ) (n : ℕ) (l : List ℕ) → ((i : ℕ) → i < n → f i ≡ g i) → fillOf f n l ≡ fillOf g n l
 unfolding fillOf
 fill-same f g zero l h = refl
@@ -116,7 +116,7 @@ unfolding listOf
 list-same f g zero h = refl
 list-same f g (suc n) h = rw (list-same f g n (λ i k. h i (omega arith)), h n (le-refl (suc n)))
 
--- a list given by its own entries
+-- a list filled with its own entries is unchanged
 pub fill-own : (l : List ℕ) (n : ℕ) → fillOf (λ i. getD l i 0) n l ≡ l
 unfolding fillOf
 fill-own l zero = refl

@@ -18,7 +18,7 @@ sum-append (x ∷ a) b = omega (arith, sum-append a b)
 pub sum-halves : (k : ℕ) (l : List ℕ) → sumOf (take k l) + sumOf (drop k l) ≡ sumOf l
 sum-halves k l = sym (sum-append (take k l) (drop k l)) ∙ ap sumOf (take-append-drop k l)
 
--- the same, with the second half as a part of a slice has it
+-- the same, with the second half as the code's slice gives it
 pub sum-parts : (k : ℕ) (l : List ℕ) → sumOf (take k l) + sumOf (take (length l - k) (drop k l)) ≡ sumOf l
 sum-parts k l = rw (take-all (length l - k) (drop k l) (le-of-eq (length-drop k l))) (sum-halves k l)
 
@@ -33,7 +33,7 @@ unfolding sumOf
 sum-none [] e = refl
 sum-none (x ∷ l) e = omega arith
 
--- a row's sum grows place by place
+-- a row's sum, place by place
 pub sum-start : (l : List ℕ) → sumOf (take 0 l) ≡ 0
 unfolding sumOf
 sum-start l = refl
@@ -42,13 +42,13 @@ pub sum-more : (k : ℕ) (l : List ℕ) → k < length l → sumOf (take (suc k)
 sum-more k l h =
     rw (take-suc l k 0 h, sum-append) (ap (λ (x : ℕ). sumOf (take k l) + x) (sum-one (getD l k 0 ∷ []) refl))
 
--- a row whose first n numbers are at most k
+-- the sum of n numbers that are each at most k
 pub sum-bound : (l : List ℕ) (k n : ℕ) → n ≤ length l → ((i : ℕ) → i < n → getD l i 0 ≤ k) → sumOf (take n l) ≤ n * k
 sum-bound l k zero h f = omega (arith, sum-start l)
 sum-bound l k (suc n) h f =
     omega (arith, sum-more n l h, f n (le-refl (suc n)), suc-mul n k, sum-bound l k n (omega arith) (λ i m. f i (omega arith)))
 
--- the sum of the first entries grows by the one that is stored
+-- the sum of the first entries grows by the entry stored
 pub sum-set : (l : List ℕ) (i x : ℕ) → i < length l → sumOf (take (i + 1) (set l i x)) ≡ sumOf (take i l) + x
 sum-set l i x h =
     ap (λ (k : ℕ). sumOf (take k (set l i x))) (add-one i)
@@ -56,7 +56,7 @@ sum-set l i x h =
     ∙ sum-append (take i l) (x ∷ [])
     ∙ ap (λ (k : ℕ). sumOf (take i l) + k) (sum-one (x ∷ []) refl)
 
--- what holds when a loop that stores a row of 32-bit numbers has added the first i of them
+-- a loop that stores a row of 32-bit numbers has added the first i of them
 pub record Summed (row : List ℕ) (sum i : ℕ) : Type 0 where
   pub is : sum ≡ sumOf (take i row)
   pub fits : sum ≤ (2 ^ 32 - 1) * i

@@ -18,7 +18,7 @@ row-ends k t w h = omega (arith, suc-mul k w, mul-le-mul-right {m = suc k} {n = 
 pub mul-more : (k w : ℕ) → (k + 1) * w ≡ k * w + w
 mul-more k w = rw add-one (suc-mul k w)
 
--- a part of a list as the code takes it
+-- the row, as the code's slice gives it
 pub part-row : (l : List ℕ) (w k from : ℕ) → from ≡ k * w → take (from + w - from) (drop from l) ≡ rowAt l w k
 unfolding rowAt
 part-row l w k from e =
@@ -28,7 +28,7 @@ part-row l w k from e =
 pub part-length : (l : List ℕ) (from w : ℕ) → from + w ≤ length l → length (take (from + w - from) (drop from l)) ≡ w
 part-length l from w h = length-take-le (from + w - from) (drop from l) (omega (arith, length-drop from l)) ∙ omega arith
 
--- a row of a table of t rows is whole
+-- each row of a table of t rows has w numbers
 pub row-length : (l : List ℕ) (w k t : ℕ) → k < t → length l ≡ t * w → length (rowAt l w k) ≡ w
 unfolding rowAt
 row-length l w k t h e = length-take-le w (drop (k * w) l) (omega (arith, length-drop (k * w) l, row-ends k t w h))
@@ -38,7 +38,7 @@ pub row-entry : (l : List ℕ) (w k i : ℕ) → i < w → getD (rowAt l w k) i 
 unfolding rowAt
 row-entry l w k i h = getD-take w (drop (k * w) l) i 0 h ∙ getD-drop (k * w) l i 0
 
--- rows of w numbers
+-- rows of w numbers, one after the other
 module _ (rows : ℕ → List ℕ) (w : ℕ) (same : (k : ℕ) → length (rows k) ≡ w) where
   row-there : (k j : ℕ) (rest : List ℕ) → j < k → rowAt (concatOf rows k ++ rest) w j ≡ rows j
   unfolding concatOf rowAt
@@ -51,11 +51,11 @@ module _ (rows : ℕ → List ℕ) (w : ℕ) (same : (k : ℕ) → length (rows 
       (λ (m : j < k). row-there k j (rows k ++ rest) m)
       (eq-or-lt-of-le (le-of-suc-le-suc l))
 
-  -- row j of them alone
+  -- row j of the rows alone
   pub concat-row : (k j : ℕ) → j < k → rowAt (concatOf rows k) w j ≡ rows j
   concat-row k j l = ap (λ (x : List ℕ). rowAt x w j) (sym (append-nil (concatOf rows k))) ∙ row-there k j [] l
 
-  -- and in front of a list: its length stays, row j is there, what is beyond is kept
+  -- rows in front of a list: the list's length stays, row j is there, and what is beyond is unchanged
   module _ (list : List ℕ) (k : ℕ) where
     pub length-front : k * w ≤ length list → length (frontOf rows w list k) ≡ length list
     unfolding frontOf
@@ -74,7 +74,7 @@ module _ (rows : ℕ → List ℕ) (w : ℕ) (same : (k : ℕ) → length (rows 
     unfolding frontOf
     front-rows = take-at (concatOf rows k) (drop (k * w) list) (k * w) (length-concat rows w same k)
 
-    -- one more row, as a loan of the part of the list leaves it
+    -- one more row, as the code's write to a part of the list leaves it
     pub front-more : (out part : List ℕ) (to : ℕ) → out ≡ frontOf rows w list k → part ≡ rows k → to ≡ k * w
         → take to out ++ (part ++ drop (to + w - to) (drop to out)) ≡ frontOf rows w list (k + 1)
     unfolding frontOf
@@ -87,12 +87,12 @@ module _ (rows : ℕ → List ℕ) (w : ℕ) (same : (k : ℕ) → length (rows 
         let rest : drop w (drop (k * w) list) ≡ drop ((k + 1) * w) list = drop-drop w (k * w) list ∙ ap (λ (x : ℕ). drop x list) (sym (mul-more k w)) in
         rw (front, size, back, rest, ep, concat-more rows k) (sym (append-assoc f (rows k) (drop ((k + 1) * w) list)))
 
--- no row: the list as lent
+-- without a row the list is unchanged
 pub front-none : (rows : ℕ → List ℕ) (w : ℕ) (list : List ℕ) → frontOf rows w list 0 ≡ list
 unfolding frontOf
 front-none rows w list = let e : 0 * w ≡ 0 = omega arith in rw (e, concat-none rows)
 
--- rows that are the same up to k
+-- rows that agree up to k give the same list
 pub front-same : (f g : ℕ → List ℕ) (w : ℕ) (list : List ℕ) (k : ℕ) → ((i : ℕ) → i < k → f i ≡ g i) → frontOf f w list k ≡ frontOf g w list k
 unfolding frontOf
 front-same f g w list k h = rw (concat-same f g k h)

@@ -1,4 +1,4 @@
--- Tests on numbers: one after the other, a row of them taken apart and put together. Assumes nothing.
+-- Tests on numbers: one after the other, and joined by `&&`. Assumes nothing.
 use mathlib.Core.Path.{_≡_, refl}
 use mathlib.Core.Bool.{Bool, true, false, _&&_}
 use mathlib.Core.Logic.{_⊎_, inl, inr}
@@ -8,13 +8,13 @@ use lib.Dec.{leb, eqb}
 use borrow.Author.Tests.{leb-true, leb-false, eqb-true, eqb-false, le-leb, eq-eqb}
 use Rattle.model.specs.Numbers.{unless}
 
--- a chain of refusals is left one test at a time: what holds of the refusal where the test fails, and of the rest where it passes
+-- a fact about a chain of refusals, one test at a time: it holds for the refusal if the test fails, and for the rest if it passes
 pub unless-elim : {A : Type 0} (P : A → Type 0) (test : Bool) {refused rest : A} → (test ≡ false → P refused) → (test ≡ true → P rest)
     → P (unless test refused rest)
 unless-elim P true f g = g refl
 unless-elim P false f g = f refl
 
--- two chains that begin alike are equal where what follows is
+-- two chains with the same first test are equal if the rests are equal
 pub unless-same : {A : Type 0} (test : Bool) (refused : A) {rest other : A} → (test ≡ true → rest ≡ other)
     → unless test refused rest ≡ unless test refused other
 unless-same true refused h = h refl
@@ -43,7 +43,7 @@ and-true false b h = absurd (let z : _≡_ {A = ℕ} 0 1 = cc in omega arith)
 pub both-true : (a b : Bool) → a ≡ true → b ≡ true → a && b ≡ true
 both-true a b h k = rw (h, k)
 
--- a test at the head of a row of tests
+-- the first of several tests joined by `&&`
 pub le-head : (a b : ℕ) (t : Bool) → leb a b && t ≡ true → (a ≤ b) × (t ≡ true)
 le-head a b t h = let p = and-true (leb a b) t h in (leb-true a b (p .0), p .1)
 
@@ -56,7 +56,7 @@ le-then a b t h k = both-true (leb a b) t (le-leb a b h) k
 pub eq-then : (a b : ℕ) (t : Bool) → a ≡ b → t ≡ true → eqb a b && t ≡ true
 eq-then a b t h k = both-true (eqb a b) t (eq-eqb a b h) k
 
--- two numbers, in one order or the other
+-- of two numbers, one is at most the other
 pub order : (a b : ℕ) → (a ≤ b) ⊎ (b < a)
 order a b = go (leb a b) refl
   where
@@ -64,14 +64,14 @@ order a b = go (leb a b) refl
     go true e = inl (leb-true a b e)
     go false e = inr (leb-false a b e)
 
--- a test with a fault
+-- a test whose fault is not 0
 pub one-zero : (a b m : ℕ) → (m ≡ 0 → ⊥) → unless (leb a b) m 0 ≡ 0 → a ≤ b
 one-zero a b m hm = unless-elim (λ (x : ℕ). x ≡ 0 → a ≤ b) (leb a b) (λ _ z. absurd (hm z)) (λ e _. leb-true a b e)
 
 pub one-pass : (a b m : ℕ) → a ≤ b → unless (leb a b) m 0 ≡ 0
 one-pass a b m h = rw (le-leb a b h)
 
--- two tests with a fault each, one before the other
+-- two such tests, one after the other
 pub two-zero : (a b c d m k : ℕ) → (m ≡ 0 → ⊥) → (k ≡ 0 → ⊥) → unless (leb a b) m (unless (leb c d) k 0) ≡ 0 → (a ≤ b) × (c ≤ d)
 two-zero a b c d m k hm hk =
     unless-elim (λ (x : ℕ). x ≡ 0 → (a ≤ b) × (c ≤ d)) (leb a b) (λ _ z. absurd (hm z)) (λ e.

@@ -14,6 +14,6 @@ zero-at (suc n) (suc i) = zero-at n i
 pub length-zeros : length zeros ≡ mostCells
 length-zeros = length-replicate {A = ℕ} mostCells 0
 
--- past its end too
+-- entries past its end are 0 too
 pub zeros-at : (i : ℕ) → at zeros i ≡ 0
 zeros-at i = zero-at mostCells i

@@ -1,4 +1,4 @@
-// Lists of numbers: tests, the first failure, narrowing by halves, sums by halves, rows, tables and texts put into a list.
+// Lists of numbers: tests, the first failure, search by halves, sums by halves, rows, tables, and texts put into a list.
 ghost use mathlib.Core.Path.{_≡_};
 ghost use Prim.Native.Nat.{_*_, _≤_};
 ghost use lib.ListN.{length};
@@ -10,7 +10,7 @@ pub fn wide(x: u32) -> u64
     x as u64
 }
 
-// The sum of a row: of its first half and of its second half.
+// The sum of a row, computed as the sum of its two halves.
 pub fn sum(row: &[u32]) -> u64
     requires { ⌜ length (now row) ≤ 64 ⌝ }
     ensures { λ r. ⌜ (r ≡ sumOf (now (row .entry))) × (r ≤ 4294967295 * length (now (row .entry))) ⌝ }

@@ -1,4 +1,4 @@
--- What the loops over the ramps know. Assumes nothing.
+-- The invariants of the loops over the ramps. Assumes nothing.
 use mathlib.Core.Path.{_≡_, refl, ap, _∙_}
 use mathlib.Core.List.{List, _++_, append-nil}
 use Prim.Native.Nat.{ℕ, suc, _+_, _-_, _≤_, _<_, min}
@@ -10,12 +10,12 @@ use Rattle.numbers.specs.RowsLaws.{fill-more, fill-list, length-fill, sum-list-
 use Rattle.model.specs.Street.{GrantRequest, sureOf, restBefore, moreOf, grantAt, grantsOf}
 use Rattle.street.specs.StreetLaws.{sure-fits}
 
--- what is left after what is sure of i ramps
+-- what remains of the limit after the smaller of wish and guarantee of i ramps
 pub record Left (limit : ℕ) (guarantees wishes : List ℕ) (left i : ℕ) : Type 0 where
   pub within : i ≤ length guarantees
   pub sure : left + sumOf (listOf (sureOf guarantees wishes) i) ≡ limit
 
--- after the grants of i ramps
+-- the grants of i ramps are stored
 pub record Granted (limit : ℕ) (guarantees wishes lent : List ℕ) (left i : ℕ) (grants : List ℕ) : Type 0 where
   pub within : i ≤ length guarantees
   pub same : length lent ≡ length guarantees

@@ -20,7 +20,7 @@ use Rattle.limits.specs.AllWithin.{within-at, within-true}
 use Rattle.model.specs.Street.{GrantRequest, streetFrameOk, streetOk, sureOf, restBefore, grantAt, grantsOf, grantingOf, grantsAfter}
 
 module _ (limit : ℕ) (guarantees wishes : List ℕ) where
-  -- 24's conditions, exactly
+  -- the test of 24 passes exactly if its limits hold
   pub asked-limits : (places : ℕ) → streetOk limit guarantees wishes places ≡ true → GrantRequest limit guarantees wishes × (places ≡ length guarantees)
   unfolding streetOk
   asked-limits places h =
@@ -51,7 +51,7 @@ module _ (limit : ℕ) (guarantees wishes : List ℕ) where
       (both-true (allWithin guarantees mostRate) _ (sym (within-true guarantees mostRate (h .guaranteed)))
       (both-true (allWithin wishes mostRate) _ (sym (within-true wishes mostRate (h .wished))) (le-leb _ _ (h .together))))
 
-  -- the test's parts, in its order
+  -- the parts of the test, in its order
   module _ (places : ℕ) where
     pub asked-frame : streetFrameOk limit (length guarantees) (length wishes) places ≡ false → false ≡ streetOk limit guarantees wishes places
     unfolding streetOk
@@ -77,7 +77,7 @@ module _ (limit : ℕ) (guarantees wishes : List ℕ) where
         unfolding streetOk
         asked-sum w e = rw (f, g, w, e)
 
-  -- the sums up to ramp i: of what is sure, of the grants and of the wishes
+  -- the sums up to ramp i: of the smaller of wish and guarantee, of the grants, and of the wishes
   abbrev pub sureSum : ℕ → ℕ
   sureSum i = sumOf (listOf (sureOf guarantees wishes) i)
 
@@ -92,7 +92,7 @@ module _ (limit : ℕ) (guarantees wishes : List ℕ) where
   pub sure-fits : GrantRequest limit guarantees wishes → (i : ℕ) → i ≤ length guarantees → sureSum i ≤ limit
   sure-fits h i l = omega (arith, sure-least i l, sum-halves i guarantees, h .together)
 
-  -- what was granted and what remains make up the limit, but for what is sure of the ramps that follow
+  -- grants and rest together are the limit, less the smaller of wish and guarantee of each ramp that follows
   balance : GrantRequest limit guarantees wishes → (i : ℕ) → i ≤ length guarantees
       → grantSum i + restBefore limit guarantees wishes i + sureSum (length guarantees) ≡ limit + sureSum i
   unfolding restBefore
@@ -109,7 +109,7 @@ module _ (limit : ℕ) (guarantees wishes : List ℕ) where
   unfolding grantsOf
   grants-at i l = list-at (grantAt limit guarantees wishes) (length guarantees) i l
 
-  -- the limit is never passed
+  -- the sum of the grants never exceeds the limit
   pub grants-limit : GrantRequest limit guarantees wishes → sumOf (grantsOf limit guarantees wishes) ≤ limit
   unfolding grantsOf
   grants-limit h = omega (arith, balance h (length guarantees) (le-refl _))
@@ -118,7 +118,7 @@ module _ (limit : ℕ) (guarantees wishes : List ℕ) where
   pub grants-sure : (i : ℕ) → i < length guarantees → min (at wishes i) (at guarantees i) ≤ at (grantsOf limit guarantees wishes) i
   grants-sure i l = omega (arith, grants-at i l)
 
-  -- and none more than its wish
+  -- no ramp gets more than its wish
   pub grants-wish : (i : ℕ) → i < length guarantees → at (grantsOf limit guarantees wishes) i ≤ at wishes i
   grants-wish i l = omega (arith, grants-at i l)
 
@@ -142,7 +142,7 @@ module _ (limit : ℕ) (guarantees wishes : List ℕ) where
       let z = stays-nothing (suc i) j a (nothing-left i (omega (arith, grants-at i (omega arith)))) in
       omega (arith, grants-at j b)
 
-  -- nothing is wasted: all of the limit is granted, or all wishes
+  -- either the whole limit is granted or every wish
   all-wished : (i : ℕ) → i ≤ length wishes → 0 < restBefore limit guarantees wishes i → grantSum i ≡ sumOf (take i wishes)
   unfolding restBefore
   all-wished zero l h = omega (arith, sum-list-none (grantAt limit guarantees wishes), sum-start wishes)
@@ -168,7 +168,7 @@ module _ (limit : ℕ) (guarantees wishes : List ℕ) where
       go zero z b l e = omega arith
       go (suc r) z b l e = omega (arith, all-wished (length guarantees) (omega (arith, h .same)) (omega arith))
 
-  -- both ends
+  -- both cases of the answer
   module _ (grants : List ℕ) where
     module _ (e : streetOk limit guarantees wishes (length grants) ≡ false) where
       pub refused-answer : grantingOf limit guarantees wishes (length grants) ≡ 24

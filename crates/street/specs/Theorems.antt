@@ -1,4 +1,4 @@
--- The theorems of granting: what the grants are, whatever the other ramps wish, and that these sentences leave no choice; 24 exactly. Assumes nothing.
+-- The theorems of granting: what the grants are, whatever the other ramps wish; that these sentences determine them; 24 exactly. Assumes nothing.
 use mathlib.Core.Path.{_≡_, refl, sym, ap, _∙_}
 use mathlib.Core.Bool.{Bool, true, false}
 use mathlib.Core.Logic.{⊎-elim}
@@ -14,7 +14,7 @@ use Rattle.numbers.specs.SumLaws.{sum-start, sum-more}
 use Rattle.model.specs.Street.{GrantRequest, streetOk, grantsOf, grantingOf, grantsAfter, Fair, GrantEnds}
 use Rattle.street.specs.StreetLaws.{asked-limits, limits-asked, grants-length, grants-limit, grants-sure, grants-wish, grants-order, grants-whole}
 
--- 1: the grants are so
+-- 1: the grants are fair
 pub fair : (limit : ℕ) (guarantees wishes : List ℕ) → GrantRequest limit guarantees wishes → Fair limit guarantees wishes (grantsOf limit guarantees wishes)
 fair limit guarantees wishes h = record {
   ramps = grants-length limit guarantees wishes;
@@ -25,13 +25,13 @@ fair limit guarantees wishes h = record {
   whole = grants-whole limit guarantees wishes h;
 }
 
--- 2: a ramp's guarantee holds whatever the others wish: only its own wish is looked at
+-- 2: a ramp's guarantee holds whatever the others wish: it depends only on the ramp's own wish
 pub whatever-others-wish : (limit : ℕ) (guarantees : List ℕ) (i wish : ℕ) → i < length guarantees
     → (wishes : List ℕ) → at wishes i ≡ wish → min wish (at guarantees i) ≤ at (grantsOf limit guarantees wishes) i
 whatever-others-wish limit guarantees i wish l wishes e = omega (arith, grants-sure limit guarantees wishes i l)
 
--- 3: these sentences leave no choice
--- two lists that agree before i: the one with less at i, and no more after, has the smaller sum
+-- 3: these sentences determine the grants.
+-- If two lists agree before i, the one with less at i and no more after it has the smaller sum
 module _ (x y : List ℕ) (same : length x ≡ length y) (i : ℕ) (before : (k : ℕ) → k < i → at x k ≡ at y k) where
   sums-before : (m : ℕ) → m ≤ i → m ≤ length x → sumOf (take m x) ≡ sumOf (take m y)
   sums-before zero a b = omega (arith, sum-start x, sum-start y)
@@ -75,7 +75,7 @@ module _ {limit : ℕ} {guarantees wishes : List ℕ} where
       let g = fair limit guarantees wishes h in
       ext-getD 0 x _ (f .ramps ∙ sym (g .ramps)) (λ k l. agree f g (length guarantees) (le-refl _) k (omega (arith, f .ramps)))
 
--- 4: every answer is one of them
+-- 4: every answer is one of the two cases
 module _ (limit : ℕ) (guarantees wishes grants : List ℕ) where
   pub ends : GrantEnds limit guarantees wishes grants (grantingOf limit guarantees wishes (length grants)) (grantsAfter limit guarantees wishes grants)
   unfolding grantingOf grantsAfter
@@ -88,14 +88,14 @@ module _ (limit : ℕ) (guarantees wishes grants : List ℕ) where
           GrantEnds.granted (asked .0) (asked .1) (fair limit guarantees wishes (asked .0))
       go false e = GrantEnds.refused (λ asked same. never (limits-asked limit guarantees wishes (length grants) asked same) e)
 
--- an answer and grants that are those of the definitions are one of them; so a contract may promise all three
+-- an answer and grants that the definitions give are one of the cases, so a contract may promise all three
 pub ended : (limit : ℕ) (guarantees wishes grants : List ℕ) {number : ℕ} {left : List ℕ}
     → number ≡ grantingOf limit guarantees wishes (length grants) → left ≡ grantsAfter limit guarantees wishes grants
     → (number ≡ grantingOf limit guarantees wishes (length grants)) × ((left ≡ grantsAfter limit guarantees wishes grants)
     × GrantEnds limit guarantees wishes grants number left)
 ended limit guarantees wishes grants e f = (e, (f, rw (e, f) (ends limit guarantees wishes grants)))
 
--- 5: 24 exactly where a limit is passed; it leaves the lent grants unchanged
+-- 5: 24 applies exactly if a limit is broken; it leaves the lent grants unchanged
 module _ {limit : ℕ} {guarantees wishes grants : List ℕ} where
   refused-not : {number : ℕ} {left : List ℕ} → GrantEnds limit guarantees wishes grants number left → number ≡ 24
       → GrantRequest limit guarantees wishes → length grants ≡ length guarantees → ⊥

@@ -1,4 +1,4 @@
-// Several ramps that feed from one street: what each may release in a step.
+// Several ramps on one street: what each may release in a step.
 use model::Refusal;
 use model::Road;
 ghost use mathlib.Core.Path.{_≡_};
@@ -13,7 +13,7 @@ fn smaller(a: u32, b: u32) -> u32
     if a < b { a } else { b }
 }
 
-// The counts of 24, and its limit.
+// The tests of 24 on the counts and on the limit.
 fn frame_within(limit: u32, ramps: usize, wishes: usize, places: usize) -> bool
     ensures { λ r. ⌜ r ≡ streetFrameOk limit ramps wishes places ⌝ }
 {
@@ -22,7 +22,7 @@ fn frame_within(limit: u32, ramps: usize, wishes: usize, places: usize) -> bool
             & ((wishes == ramps) & ((places == ramps) & (limit <= Road::RATE))))
 }
 
-// Whether all limits of 24 are kept.
+// Whether all limits of 24 hold.
 fn asked_within(limit: u32, guarantees: &[u32], wishes: &[u32], places: usize) -> bool
     ensures { λ r. ⌜ r ≡ streetOk limit (now (guarantees .entry)) (now (wishes .entry)) places ⌝ }
 {
@@ -38,7 +38,7 @@ fn asked_within(limit: u32, guarantees: &[u32], wishes: &[u32], places: usize) -
     numbers::sum(guarantees) <= limit as u64
 }
 
-// What the smaller of wish and guarantee of every ramp leaves of the limit.
+// What remains of the limit after the smaller of wish and guarantee of every ramp.
 fn rest(limit: u32, guarantees: &[u32], wishes: &[u32]) -> u32
     requires { ⌜ GrantRequest limit (now guarantees) (now wishes) ⌝ }
     ensures { λ r. ⌜ r ≡ restBefore limit (now (guarantees .entry)) (now (wishes .entry)) 0 ⌝ }
@@ -52,7 +52,7 @@ fn rest(limit: u32, guarantees: &[u32], wishes: &[u32]) -> u32
     left
 }
 
-// Gives each ramp the smaller of its wish and its guarantee, and what remains in ramp order.
+// Gives each ramp the smaller of wish and guarantee, then what remains in ramp order.
 fn share(limit: u32, guarantees: &[u32], wishes: &[u32], grants: &mut [u32])
     requires { ⌜ (GrantRequest limit (now guarantees) (now wishes)) × (length (now grants) ≡ length (now guarantees)) ⌝ }
     ensures { λ _. ⌜ now (grants .exit) ≡ grantsOf limit (now (guarantees .entry)) (now (wishes .entry)) ⌝ }

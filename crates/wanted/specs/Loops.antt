@@ -1,4 +1,4 @@
--- What the loops of the search know, and how it ends. Assumes nothing.
+-- The invariants of the search's loops, and its ends. Assumes nothing.
 use mathlib.Core.Path.{_≡_, refl, sym, ap, _∙_}
 use mathlib.Core.Bool.{true, false}
 use mathlib.Core.Logic.{_⊎_, ⊎-elim}
@@ -20,18 +20,18 @@ use Rattle.model.specs.Wanted.{Comes, Limits, wantedFrameOk, wantedOk, lowestQu
 use Rattle.model.specs.Wanted.{leastAt, leastRelease, leastTable, WantedAnswer, searchAnswer, wantedOf, tableAfter}
 use Rattle.wanted.specs.WantedLaws.{inflow-none, inflow-more, inflow-most, least-last, least-more, least-grows}
 
--- after k steps of releasing as much as each may
+-- after k steps that each release as much as possible
 pub record Lowered (start ceiling rate : ℕ) (arrivals : List ℕ) (queue k : ℕ) : Type 0 where
   pub lowest : queue ≡ lowestQueue start rate arrivals k
   pub small : queue ≤ mostStart
   pub passed : Passed (λ j. leb (lowestQueue start rate arrivals (suc j)) ceiling) (length arrivals) k
 
--- after k steps of adding up
+-- the start queue and k arrivals are added
 pub record Added (start : ℕ) (arrivals : List ℕ) (total k : ℕ) : Type 0 where
   pub within : k ≤ length arrivals
   pub sum : total ≡ inflowOf start arrivals k
 
--- where the table is filled after step k
+-- the table is filled after step k
 pub record TableFilled (start ceiling rate : ℕ) (arrivals : List ℕ) (total after k : ℕ) (table : List ℕ) : Type 0 where
   pub within : k < length arrivals
   pub inflow : total ≡ inflowOf start arrivals (suc k)
@@ -39,11 +39,11 @@ pub record TableFilled (start ceiling rate : ℕ) (arrivals : List ℕ) (total a
   pub same : length table ≡ length arrivals
   pub later : (j : ℕ) → k < j → j < length arrivals → at table j ≡ leastRelease start ceiling rate arrivals j
 
--- the larger of two numbers that were found
+-- the larger of two numbers that are known by equations
 pub larger-is : {larger a b x y : ℕ} → larger ≡ max a b → a ≡ x → b ≡ y → larger ≡ max x y
 larger-is h e f = h ∙ rw (e, f) refl
 
--- what an end of the search answers, and what it leaves of the lent table
+-- the answer of the search, and the table that it leaves
 pub record Left (start ceiling rate : ℕ) (arrivals table : List ℕ) (a : WantedAnswer) (left : List ℕ) : Type 0 where
   pub says : a ≡ wantedOf start ceiling rate arrivals (length table)
   pub leaves : left ≡ tableAfter start ceiling rate arrivals table
@@ -91,7 +91,7 @@ module _ {start ceiling rate : ℕ} {arrivals : List ℕ} where
   unfolding possibleOf
   lowered-end h l = passed-all (h .passed) l
 
-  -- filling starts at the last step
+  -- filling begins at the last step
   pub filled-none : {total after k : ℕ} {table : List ℕ} → Limits start ceiling rate arrivals → length table ≡ length arrivals
       → total ≡ inflowOf start arrivals (length arrivals) → after ≡ total - ceiling → k ≡ length arrivals - 1
       → TableFilled start ceiling rate arrivals total after k table
@@ -144,7 +144,7 @@ module _ {start ceiling rate : ℕ} {arrivals : List ℕ} where
         later = filled-at;
       }
 
-    -- at step 0 the table is whole
+    -- at step 0 the table is complete
     pub filled-end : k ≡ 0 → set table 0 after ≡ leastTable start ceiling rate arrivals
     unfolding leastTable leastRelease
     filled-end z =
@@ -157,7 +157,7 @@ module _ {start ceiling rate : ℕ} {arrivals : List ℕ} where
         each zero l = getD-set-same table 0 after 0 (omega (arith, h .same)) ∙ h .least ∙ ap (leastAt start ceiling rate arrivals) z
         each (suc j) l = getD-set-other table 0 (suc j) after 0 (λ r. omega arith) ∙ h .later (suc j) (omega arith) l
 
--- how the search ends
+-- the ends of the search
 module _ (start ceiling rate : ℕ) (arrivals table : List ℕ) where
   -- a test of 23 fails
   refused : wantedOk start ceiling rate arrivals (length table) ≡ false → Left start ceiling rate arrivals table (searchAnswer 23 false false) table

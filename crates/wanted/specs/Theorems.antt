@@ -1,5 +1,5 @@
--- The theorems of releases for a wanted queue: the table found is the one whose running sum is least after every step; none and 23 come exactly
--- where they should, and leave the lent table as it was. Assumes nothing.
+-- The theorems of releases for a wanted queue: the table found has the least running sum after every step; none and 23 apply exactly
+-- as on the page, and leave the lent table unchanged. Assumes nothing.
 use mathlib.Core.Path.{_≡_, refl, sym, ap, _∙_}
 use mathlib.Core.Bool.{true, false, cond}
 use mathlib.Core.List.{List}
@@ -33,7 +33,7 @@ module _ (start ceiling rate : ℕ) (arrivals : List ℕ) {one other : List ℕ}
             sum-more k other (omega (arith, g .obeys .steps)),
           )
 
--- 2: every answer is one of them
+-- 2: every answer is one of the three cases
 module _ (start ceiling rate : ℕ) (arrivals table : List ℕ) where
   -- an answer, with the table that it leaves
   abbrev End : WantedAnswer → Type 0
@@ -48,14 +48,14 @@ module _ (start ceiling rate : ℕ) (arrivals table : List ℕ) where
       unless-elim End (possibleOf start ceiling rate arrivals) (λ f. WantedEnds.none asked (λ other o. never (obeyed-possible start ceiling rate arrivals other o) f)) (λ f.
       WantedEnds.found asked (record { obeys = table-obeys start ceiling rate arrivals f; least = table-least start ceiling rate arrivals })))
 
--- an answer and a table that are those of the definitions are one of them; so a contract may promise all three
+-- an answer and a table that the definitions give are one of the cases, so a contract may promise all three
 pub ended : (start ceiling rate : ℕ) (arrivals table : List ℕ) {a : WantedAnswer} {left : List ℕ}
     → a ≡ wantedOf start ceiling rate arrivals (length table) → left ≡ tableAfter start ceiling rate arrivals table
     → (a ≡ wantedOf start ceiling rate arrivals (length table)) × ((left ≡ tableAfter start ceiling rate arrivals table)
     × WantedEnds start ceiling rate arrivals table a left)
 ended start ceiling rate arrivals table e f = (e, (f, rw (e, f) (ends start ceiling rate arrivals table)))
 
--- so each comes exactly where it should
+-- so each case has its exact condition
 module _ {start ceiling rate : ℕ} {arrivals table : List ℕ} where
   refused-not : {a : WantedAnswer} {left : List ℕ} → WantedEnds start ceiling rate arrivals table a left → a .number ≡ 23
       → WantedRequest start ceiling rate arrivals (length table) → ⊥
@@ -99,15 +99,15 @@ module _ (start ceiling rate : ℕ) (arrivals table : List ℕ) where
   abbrev left : List ℕ
   left = tableAfter start ceiling rate arrivals table
 
-  -- 3: the table found obeys, and is the least after every step of all that do
+  -- 3: the table found obeys, and its running sum is the least of all that do after every step
   pub found-least : says .found ≡ true → Least start ceiling rate arrivals left
   found-least = found-is (ends start ceiling rate arrivals table)
 
-  -- and all arguments are within 23's limits
+  -- all arguments are within 23's limits
   pub found-asked : says .found ≡ true → WantedRequest start ceiling rate arrivals (length table)
   found-asked = found-in (ends start ceiling rate arrivals table)
 
-  -- 4: none exactly where, within the limits, no table obeys; the lent table is unchanged
+  -- 4: the answer is none exactly if, within the limits, no table obeys; the lent table is unchanged
   pub none-only : says ≡ searchAnswer 0 true false → (other : List ℕ) → TableObeys start ceiling rate arrivals other → ⊥
   none-only = none-not (ends start ceiling rate arrivals table)
 
@@ -115,7 +115,7 @@ module _ (start ceiling rate : ℕ) (arrivals table : List ℕ) where
       → (says ≡ searchAnswer 0 true false) × (left ≡ table)
   none-if = not-none (ends start ceiling rate arrivals table)
 
-  -- 5: 23 exactly where a limit is passed; the lent table is unchanged
+  -- 5: 23 applies exactly if a limit is broken; the lent table is unchanged
   pub refused-only : says .number ≡ 23 → WantedRequest start ceiling rate arrivals (length table) → ⊥
   refused-only = refused-not (ends start ceiling rate arrivals table)
 

@@ -33,7 +33,7 @@ module _ (start : ℕ) (arrivals : List ℕ) where
   inflow-most h k l = omega (arith, h .starts, sum-bound arrivals mostRate k l (λ i m. h .each i (omega arith)))
 
 module _ (start ceiling rate : ℕ) (arrivals : List ℕ) where
-  -- 23's conditions, exactly
+  -- the test of 23 passes exactly if its limits hold
   pub asked-limits : (places : ℕ) → wantedOk start ceiling rate arrivals places ≡ true
       → WantedRequest start ceiling rate arrivals places
   asked-limits places h =
@@ -60,7 +60,7 @@ module _ (start ceiling rate : ℕ) (arrivals : List ℕ) where
       (le-then _ _ _ (h .some) (le-then _ _ _ (h .comes .most) (eq-then _ _ _ (q .same) (le-then _ _ _ (h .rates) (le-then _ _ _ (h .comes .starts) (le-leb _ _ (h .ceilings)))))))
       (sym (within-true arrivals mostRate (h .comes .each)))
 
-  -- whatever the table: the queue and what was released are what came
+  -- for every table: the queue and the releases together are the start queue and the arrivals
   module _ (table : List ℕ) (same : length table ≡ length arrivals) where
     balance : ((k : ℕ) → k < length arrivals → at table k ≤ rampQueueAfter start arrivals table k + at arrivals k)
         → (k : ℕ) → k ≤ length arrivals → rampQueueAfter start arrivals table k + runningSum table k ≡ inflowOf start arrivals k
@@ -70,7 +70,7 @@ module _ (start ceiling rate : ℕ) (arrivals : List ℕ) where
         omega (arith, there k l, sum-more k table (omega arith), inflow-more start arrivals k l, balance there k (omega arith))
 
   module _ (table : List ℕ) (o : TableObeys start ceiling rate arrivals table) where
-    -- a table that obeys has released the least after step k, where n steps follow it
+    -- a table that obeys has released at least the least sum after step k, with n steps after it
     sum-least : (n k : ℕ) → suc k + n ≡ length arrivals → leastFrom start ceiling rate arrivals k n ≤ runningSum table (suc k)
     unfolding leastFrom
     sum-least zero k e =
@@ -88,7 +88,7 @@ module _ (start ceiling rate : ℕ) (arrivals : List ℕ) where
     pub least-sum : (k : ℕ) → k < length arrivals → leastAt start ceiling rate arrivals k ≤ runningSum table (suc k)
     least-sum k l = sum-least (length arrivals - suc k) k (omega arith)
 
-    -- and its queue is no lower than the lowest
+    -- its queue is at least the lowest
     pub lowest-queue : (k : ℕ) → k ≤ length arrivals → lowestQueue start rate arrivals k ≤ rampQueueAfter start arrivals table k
     unfolding lowestQueue rampQueueAfter
     lowest-queue zero l = le-refl start
@@ -99,7 +99,7 @@ module _ (start ceiling rate : ℕ) (arrivals : List ℕ) where
     obeyed-possible =
         all-true _ (length arrivals) (λ k l. le-leb (lowestQueue start rate arrivals (suc k)) ceiling (omega (arith, lowest-queue (suc k) l, o .under k l)))
 
-  -- the table that releases as much as each step may
+  -- the release of a step that releases as much as possible
   abbrev fastest : ℕ → ℕ
   fastest k = min rate (lowestQueue start rate arrivals k + at arrivals k)
 
@@ -151,7 +151,7 @@ module _ (start ceiling rate : ℕ) (arrivals : List ℕ) where
       let table = listOf f (length arrivals) in
       omega (arith, sums k (omega arith), sum-more (suc k) table (omega (arith, length-list f (length arrivals))), list-at f (length arrivals) (suc k) l, least-grows k l)
 
-  -- the table obeys, where any does
+  -- the least table obeys if any table does
   module _ (p : possibleOf start ceiling rate arrivals ≡ true) where
     least-there : (k : ℕ) → k < length arrivals → leastAt start ceiling rate arrivals k ≤ inflowOf start arrivals (suc k)
     least-there k l =

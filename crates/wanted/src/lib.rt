@@ -7,7 +7,7 @@ ghost use Prim.Native.Nat.{_-_, max};
 ghost use lib.ListN.{length};
 ghost use Rattle.model.specs.Wanted.{Comes, Limits, wantedFrameOk, possibleOf, inflowOf, leastTable, wantedAnswer, wantedOf, tableAfter, WantedEnds};
 
-// What `most` leaves after `used`, 0 where `used` is more.
+// `most` less `used`; 0 if `used` is more.
 fn less(most: u32, used: u32) -> u32
     ensures { λ r. ⌜ r ≡ most - used ⌝ }
 {
@@ -20,7 +20,7 @@ fn larger(a: u32, b: u32) -> u32
     if a < b { b } else { a }
 }
 
-// All of 23 but the arrivals.
+// The tests of 23 except those of the arrivals.
 fn frame_within(start: u32, ceiling: u32, rate: u32, steps: usize, places: usize) -> bool
     ensures { λ r. ⌜ r ≡ wantedFrameOk start ceiling rate steps places ⌝ }
 {
@@ -30,7 +30,7 @@ fn frame_within(start: u32, ceiling: u32, rate: u32, steps: usize, places: usize
                 & ((rate <= Road::RATE) & ((start <= Road::START) & (ceiling <= Road::START)))))
 }
 
-// Whether releasing as much as each step may keeps the queue at or under the ceiling.
+// Whether the queue stays at or under the ceiling if each step releases as much as possible.
 fn possible(start: u32, ceiling: u32, rate: u32, arrivals: &[u32]) -> bool
     requires { ⌜ Limits start ceiling rate (now arrivals) ⌝ }
     ensures { λ r. ⌜ r ≡ possibleOf start ceiling rate (now (arrivals .entry)) ⌝ }
@@ -79,7 +79,7 @@ fn fill(start: u32, ceiling: u32, rate: u32, arrivals: &[u32], table: &mut [u32]
     table[0] = after;
 }
 
-// Gives the releases whose running sum is least after every step, where any table keeps the queue; otherwise the table is unchanged.
+// Finds the releases with the least running sum after every step; if no table keeps the queue, the lent table is unchanged.
 pub fn wanted(start: u32, ceiling: u32, rate: u32, arrivals: &[u32], table: &mut [u32]) -> Wanted
     ensures answer { λ r. ⌜ wantedAnswer r ≡ wantedOf start ceiling rate (now (arrivals .entry)) (length (now (table .entry))) ⌝ }
     ensures table { λ r. ⌜ now (table .exit) ≡ tableAfter start ceiling rate (now (arrivals .entry)) (now (table .entry)) ⌝ }

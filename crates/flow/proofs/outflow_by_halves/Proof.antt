@@ -13,7 +13,7 @@ Inv-loop share cumulative room demand low₀ high₀ low high = Between (outflow
 abbrev μ-loop : tie.MeasureT-loop
 μ-loop share cumulative room demand low₀ high₀ low high = high - low
 
--- the loop's place, from where a turn's test has come out
+-- places of the code: the loop's start, from each result of a turn's test
 abbrev Fits : tie.Then1 Inv-loop μ-loop → tie.At-loop Inv-loop μ-loop
 Fits c = c .before .before .before .before
 

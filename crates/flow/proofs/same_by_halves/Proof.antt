@@ -1,4 +1,4 @@
--- `flow::same_by_halves` meets its contract: what both functions give is one number. Assumes nothing.
+-- `flow::same_by_halves` meets its contract: both functions give the same number. Assumes nothing.
 use borrow.Author.Needs.{needs}
 use borrow.Author.Tests.{eq-eqb}
 use Rattle.flow.proofs.same_by_halves.Statement.{statement}

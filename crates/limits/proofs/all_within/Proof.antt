@@ -1,4 +1,4 @@
--- `limits::all_within` meets its contract. The invariant: the i numbers passed are within the limit. Assumes nothing.
+-- `limits::all_within` meets its contract. The invariant: the first i numbers are within the limit. Assumes nothing.
 use Prim.Native.Nat.{ℕ, _-_, _≤_, _<_}
 use lib.ListN.{length}
 use borrow.Author.Count.{below-more, below-none}

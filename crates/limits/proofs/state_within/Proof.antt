@@ -5,7 +5,7 @@ use Rattle.limits.proofs.state_within.Statement.{statement}
 use Rattle.limits.proofs.state_within.Tie as tie
 use borrow.Author.Needs.{needs}
 
--- places of the code: the arguments from the steps' test, that test from the times', and the times' from the places'
+-- places of the code: the arguments from the test of the steps, that test from the one of the times, and this one from the one of the places
 abbrev A : tie.Else1 → tie.Start
 A c = c .before
 

@@ -6,7 +6,7 @@ use native.Mathlib.Omega.{arith}
 use Rattle.limits.proofs.times_within.Statement.{statement}
 use Rattle.limits.proofs.times_within.Tie as tie
 
--- the arguments, past the gate's test, and past the road's
+-- places of the code: the arguments, after the test of the gate time, and after that of the road time
 abbrev A : tie.Else1 → tie.Start
 A c = c .before
 

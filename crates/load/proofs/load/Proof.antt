@@ -7,7 +7,7 @@ use Rattle.load.proofs.load.Statement.{statement}
 use Rattle.load.proofs.load.Tie as tie
 use borrow.Author.Needs.{needs}
 
--- the arguments, from each arm of the test
+-- places of the code: the arguments, from each arm of the test
 abbrev Refused : tie.Then1 → tie.Start
 Refused c = c .before .before
 

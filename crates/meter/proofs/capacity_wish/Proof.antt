@@ -4,7 +4,7 @@ use Rattle.meter.proofs.capacity_wish.Statement.{statement}
 use Rattle.meter.proofs.capacity_wish.Tie as tie
 use borrow.Author.Needs.{needs}
 
--- the arguments from the test, and where it is passed from the end
+-- places of the code: the arguments from the test, and the test from the end
 abbrev A : tie.After-struct-known → tie.Start
 A c = c .before .before
 

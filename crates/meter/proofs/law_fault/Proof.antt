@@ -1,4 +1,4 @@
--- `meter::law_fault` meets its contract. The invariant: the i cells passed have no ramp, or a law with finite numbers. Assumes nothing.
+-- `meter::law_fault` meets its contract. The invariant: each of the first i cells has no ramp, or a law with finite numbers. Assumes nothing.
 use borrow.Author.Tests.{not-true, not-false}
 use mathlib.Core.Path.{_≡_}
 use mathlib.Core.Bool.{Bool, _||_}
@@ -21,14 +21,14 @@ Inv-loop n laws ramp i₀ i = Passed (lawOk laws ramp) n i
 abbrev μ-loop : tie.MeasureT-loop
 μ-loop n laws ramp i₀ i = n - i
 
--- places of the code: the arguments from the loop's place, and a turn's start from what is found of its law
+-- places of the code: the arguments from the loop's start, and a turn's start from the test of its law
 abbrev A : tie.At-loop Inv-loop μ-loop → tie.Start Inv-loop μ-loop
 A c = c .before
 
 abbrev Turn : tie.After-law-finite Inv-loop μ-loop → tie.In-loop Inv-loop μ-loop
 Turn c = c .before .before .before
 
--- what the code finds of the cell at i is the test of this cell
+-- the code's test of the cell at i is the definition's
 abbrev Passes : tie.After-law-finite Inv-loop μ-loop → Bool
 Passes c = let l = Turn c .before in eqb (at (A l .args .t2) (l .loop .i)) 0 || c .law-finite .result
 

@@ -5,7 +5,7 @@ use Rattle.meter.proofs.law_finite.Statement.{statement}
 use Rattle.meter.proofs.law_finite.Tie as tie
 use borrow.Author.Needs.{needs}
 
--- where the law's case is known, from the end of each case
+-- places of the code: the match of the law, from the end of each case
 abbrev Fixed : tie.After-is-finite → tie.After-law
 Fixed c = c .before .before
 

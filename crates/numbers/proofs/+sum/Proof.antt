@@ -1,4 +1,4 @@
--- `numbers::sum` meets its contract, at every length t of its row: the halves are shorter. Assumes nothing.
+-- `numbers::sum` meets its contract, by induction on the length t of its row: the halves are shorter. Assumes nothing.
 use mathlib.Core.Path.{_≡_, sym, _∙_}
 use mathlib.Core.List.{List}
 use Prim.Native.Nat.{ℕ, _+_, _-_, _/_, _<_}
@@ -20,7 +20,7 @@ use borrow.Fn.PlainCycle.{Measures, is, falls, and}
 abbrev μ-sum : Measures 1 sum-kinds.ps ℕ
 μ-sum κs a = length (a .0 .now)
 
--- the lengths and the sums of a row's two halves, as the slice has them
+-- the lengths and the sums of a row's two halves, as the code's slices give them
 record Halves (l : List ℕ) : Type 0 where
   first : length (take (length l / 2) l) ≡ length l / 2
   second : length (take (length l - length l / 2) (drop (length l / 2) l)) ≡ length l - length l / 2
@@ -34,14 +34,14 @@ halves l = record {
 }
 
 module _ (t : ℕ) where
-  -- what a row of length t requires, and what the functions that it calls claim: `sum` itself of shorter rows
+  -- what a row of length t requires, and what the functions that it calls promise: `sum` itself for shorter rows
   abbrev Pre : In 1 sum-kinds.ps
   Pre = and 1 sum-kinds.ps (is 1 sum-kinds.ps μ-sum t) sum.Pre
 
   abbrev claims : lts.Claims
   claims = (wide.Asked, wide.Learnt, and 1 sum-kinds.ps (falls 1 sum-kinds.ps _<_ μ-sum t) sum.Pre, sum.Post)
 
-  -- the arguments, from a row's one number and where the row is halved; and the first half's sum, from the second's
+  -- places of the code: the arguments from a row's one number and from the halving; and the first half's sum from the second's
   abbrev One : lts.After-wide claims Pre sum.Post → lts.Start claims Pre sum.Post
   One c = c .before .before .before .before .before
 

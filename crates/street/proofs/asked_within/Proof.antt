@@ -12,7 +12,7 @@ use Rattle.street.proofs.asked_within.Statement.{statement}
 use Rattle.street.proofs.asked_within.Tie as tie
 use borrow.Author.Needs.{needs}
 
--- the arguments, from each place, and what the tests have shown there
+-- places of the code: the arguments from each place, and the facts that the tests give there
 abbrev A : tie.Else1 → tie.Start
 A c = c .before .before .before .before
 

@@ -10,7 +10,7 @@ use Rattle.street.proofs.grant.Statement.{statement}
 use Rattle.street.proofs.grant.Tie as tie
 use borrow.Author.Needs.{needs}
 
--- the arguments, and what the test has shown of them
+-- places of the code: the arguments, and the facts that the test gives about them
 abbrev A : tie.After-asked-within → tie.Start
 A c = c .before .before .before .before
 

@@ -1,4 +1,4 @@
--- `wanted::fill` meets its contract. The invariant: the releases after step k are stored, and the least running sum after it. Assumes nothing.
+-- `wanted::fill` meets its contract. The invariant: the releases after step k are stored, and the least running sum after it is known. Assumes nothing.
 use mathlib.Core.Path.{_≡_, refl, sym, _∙_}
 use Prim.Native.Nat.{suc, _-_, max}
 use lib.ListN.{length-set}
@@ -15,7 +15,7 @@ Inv-loop start ceiling rate arrivals table₀ total₀ after₀ k₀ table total
 abbrev μ-loop : tie.MeasureT-loop
 μ-loop start ceiling rate arrivals table₀ total₀ after₀ k₀ table total after k = k
 
--- the loop's place, from the end of a turn, and what the turn computed
+-- places of the code: the loop's start, from the end of a turn; and what the turn computed
 abbrev L : tie.After-larger Inv-loop μ-loop → tie.At-loop Inv-loop μ-loop
 L c = c .before .before .before .before .before
 

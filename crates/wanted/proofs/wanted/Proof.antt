@@ -24,7 +24,7 @@ framed-at c = c .before
 abbrev arrived-at : tie.After-possible → tie.Else2
 arrived-at c = c .before
 
--- what the tests have shown at each place
+-- the facts that the tests give at each place
 framed : (c : tie.Else1) →
     let a = A (c .before) .args in
     wantedFrameOk (a .start) (a .ceiling) (a .rate) (length (a .arrivals .now)) (length (a .table .now)) ≡ true
