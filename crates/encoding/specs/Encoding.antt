@@ -17,7 +17,7 @@ use Rattle.model.specs.Reading.{sizeOf}
 use Rattle.fields.specs.HeaderLaws.{Counts}
 use Rattle.model.specs.Encoding.{headerOf, cellOf, numbersOf, recordSize, headerBytes, cellBytes, rowBytes, recordOf}
 
--- how long the parts are
+-- the lengths of the parts
 pub length-header : (version n T seconds capacity queue : ℕ) → length (headerOf version n T seconds capacity queue) ≡ headerSize version
 unfolding headerOf
 length-header version n T seconds capacity queue =
@@ -110,7 +110,7 @@ module _ {a : List ℕ} {start : ℕ} {b : List ℕ} {p : ℕ} {c : List ℕ} {q
       (puts-more e v _ f w _ l z (stored-puts h5)
       (puts-more f w _ g x _ l z (stored-puts h6) (puts-more g x _ k y _ l z (stored-puts h7) (stored-puts h8)))))))
 
--- a loop that has put the first i of its lists, each of w bytes
+-- a loop has put the first i of its lists, each of w bytes
 pub record Putting (before : List ℕ) (start : ℕ) (f : ℕ → List ℕ) (w i : ℕ) (after : List ℕ) (end : ℕ) : Type 0 where
   pub next : end ≡ start + i * w
   pub same : length after ≡ length before
@@ -136,12 +136,12 @@ module _ (before : List ℕ) (start : ℕ) (f : ℕ → List ℕ) (w : ℕ) wher
   pub putting-end : (i n : ℕ) {after : List ℕ} {end : ℕ} → i ≡ n → Putting before start f w i after end → Puts before start (concatOf f n) after end
   putting-end i n e h = rw e at (h .bytes)
 
-  -- room for the next list, where there is room for n of them
+  -- there is room for the next list if there is room for n of them
   pub putting-fits : (i n : ℕ) {after : List ℕ} {end : ℕ} → Putting before start f w i after end → i < n → start + n * w ≤ length before
       → end + w ≤ length after
   putting-fits i n h l m = omega (arith, h .next, h .same, row-ends i n w l)
 
--- a record put at the start of a target: its bytes, and what was beyond them
+-- a record put at the start of a target: its bytes, and the bytes beyond them unchanged
 pub record-stands : (a : Study) (target after : List ℕ) (end : ℕ) → length (recordOf a) ≡ recordSize a
     → recordSize a ≤ length target → Puts target 0 (recordOf a) after end
     → (end ≡ recordSize a) × (after ≡ recordOf a ++ drop (recordSize a) target)
@@ -176,7 +176,7 @@ pub record Fits (a : Study) (rows target : List ℕ) : Type 0 where
   pub all : length rows ≡ a .steps * rowNumbers (a .road .n)
   pub room : recordSize a ≤ length target
 
--- the loop over the rows: those of t steps are put, and the next begins at `from`
+-- the loop over the rows: the rows of t steps are put, and the next begins at `from`
 pub record Rowing (before : List ℕ) (start : ℕ) (rows : List ℕ) (n T t from : ℕ) (after : List ℕ) (end : ℕ) : Type 0 where
   pub within : t ≤ T
   pub place : from ≡ t * rowNumbers n
@@ -187,7 +187,7 @@ module _ {before : List ℕ} {start : ℕ} {rows : List ℕ} {n T : ℕ} where
   rowing-none = record { within = omega arith; place = omega arith; put = putting-none before start _ (rowSize n) }
 
   module _ {t from : ℕ} {after : List ℕ} {end : ℕ} (h : Rowing before start rows n T t from after end) where
-    -- the next row lies within the rows, and its bytes within the target
+    -- the next row is within the rows, and its bytes are within the target
     pub row-there : Rows rows n T → t < T → from + rowNumbers n ≤ length rows
     row-there k l = omega (arith, h .place, k .all, row-ends t T (rowNumbers n) l)
 
@@ -207,7 +207,7 @@ module _ {before : List ℕ} {start : ℕ} {rows : List ℕ} {n T : ℕ} where
     pub rowing-end : T ≤ t → Puts before start (concatOf (rowBytes n (rowAt rows (rowNumbers n))) T) after end
     rowing-end l = putting-end before start _ (rowSize n) t T (omega (arith, h .within)) (h .put)
 
--- the whole record: where the header and the cells end, and the three one after the other
+-- the whole record: where the header and the cells end, and the three parts one after the other
 module _ (a : Study) (target b : List ℕ) (p : ℕ) (header : Puts target 0 (headerBytes a) b p) where
   pub header-ends : (p ≡ headerSize (a .road .version)) × (length b ≡ length target)
   header-ends = (

@@ -1,4 +1,4 @@
-// The record's bytes, put into a target part by part.
+// A record's bytes, put into a target part by part.
 use model::Road;
 use model::Start;
 ghost use Prim.Native.Nat.{_+_, _*_, _≤_};
@@ -11,7 +11,7 @@ ghost use Rattle.fields.specs.HeaderLaws.{Counts};
 ghost use Rattle.model.specs.Encoding.{headerOf, cellOf, numbersOf, cellBytes, rowBytes, recordOf, given};
 ghost use Rattle.encoding.specs.Encoding.{Rows, Fits};
 
-// The header: the count of bytes after its first field, the version, n, T, the version's seconds, the gate's capacity and queue.
+// Puts the header: the count of bytes after its first field, the version, n, T, the version's seconds, the gate's capacity and queue.
 pub fn put_header(
     target: &mut [u8],
     version: u8,
@@ -34,7 +34,7 @@ pub fn put_header(
     fields::put_number(target, to_queue, gate_queue)
 }
 
-// A cell: v, w, b and the ramp mark, then J, C, held and the ramp's queue.
+// Puts a cell: v, w, b and the ramp mark, then J, C, held and the ramp's queue.
 fn put_cell(
     target: &mut [u8],
     at: usize,
@@ -60,7 +60,7 @@ fn put_cell(
     fields::put_number(target, to_queue, queue)
 }
 
-// The cells, one after the other.
+// Puts the cells, one after the other.
 pub fn put_cells(target: &mut [u8], at: usize, road: Road, start: Start) -> usize
     requires { ⌜ (road .n ≤ mostCells) × (at + road .n * cellSize ≤ length (now target)) ⌝ }
     ensures { λ e. ⌜ Puts (now (target .entry)) at (concatOf (cellBytes road (startState start)) (road .n)) (now (target .exit)) e ⌝ }
@@ -86,7 +86,7 @@ pub fn put_cells(target: &mut [u8], at: usize, road: Road, start: Start) -> usiz
     end
 }
 
-// The numbers of a row, one after the other.
+// Puts the numbers of a row, one after the other.
 pub fn put_row(target: &mut [u8], at: usize, row: &[u32]) -> usize
     requires { ⌜ at + length (now row) * numberSize ≤ length (now target) ⌝ }
     ensures { λ e. ⌜ Puts (now (target .entry)) at (numbersOf (now (row .entry)) (length (now (row .entry)))) (now (target .exit)) e ⌝ }
@@ -100,7 +100,7 @@ pub fn put_row(target: &mut [u8], at: usize, row: &[u32]) -> usize
     end
 }
 
-// The rows of all steps, each of 1 + 2n numbers.
+// Puts the rows of all steps, each of 1 + 2n numbers.
 fn put_rows(target: &mut [u8], at: usize, n: usize, rows: &[u32], steps: usize) -> usize
     requires { ⌜ (Rows (now rows) n steps) × (at + steps * rowSize n ≤ length (now target)) ⌝ }
     ensures { λ e. ⌜ Puts (now (target .entry)) at (concatOf (rowBytes n (rowAt (now (rows .entry)) (rowNumbers n))) steps) (now (target .exit)) e ⌝ }
@@ -118,7 +118,7 @@ fn put_rows(target: &mut [u8], at: usize, n: usize, rows: &[u32], steps: usize) 
     end
 }
 
-// The record's bytes at the start of the target.
+// Puts the record's bytes at the start of the target.
 pub fn put_record(road: Road, steps: usize, start: Start, rows: &[u32], target: &mut [u8]) -> usize
     requires { ⌜ Fits (given road steps start (now rows)) (now rows) (now target) ⌝ }
     ensures { λ e. ⌜ Puts (now (target .entry)) 0 (recordOf (given road steps start (now (rows .entry)))) (now (target .exit)) e ⌝ }

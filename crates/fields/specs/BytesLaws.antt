@@ -21,19 +21,19 @@ unfolding bytesOf
 length-bytes zero x = refl
 length-bytes (suc w) x = length-append (bytesOf w (x / 256)) (x % 256 ∷ []) ∙ omega (arith, length-bytes w (x / 256))
 
--- a number is that of its bytes alone
+-- a number depends only on its bytes
 pub number-same : (s t : List ℕ) (i j w : ℕ) → ((k : ℕ) → k < w → at s (i + k) ≡ at t (j + k)) → numberOf s i w ≡ numberOf t j w
 unfolding numberOf
 number-same s t i j zero h = refl
 number-same s t i j (suc w) h = rw (number-same s t i j w (λ k l. h k (omega arith)), h w (le-refl (suc w)))
 
--- and bytes that are nowhere greater make a number that is not greater
+-- bytes that are each at most another's make a number that is at most the other's
 pub number-le : (s t : List ℕ) (i j w : ℕ) → ((k : ℕ) → k < w → at s (i + k) ≤ at t (j + k)) → numberOf s i w ≤ numberOf t j w
 unfolding numberOf
 number-le s t i j zero h = le-refl 0
 number-le s t i j (suc w) h = omega (arith, number-le s t i j w (λ k l. h k (omega arith)), h w (le-refl (suc w)))
 
--- of the first w of w + 1 bytes, and the last
+-- the first w of w + 1 bytes, and the last
 bytes-first : (w x k : ℕ) → k < w → at (bytesOf (suc w) x) k ≡ at (bytesOf w (x / 256)) k
 unfolding bytesOf
 bytes-first w x k l = at-first (bytesOf w (x / 256)) (x % 256 ∷ []) k (omega (arith, length-bytes w (x / 256)))
@@ -58,7 +58,7 @@ number-bytes (suc w) x h =
     last : at (bytesOf (suc w) x) (0 + w) ≡ x % 256
     last = let z : 0 + w ≡ w = omega arith in rw z (bytes-last w x)
 
--- bytes that were read as a number are the number's
+-- the bytes of a number read from s are those in s
 pub bytes-number : (s : List ℕ) (i w : ℕ) → ((k : ℕ) → k < w → at s (i + k) < 256) → (k : ℕ) → k < w → at (bytesOf w (numberOf s i w)) k ≡ at s (i + k)
 unfolding numberOf
 bytes-number s i zero h k l = absurd (omega arith)
@@ -76,7 +76,7 @@ bytes-number s i (suc w) h k l =
 pub record Field (s : List ℕ) (offset w x : ℕ) : Type 0 where
   pub byte : (k : ℕ) → k < w → at s (offset + k) ≡ at (bytesOf w x) k
 
--- in front, after a list, and in one of several lists of equal length
+-- a field in front, after a list, and in one of several lists of equal length
 pub field-first : (w x : ℕ) (rest : List ℕ) → Field (bytesOf w x ++ rest) 0 w x
 field-first w x rest = record { byte = λ k l. let z : 0 + k ≡ k = omega arith in rw z (at-first (bytesOf w x) rest k (omega (arith, length-bytes w x))) }
 
@@ -99,11 +99,11 @@ field-in f size n i offset w x same l h g =
           rw z (concat-at f size same n i (offset + k) l (omega arith) ∙ g .byte k m);
     }
 
--- at the same offset however it is written
+-- the same field, at an equal offset
 pub field-there : {s : List ℕ} {offset place w x : ℕ} → offset ≡ place → Field s offset w x → Field s place w x
 field-there e f = record { byte = λ k l. rw (← e) (f .byte k l) }
 
--- and is read there
+-- reading the field gives its number
 pub field-number : (s : List ℕ) (offset place w x : ℕ) → offset ≡ place → x < 256 ^ w → Field s offset w x → numberOf s place w ≡ x
 field-number s offset place w x e h f =
     number-same s (bytesOf w x) place 0 w (λ k l. let z : 0 + k ≡ k = omega arith in rw (z, ← e) (f .byte k l)) ∙ number-bytes w x h
@@ -115,13 +115,13 @@ partOf s i w = take w (drop i s)
 pub part-join : (s : List ℕ) (i m k : ℕ) → partOf s i m ++ partOf s (i + m) k ≡ partOf s i (m + k)
 part-join s i m k = sym (take-add m k (drop i s) ∙ ap (λ (x : List ℕ). partOf s i m ++ take k x) (drop-drop m i s))
 
--- the same at offsets from a base
+-- the same for offsets from a base
 pub part-next : (s : List ℕ) (base offset m k : ℕ) → partOf s (base + offset) m ++ partOf s (base + (offset + m)) k ≡ partOf s (base + offset) (m + k)
 part-next s base offset m k =
     let e : base + (offset + m) ≡ base + offset + m = omega arith in
     rw e (part-join s (base + offset) m k)
 
--- the parts of w numbers each from `base` on
+-- n parts of w bytes each from `base` on, one after the other
 pub part-concat : (s : List ℕ) (base w n : ℕ) → concatOf (λ j. partOf s (base + j * w) w) n ≡ partOf s base (n * w)
 unfolding concatOf
 part-concat s base w zero = let e : 0 * w ≡ 0 = omega arith in rw e

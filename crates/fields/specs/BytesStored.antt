@@ -10,7 +10,7 @@ use Rattle.numbers.specs.PlacedText.{placed-none, length-placed, Puts}
 use Rattle.model.specs.Record.{bytesOf}
 use Rattle.fields.specs.BytesLaws.{length-bytes}
 
--- `after` is `before` with the w bytes of x from `at` on, and `end` the index after them
+-- `after` is `before` with the w bytes of x from `at` on, and `end` is the index after them
 pub record Stored (before : List ℕ) (at w x : ℕ) (after : List ℕ) (end : ℕ) : Type 0 where
   pub next : end ≡ at + w
   pub same : length after ≡ length before
@@ -19,7 +19,7 @@ pub record Stored (before : List ℕ) (at w x : ℕ) (after : List ℕ) (end : �
 pub stored : (before : List ℕ) (at w x : ℕ) (after : List ℕ) → after ≡ placed before at (bytesOf w x) → Stored before at w x after (at + w)
 stored before at w x after e = record { next = refl; same = rw e (length-placed before at (bytesOf w x)); bytes = e }
 
--- a number without bytes leaves all as it was
+-- a number of 0 bytes changes nothing
 pub stored-none : (before : List ℕ) (at x : ℕ) {w : ℕ} → w ≡ 0 → Stored before at w x before at
 unfolding bytesOf
 stored-none before at x e = rw e (record { next = omega arith; same = refl; bytes = sym (placed-none before at) })
@@ -34,7 +34,7 @@ module _ (l : List ℕ) (at x : ℕ) where
   three : at + 3 ≡ suc (suc (suc at))
   three = omega arith
 
-  -- one, two and four bytes, the highest first
+  -- one, two and four bytes, highest first
   pub one-byte : x % 256 ≡ x → set l at x ≡ placed l at (bytesOf 1 x)
   unfolding placed bytesOf
   one-byte h = rw h

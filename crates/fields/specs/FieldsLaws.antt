@@ -16,7 +16,7 @@ use Rattle.model.specs.Numbers.{at, fillOf}
 use Rattle.numbers.specs.Zeros.{length-zeros, zeros-at}
 use Rattle.numbers.specs.RowsLaws.{fill-at, fill-more, fill-past, fill-list, length-fill, length-list, list-at}
 
--- what taking the row of step t of n cells requires: the bytes hold it
+-- the bytes hold the row of step t of n cells
 pub record HoldsRow (s : List ℕ) (n t : ℕ) : Type 0 where
   pub cells : n ≤ mostCells
   pub row : rowStart (versionOf s) n t + rowSize n ≤ length s
@@ -25,7 +25,7 @@ pub number-more : (s : List ℕ) (i w : ℕ) → numberOf s i (w + 1) ≡ number
 unfolding numberOf
 number-more s i w = rw add-one
 
--- one more byte keeps the bound
+-- a number with one more byte stays below the bound
 pub power-more : (k r b : ℕ) → r < 256 ^ k → b < 256 → r * 256 + b < 256 ^ (k + 1)
 power-more k r b h l = rw (add-one, pow-suc) (omega arith)
 
@@ -84,7 +84,7 @@ module _ {s : List ℕ} {offset w n : ℕ} where
         let e : i ≡ n = omega (arith, h .within) in
         h .fields ∙ ap (columnOf s offset w) e
 
--- a row: its length, each of its numbers, and where its bytes end
+-- a row: its length, each of its numbers, and the end of its bytes
 pub length-row : (s : List ℕ) (n t : ℕ) → length (recordRow s n t) ≡ 1 + 2 * n
 length-row s n t = length-list (entryOf s n t) (1 + 2 * n)
 
@@ -94,7 +94,7 @@ row-at s n t k l = list-at (entryOf s n t) (1 + 2 * n) k l
 pub row-within : (version n t T : ℕ) → t < T → rowStart version n t + rowSize n ≤ rowStart version n T
 row-within version n t T h = omega (arith, suc-mul t (rowSize n), mul-le-mul-right (rowSize n) h)
 
--- with n and t within their limits it starts at a number that is small to a machine
+-- if n and t are within their limits, the row's start fits a machine number
 abbrev pub mostSize : ℕ
 mostSize = 16 + shortSize + cellSize * mostCells + mostSteps * rowSize mostCells
 
@@ -107,7 +107,7 @@ start-small version n t h l =
 pub holds-row : (s : List ℕ) (n t T : ℕ) → n ≤ mostCells → rowStart (versionOf s) n T ≤ length s → t < T → HoldsRow s n t
 holds-row s n t T h k l = record { cells = h; row = omega (arith, row-within (versionOf s) n t T l) }
 
--- the numbers of a row, taken from the array l that they were stored in
+-- the numbers of a row, taken from the array that they were stored in
 pub row-taken : (s : List ℕ) (n t : ℕ) (l r : List ℕ) → 1 + 2 * n ≤ length l → r ≡ fillOf (entryOf s n t) (1 + 2 * n) l
     → take (1 + 2 * n) r ≡ recordRow s n t
 row-taken s n t l r h e =

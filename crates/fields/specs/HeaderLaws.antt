@@ -15,7 +15,7 @@ use Rattle.model.specs.Record.{firstVersion, secondVersion, versionOf, countSiz
 use Rattle.fields.specs.FieldsLaws.{seconds-none, mostSize, start-small}
 use Rattle.model.specs.Reading.{cellsOf, stepsOf, sizeOf, bothVersions, leastSize, lengthOk, cellsAndStepsOk, secondsOk, callerOk}
 
--- both versions are known: in code, by one test or the other
+-- both versions are known: the code tests for one or the other
 pub known-both : (version : ℕ) → eqb version firstVersion || eqb version secondVersion ≡ oneOf bothVersions version
 unfolding oneOf
 known-both version = go (eqb version firstVersion) (eqb version secondVersion)
@@ -25,7 +25,7 @@ known-both version = go (eqb version firstVersion) (eqb version secondVersion)
     go false true = refl
     go false false = refl
 
--- and no version above 2 is
+-- no version above 2 is known
 pub known-most : (version : ℕ) → oneOf bothVersions version ≡ true → version ≤ secondVersion
 unfolding oneOf
 known-most version = go (eqb version firstVersion) (eqb version secondVersion) refl refl
@@ -35,7 +35,7 @@ known-most version = go (eqb version firstVersion) (eqb version secondVersion) r
     go false true e f h = omega (arith, eqb-true version secondVersion f)
     go false false e f h = absurd (let z : _≡_ {A = ℕ} 0 1 = cc in omega arith)
 
--- to a reader that knows both, the least size is that of the version's own header: 16 for all but version 2
+-- for a reader that knows both, the least size is that of the version's own header: 18 for version 2, 16 for every other
 pub least-both : (version : ℕ) → leastSize bothVersions version ≡ headerSize version
 unfolding oneOf
 least-both version = go (eqb version firstVersion) (eqb version secondVersion) refl refl
@@ -52,7 +52,7 @@ length-facts s h =
     let a = le-head (leastSize bothVersions (versionOf s)) (length s) _ h in
     (omega (arith, a .0, least-both (versionOf s)), le-head _ _ _ (a .1) .0)
 
--- the length's test, from what the code finds
+-- the test of the length, from the code's tests
 module _ (s : List ℕ) where
   pub length-short : length s < headerSize (versionOf s) → false ≡ lengthOk bothVersions s
   length-short h = rw (least-both (versionOf s), lt-leb (headerSize (versionOf s)) (length s) h)
@@ -64,7 +64,7 @@ module _ (s : List ℕ) where
     pub length-counted : (m : ℕ) → length s ≤ mostBytes → m ≡ numberOf s 0 countSize → eqb m (length s - countSize) ≡ lengthOk bothVersions s
     length-counted m l e = rw (least-both (versionOf s), le-leb (headerSize (versionOf s)) (length s) h, le-leb (length s) mostBytes l, e)
 
--- 19's test: in version 2, and in any other
+-- the test of 19, in version 2 and in any other
 module _ (version seconds : ℕ) where
   pub seconds-tested : version ≡ secondVersion → leb 1 seconds && leb seconds mostSeconds ≡ secondsOk version seconds
   seconds-tested e = rw (eq-eqb version secondVersion e)
@@ -90,11 +90,11 @@ pub facts-counts : {n T : ℕ} → Counts n T → cellsAndStepsOk n T ≡ true
 facts-counts {n} {T} c =
     le-then 1 n _ (c .someCells) (le-then n mostCells _ (c .cells) (le-then 1 T _ (c .someSteps) (le-leb T mostSteps (c .steps))))
 
--- and then the size fits a machine number
+-- the record's size then fits a machine number
 pub size-small : (version : ℕ) {n T : ℕ} → Counts n T → sizeOf version n T ≤ mostSize
 size-small version {n} {T} c = start-small version n T (c .cells) (c .steps)
 
--- 26's test, as facts: both numbers are within the caller's, or one is above
+-- the test of 26, as facts: both numbers are within the caller's limits, or one is above
 module _ {cells most n size : ℕ} where
   pub caller-passes : n ≤ cells → size ≤ most → callerOk cells most n size ≡ true
   caller-passes h k = le-then n cells _ h (le-leb size most k)
@@ -117,7 +117,7 @@ module _ {cells most n size : ℕ} where
       go false e h = inl (leb-false n cells e)
       go true e h = inr (leb-false size most h)
 
--- with 64 and 65,536 it passes wherever 1 and 3 do
+-- with 64 and 65,536 it passes whenever 1 and 3 do not apply
 pub caller-full : (known s : List ℕ) → lengthOk known s ≡ true → cellsAndStepsOk (cellsOf s) (stepsOf s) ≡ true
     → callerOk mostCells mostBytes (cellsOf s) (length s) ≡ true
 caller-full known s h k =

@@ -1,4 +1,4 @@
-// Numbers, columns and rows of a record's bytes, and the header's tests of 1, 2, 3, 19 and 26.
+// Numbers, columns and rows in a record's bytes, and the header's tests of 1, 2, 3, 19 and 26.
 use model::Road;
 ghost use mathlib.Core.Path.{_≡_};
 ghost use Prim.Native.Nat.{_+_, _*_, _^_, _≤_, _<_};
@@ -10,12 +10,12 @@ ghost use Rattle.fields.specs.BytesStored.{Stored};
 ghost use Rattle.model.specs.Numbers.{oneOf};
 ghost use Rattle.model.specs.Reading.{bothVersions, lengthOk, cellsAndStepsOk, secondsOk, callerOk};
 
-// The versions of the layout: version 2 has two more bytes after byte 7, and all that follows is two bytes later.
+// The versions of the layout: version 2 has two more bytes after byte 7, and everything after them comes two bytes later.
 pub const FIRST_VERSION: u8 = 1;
 
 pub const SECOND_VERSION: u8 = 2;
 
-// Sizes in bytes: of version 1's header, of its first field, of a cell, and of a cell's two numbers in a row.
+// Sizes in bytes: version 1's header, its first field, a cell, and a cell's two numbers in a row.
 pub const HEADER_SIZE: usize = 16;
 
 pub const COUNT_SIZE: usize = 4;
@@ -29,7 +29,7 @@ pub const SHORT_SIZE: usize = 2;
 
 pub const NUMBER_SIZE: usize = 4;
 
-// The header's fields, each at the byte where it starts: the version, n, T, version 2's seconds, and the gate's capacity and queue in version 1.
+// The offsets of the header's fields: the version, n, T, version 2's seconds, and the gate's capacity and queue in version 1.
 pub const VERSION_OFFSET: usize = 4;
 
 pub const CELLS_OFFSET: usize = 5;
@@ -42,7 +42,7 @@ pub const GATE_CAPACITY_OFFSET: usize = 8;
 
 pub const GATE_QUEUE_OFFSET: usize = 12;
 
-// A cell's fields, each at the byte of the cell where it starts: v, w, b, the ramp mark, J, C, held and the ramp's queue.
+// The offsets of a cell's fields: v, w, b, the ramp mark, J, C, held and the ramp's queue.
 pub const SPEED_OFFSET: usize = 0;
 
 pub const WAVE_OFFSET: usize = 2;
@@ -65,7 +65,7 @@ fn wide(x: u8) -> u32
     x as u32
 }
 
-// The number in the `size` bytes from `i`, the highest byte first.
+// The number in the `size` bytes from `i` on, highest byte first.
 pub fn number(bytes: &[u8], i: usize, size: usize) -> u32
     requires { ⌜ (size ≤ 4) × (i + size ≤ length (now bytes)) ⌝ }
     ensures { λ r. ⌜ (r ≡ numberOf (now (bytes .entry)) i size) × (r < 256 ^ size) ⌝ }
@@ -80,7 +80,7 @@ pub fn number(bytes: &[u8], i: usize, size: usize) -> u32
     r
 }
 
-// The number in the two bytes from `i`.
+// The number in the two bytes from `i` on.
 pub fn short(bytes: &[u8], i: usize) -> u16
     requires { ⌜ i + shortSize ≤ length (now bytes) ⌝ }
     ensures { λ r. ⌜ r ≡ numberOf (now (bytes .entry)) i shortSize ⌝ }
@@ -88,7 +88,7 @@ pub fn short(bytes: &[u8], i: usize) -> u16
     number(bytes, i, SHORT_SIZE) as u16
 }
 
-// The version that the bytes name.
+// The version in byte 4.
 pub fn version(bytes: &[u8]) -> u8
     requires { ⌜ versionOffset + 1 ≤ length (now bytes) ⌝ }
     ensures { λ r. ⌜ r ≡ versionOf (now (bytes .entry)) ⌝ }
@@ -96,7 +96,7 @@ pub fn version(bytes: &[u8]) -> u8
     number(bytes, VERSION_OFFSET, 1) as u8
 }
 
-// How many bytes a version has for the step's seconds, and by how many bytes they move what follows.
+// How many bytes a version has for the step's seconds; everything after them comes that much later.
 pub fn seconds_size(version: u8) -> usize
     ensures { λ r. ⌜ r ≡ secondsSize version ⌝ }
 {
@@ -113,7 +113,7 @@ pub fn header_size(version: u8) -> usize
     HEADER_SIZE + seconds_size(version)
 }
 
-// The step's seconds, 0 where the version has none.
+// The step's seconds, 0 if the version has none.
 pub fn seconds(bytes: &[u8]) -> u16
     requires { ⌜ headerSize (versionOf (now bytes)) ≤ length (now bytes) ⌝ }
     ensures { λ r. ⌜ r ≡ secondsOf (now (bytes .entry)) ⌝ }
@@ -121,7 +121,7 @@ pub fn seconds(bytes: &[u8]) -> u16
     number(bytes, SECONDS_OFFSET, seconds_size(version(bytes))) as u16
 }
 
-// A field of two bytes, `offset` into each of the n cells.
+// The column of a field of two bytes, at an offset into each of the n cells.
 pub fn short_column(bytes: &[u8], offset: usize, n: usize) -> [u16; 64]
     requires { ⌜ (offset + shortSize ≤ cellSize) × ((n ≤ mostCells) × (rowStart (versionOf (now bytes)) n 0 ≤ length (now bytes))) ⌝ }
     ensures { λ r. ⌜ r ≡ columnOf (now (bytes .entry)) offset shortSize n ⌝ }
@@ -136,7 +136,7 @@ pub fn short_column(bytes: &[u8], offset: usize, n: usize) -> [u16; 64]
     r
 }
 
-// A field of four bytes, `offset` into each of the n cells.
+// The column of a field of four bytes, at an offset into each of the n cells.
 pub fn column(bytes: &[u8], offset: usize, n: usize) -> [u32; 64]
     requires { ⌜ (offset + numberSize ≤ cellSize) × ((n ≤ mostCells) × (rowStart (versionOf (now bytes)) n 0 ≤ length (now bytes))) ⌝ }
     ensures { λ r. ⌜ r ≡ columnOf (now (bytes .entry)) offset numberSize n ⌝ }
@@ -151,7 +151,7 @@ pub fn column(bytes: &[u8], offset: usize, n: usize) -> [u32; 64]
     r
 }
 
-// The byte at which the row of step `t` starts; at T, the record's size.
+// The byte at which the row of step `t` starts; for T it is the record's size.
 pub fn row_start(version: u8, n: usize, t: usize) -> usize
     requires { ⌜ rowStart version n t < 2 ^ 64 ⌝ }
     ensures { λ r. ⌜ r ≡ rowStart version n t ⌝ }
@@ -159,7 +159,7 @@ pub fn row_start(version: u8, n: usize, t: usize) -> usize
     header_size(version) + CELL_SIZE * n + t * (NUMBER_SIZE + RATES_SIZE * n)
 }
 
-// Reads the row of step `t` into the first 1 + 2n numbers: gate arrivals, then each cell's arrivals and release.
+// Reads the row of step `t` into the array's first 1 + 2n numbers: gate arrivals, then each cell's arrivals and release.
 pub fn read_row(bytes: &[u8], n: usize, t: usize, r: &mut [u32; 129])
     requires { ⌜ (HoldsRow (now bytes) n t) × (1 + 2 * n ≤ length (now r)) ⌝ }
     ensures { λ _. ⌜ take (1 + 2 * n) (now (r .exit)) ≡ recordRow (now (bytes .entry)) n t ⌝ }
@@ -182,7 +182,7 @@ pub fn row(bytes: &[u8], n: usize, t: usize) -> [u32; 129]
     r
 }
 
-// Stores a byte at `at`, and gives the index after it.
+// Stores a byte at `at`, and returns the index after it.
 pub fn put_byte(target: &mut [u8], at: usize, x: u8) -> usize
     requires { ⌜ at + 1 ≤ length (now target) ⌝ }
     ensures { λ e. ⌜ Stored (now (target .entry)) at 1 x (now (target .exit)) e ⌝ }
@@ -191,7 +191,7 @@ pub fn put_byte(target: &mut [u8], at: usize, x: u8) -> usize
     at + 1
 }
 
-// Stores a number of two bytes from `at` on, the highest first.
+// Stores a number of two bytes from `at` on, highest first.
 pub fn put_short(target: &mut [u8], at: usize, x: u16) -> usize
     requires { ⌜ at + shortSize ≤ length (now target) ⌝ }
     ensures { λ e. ⌜ Stored (now (target .entry)) at shortSize x (now (target .exit)) e ⌝ }
@@ -201,7 +201,7 @@ pub fn put_short(target: &mut [u8], at: usize, x: u16) -> usize
     at + SHORT_SIZE
 }
 
-// Stores the step's seconds where the version has them.
+// Stores the step's seconds, if the version has them.
 pub fn put_seconds(target: &mut [u8], at: usize, version: u8, seconds: u16) -> usize
     requires { ⌜ at + secondsSize version ≤ length (now target) ⌝ }
     ensures { λ e. ⌜ Stored (now (target .entry)) at (secondsSize version) seconds (now (target .exit)) e ⌝ }
@@ -212,7 +212,7 @@ pub fn put_seconds(target: &mut [u8], at: usize, version: u8, seconds: u16) -> u
     at
 }
 
-// Stores a number of four bytes from `at` on, the highest first.
+// Stores a number of four bytes from `at` on, highest first.
 pub fn put_number(target: &mut [u8], at: usize, x: u32) -> usize
     requires { ⌜ at + numberSize ≤ length (now target) ⌝ }
     ensures { λ e. ⌜ Stored (now (target .entry)) at numberSize x (now (target .exit)) e ⌝ }
@@ -253,7 +253,7 @@ pub fn cells_and_steps_within(n: usize, steps: usize) -> bool
     (1 <= n) & ((n <= Road::CELLS) & ((1 <= steps) & (steps <= Road::STEPS)))
 }
 
-// Whether the step's seconds are within their limits, where the version has them.
+// Whether the step's seconds are within their limits; they are tested only in version 2.
 pub fn seconds_within(version: u8, seconds: u16) -> bool
     ensures { λ r. ⌜ r ≡ secondsOk version seconds ⌝ }
 {
@@ -263,7 +263,7 @@ pub fn seconds_within(version: u8, seconds: u16) -> bool
     true
 }
 
-// Whether a caller that takes at most `cells` cells and `most` bytes takes n cells and `size` bytes.
+// Whether n cells and `size` bytes are within a caller's limits, `cells` and `most`.
 pub fn caller_within(cells: usize, most: usize, n: usize, size: usize) -> bool
     ensures { λ r. ⌜ r ≡ callerOk cells most n size ⌝ }
 {

@@ -25,7 +25,7 @@ use Rattle.encoding.specs.Encoding.{Putting, putting-none, putting-more, puttin
 use Rattle.model.specs.Joining.{joinedShare, joinedRoad, joinedStart, joinedRow, joinedStudy}
 use Rattle.joining.specs.JoinedColumns.{column-joined, shares-joined, row-joined}
 
--- n lists, then m more
+-- n + m lists are n lists, then m more
 pub concat-split : (f : ℕ → List ℕ) (n m : ℕ) → concatOf f (n + m) ≡ concatOf f n ++ concatOf (λ i. f (n + i)) m
 unfolding concatOf
 concat-split f n zero = let e : n + 0 ≡ n = omega arith in ap (concatOf f) e ∙ sym (append-nil (concatOf f n))
@@ -122,7 +122,7 @@ numbers-append x y =
 pub room-row : (row next : List ℕ) (start size : ℕ) → start + length (joinedRow row next) * numberSize ≤ size → start + length row * numberSize ≤ size
 room-row row next start size h = omega (arith, length-append row (drop 1 next))
 
--- a row, then the next road's from its second number on, as a part of the slice has them
+-- a row, then the next road's from its second number on, as the code's slice gives it
 module _ (row next a : List ℕ) (start : ℕ) (b : List ℕ) (p : ℕ) (first : Puts a start (numbersOf row (length row)) b p) where
   abbrev rest : List ℕ
   rest = take (length next - 1) (drop 1 next)
@@ -182,7 +182,7 @@ pub record Joins (up : List ℕ) (road : Road) (T : ℕ) (down : List ℕ) (next
   pub downstream : Steps down (next .n) T
   pub room : sizeOf (road .version) (road .n + next .n) T ≤ length target
 
--- n cells that were put: where they end, in a list as long as before
+-- where the n cells put end, in a list of the same length as before
 pub cells-there : (r : Road) (s : State) (n : ℕ) (b : List ℕ) (p : ℕ) (c : List ℕ) (u : ℕ) → Puts b p (concatOf (cellBytes r s) n) c u
     → (u ≡ p + n * cellSize) × (length c ≡ length b)
 cells-there r s n b p c u h = (

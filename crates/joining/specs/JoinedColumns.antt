@@ -16,27 +16,27 @@ use Rattle.model.specs.Record.{rowNumbers}
 use Rattle.model.specs.Writing.{cutOf}
 use Rattle.model.specs.Joining.{joinedEntry, joinedColumn, joinedShare, joinedRow}
 
--- what holds of the first n cells and of the m that follow holds of all
+-- what holds for the first n cells and for the m after them holds for all
 pub halves : (n m : ℕ) (P : ℕ → Type 0) → ((i : ℕ) → i < n → P i) → ((i : ℕ) → i < m → P (n + i)) → (i : ℕ) → i < n + m → P i
 halves n m P up down i l = ⊎-elim
     (λ (h : n ≤ i). let e : n + (i - n) ≡ i = omega arith in subst P e (down (i - n) (omega arith)))
     (λ (h : i < n). up i h)
     (order n i)
 
--- a column l of n + m cells is as it was in both: its first n entries are upstream's, the m that follow are downstream's, past them all is 0
+-- a joined column l of n + m cells: its first n entries are upstream's, the next m are downstream's, and past them all are 0
 pub record Joined (n m : ℕ) (up down l : List ℕ) : Type 0 where
   pub upper : (i : ℕ) → i < n → at l i ≡ at up i
   pub lower : (i : ℕ) → i < m → at l (n + i) ≡ at down i
   pub past : (i : ℕ) → n + m ≤ i → at l i ≡ 0
 
--- the shares too, but for upstream's last cell, the joint, which has the stated one
+-- the shares too, except that upstream's last cell, the joint, has the stated share
 pub record JoinedShares (share n m : ℕ) (up down l : List ℕ) : Type 0 where
   pub upper : (i : ℕ) → i + 1 < n → at l i ≡ at up i
   pub joint : (i : ℕ) → i + 1 ≡ n → at l i ≡ share
   pub lower : (i : ℕ) → i < m → at l (n + i) ≡ at down i
   pub past : (i : ℕ) → n + m ≤ i → at l i ≡ 0
 
--- a row of both: upstream's gate arrivals, and each cell's ramp arrivals and release
+-- a joined row: upstream's gate arrivals, and each cell's ramp arrivals and release
 pub record JoinedNumbers (n m : ℕ) (up down l : List ℕ) : Type 0 where
   pub numbers : length l ≡ rowNumbers (n + m)
   pub gate : at l 0 ≡ at up 0
@@ -53,7 +53,7 @@ module _ (n : ℕ) (up down : List ℕ) where
   entry-down i = let e : n + i - n ≡ i = omega arith in rw (lt-leb (n + i + 1) n (omega arith), e)
 
 module _ (n m : ℕ) (most : n + m ≤ mostCells) (up down : List ℕ) where
-  -- an entry by the function that gives it
+  -- an entry, from the function that gives it
   given : (f : ℕ → ℕ) (i : ℕ) → i < n + m → at (fillOf f (n + m) zeros) i ≡ f i
   given f i l = fill-at f (n + m) zeros i l (omega (arith, length-zeros))
 
@@ -82,7 +82,7 @@ module _ (n m : ℕ) (most : n + m ≤ mostCells) (up down : List ℕ) where
       past = λ i l. none f i l;
     }
 
--- a column that is 0 past its cells is its own cut
+-- cutting a column that is 0 past its cells changes nothing
 pub cut-own : (f : ℕ → ℕ) (n : ℕ) → n ≤ mostCells → cutOf n (fillOf f n zeros) ≡ fillOf f n zeros
 cut-own f n h = fill-same (λ i. at (fillOf f n zeros) i) f n zeros (λ i l. fill-at f n zeros i l (omega (arith, length-zeros)))
 

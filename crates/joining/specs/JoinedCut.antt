@@ -1,4 +1,4 @@
--- Theorem: a record that reads, cut into two records after any cell but its last and joined again, is the same bytes. Assumes nothing.
+-- Theorem: a record that reads, cut into two records after any cell but its last and joined again, gives the same bytes. Assumes nothing.
 use mathlib.Core.Path.{_≡_, refl, sym, ap, subst, _∙_}
 use mathlib.Core.Bool.{cond}
 use mathlib.Core.Logic.{⊎-elim}
@@ -37,11 +37,11 @@ use Rattle.joining.specs.JoinedParts.{Parts, parts-answer, parts-joined}
 abbrev pub partOf : ℕ → ℕ → List ℕ → List ℕ
 partOf k m l = fillOf (λ i. at l (k + i)) m zeros
 
--- the shares of the first k cells, of which the last is now the road's last
+-- the shares of the first k cells; the last of these is now the road's last cell, with share 0
 abbrev pub upperShare : ℕ → List ℕ → ℕ → ℕ
 upperShare k l i = cond (eqb (i + 1) k) 0 (at l (0 + i))
 
--- m cells of a road from cell k on, behind a gate of this capacity, with these shares
+-- m cells of a road from cell k on, with a gate of this capacity and these shares
 abbrev pub partRoad : ℕ → ℕ → ℕ → List ℕ → Road → Road
 partRoad k m gate share r = record {
   n = m;
@@ -59,7 +59,7 @@ partRoad k m gate share r = record {
 abbrev pub partStart : ℕ → ℕ → ℕ → State → State
 partStart k m gate q = startState (record { «gate_queue» = gate; held = partOf k m (q .held); queue = partOf k m (q .queue) })
 
--- the first k cells of a study, with its gate; and the others, behind a gate of capacity 0 without queue or arrivals
+-- the first k cells of a study, with its gate; and the others, with a gate of capacity 0 without queue or arrivals
 abbrev pub upperOf : ℕ → Study → Study
 upperOf k a =
     study (partRoad 0 k (a .road .«gate_capacity») (fillOf (upperShare k (a .road .share)) k zeros) (a .road)) (partStart 0 k (a .start .«gate_queue») (a .start))
@@ -73,7 +73,7 @@ lowerOf k a =
 pub part-at : (k m : ℕ) (l : List ℕ) → m ≤ mostCells → (i : ℕ) → i < m → at (partOf k m l) i ≡ at l (k + i)
 part-at k m l h i b = fill-at (λ j. at l (k + j)) m zeros i b (omega (arith, length-zeros))
 
--- a part of a road within its limits is within them, where its gate, its shares and its number of cells are
+-- a part of a road within its limits is within them too, if its gate, its shares and its number of cells are
 module _ (r : Road) (ok : RoadOk r) (k m gate : ℕ) (share : List ℕ) (some : 1 ≤ m) (within : k + m ≤ r .n) (gated : gate ≤ mostRate)
     (shared : (i : ℕ) → i < m → at share i ≤ whole) (last : (i : ℕ) → i + 1 ≡ m → at share i ≡ 0) where
   few : m ≤ mostCells
@@ -112,7 +112,7 @@ module _ (r : Road) (ok : RoadOk r) (k m gate : ℕ) (share : List ℕ) (some : 
     cumulative = λ i b. omega (arith, zeros-at i);
   }
 
-  -- a row whose cells' numbers are the road's
+  -- a row whose numbers for the cells are the road's
   pub part-row : (row all : List ℕ) → RowOk r all → length row ≡ rowNumbers m → at row 0 ≤ mostRate
       → ((j : ℕ) → j < 2 * m → at row (1 + j) ≡ at all (1 + 2 * k + j)) → RowOk (partRoad k m gate share r) row
   part-row row all h long gate same =
@@ -179,7 +179,7 @@ module _ (s : List ℕ) (reads : readingOf s .number ≡ 0) (k : ℕ) (some : 1 
   cells : readingOf s .road .n ≤ mostCells
   cells = whole-ok .road .cells
 
-  -- the shares of both
+  -- the shares of both parts
   upper-share : (i : ℕ) → i < k → at (fillOf (upperShare k (readingOf s .road .share)) k zeros) i ≡ upperShare k (readingOf s .road .share) i
   upper-share i l = fill-at (upperShare k (r .share)) k zeros i l (omega (arith, length-zeros, cells, less))
 
@@ -206,13 +206,13 @@ module _ (s : List ℕ) (reads : readingOf s .number ≡ 0) (k : ℕ) (some : 1 
   lower-most : (i : ℕ) → i < readingOf s .road .n - k → at (partOf k (readingOf s .road .n - k) (readingOf s .road .share)) i ≤ whole
   lower-most i l = omega (arith, lower-share i l, whole-ok .road .share (k + i) (omega arith))
 
-  -- fewer cells are fewer bytes
+  -- fewer cells need fewer bytes
   fewer : (c : ℕ) → c ≤ readingOf s .road .n → sizeOf (readingOf s .road .version) c (readingOf s .steps) ≤ mostBytes
   fewer c l =
       let w : rowSize c ≤ rowSize (r .n) = omega arith in
       omega (arith, whole-ok .size, mul-le-mul-left (z .steps) w)
 
-  -- their rows
+  -- the rows of both parts
   upper-row : (t : ℕ) → t < readingOf s .steps
       → RowOk (partRoad 0 k (readingOf s .road .«gate_capacity») (fillOf (upperShare k (readingOf s .road .share)) k zeros) (readingOf s .road))
       (take (rowNumbers k) (recordRow s (readingOf s .road .n) t))
@@ -248,7 +248,7 @@ module _ (s : List ℕ) (reads : readingOf s .number ≡ 0) (k : ℕ) (some : 1 
       (0 ∷ drop (rowNumbers k) all) all h (lower-length t) (omega arith)
       (λ j b. lower-number t j)
 
-  -- both are within the limits
+  -- both parts are within the limits
   upper-ok : Recordable (upperOf k (studyOf s []))
   upper-ok = record {
     version = whole-ok .version;
@@ -278,7 +278,7 @@ module _ (s : List ℕ) (reads : readingOf s .number ≡ 0) (k : ℕ) (some : 1 
     row = lower-row;
   }
 
-  -- so both read
+  -- so both records read
   abbrev up : List ℕ
   up = recordOf (upperOf k (studyOf s []))
 
@@ -305,7 +305,7 @@ module _ (s : List ℕ) (reads : readingOf s .number ≡ 0) (k : ℕ) (some : 1 
       let start = start-part k m 0 (z .state) (omega (arith, cells)) in
       reads-back (lowerOf k a) lower-ok ∙ rw (road, start)
 
-  -- and are the record's parts
+  -- and they are the parts of the record
   column : (l : List ℕ) → ((i : ℕ) → readingOf s .road .n ≤ i → at l i ≡ 0)
       → Joined k (readingOf s .road .n - k) (partOf 0 k l) (partOf k (readingOf s .road .n - k) l) l
   column l past = record {
@@ -392,7 +392,7 @@ module _ (s : List ℕ) (reads : readingOf s .number ≡ 0) (k : ℕ) (some : 1 
     };
   }
 
-  -- joined again with the share that the joint had, they are the record
+  -- joined again with the joint's own share they give the record
   module _ (small : (i : ℕ) → at s i < 256) (target : List ℕ) (room : length s ≤ length target) where
     pub cut-answer : joiningOf (recordOf (upperOf k (studyOf s []))) (recordOf (lowerOf k (studyOf s []))) (at (readingOf s .road .share) (k - 1)) target
         ≡ written (length s)

@@ -1,4 +1,4 @@
--- Of two studies within the limits, the joined one is within them too. Assumes nothing.
+-- If two studies are within the limits, so is the joined study. Assumes nothing.
 use mathlib.Core.Path.{_≡_, sym, ap, _∙_}
 use mathlib.Core.Logic.{⊎-elim}
 use mathlib.Core.List.{List}
@@ -20,7 +20,7 @@ use Rattle.writing.specs.ReadBack.{Recordable}
 use Rattle.model.specs.Joining.{joinedEntry, joinedColumn, joinedShare, joinedRoad, joinedStart, joinedRow, joinedStudy}
 use Rattle.joining.specs.JoinedColumns.{halves, Joined, JoinedShares, column-joined, shares-joined, row-joined, cut-own}
 
--- a limit of all entries of both
+-- a limit that holds for all entries of both
 most-joined : (n m most : ℕ) {up down l : List ℕ} → Joined n m up down l → ((i : ℕ) → i < n → at up i ≤ most) → ((i : ℕ) → i < m → at down i ≤ most)
     → (i : ℕ) → i < n + m → at l i ≤ most
 most-joined n m most {up} {down} {l} j h k =
@@ -64,7 +64,7 @@ module _ (a b : Road) (share : ℕ) (ra : RoadOk a) (rb : RoadOk b) (stated : sh
     capacity = most-joined n m mostRate (column (a .capacity) (b .capacity)) (ra .capacity) (rb .capacity);
   }
 
-  -- it is 0 past its cells, as a road that was read is
+  -- it is 0 past its cells, like every road that was read
   pub road-cut : keptSeconds (a .version) (a .seconds) ≡ a .seconds → cutRoad (joinedRoad a b share) ≡ joinedRoad a b share
   road-cut e =
       rw (

@@ -1,4 +1,4 @@
--- Theorem: a record cut into two at a cell and joined again is the same bytes. Assumes nothing.
+-- Theorem: a record cut into two after a cell and joined again gives the same bytes. Assumes nothing.
 use mathlib.Core.Path.{_≡_, refl, sym, ap, _∙_}
 use mathlib.Core.Logic.{⊎-elim}
 use mathlib.Core.List.{List, []}
@@ -30,7 +30,7 @@ use Rattle.joining.specs.JoinedColumns.{halves, Joined, JoinedShares, Jo
 use Rattle.joining.specs.JoinedTests.{Idle}
 use Rattle.joining.specs.Theorems.{Both, Asked, Stands, RowStands, joins-if, joined-bytes}
 
--- the columns, the shares and the rows of both are no other
+-- the joined columns, shares and rows are those of the record
 module _ (n m : ℕ) {l r : List ℕ} (long : length l ≡ length r) where
   all-entries : ((i : ℕ) → i < n + m → at l i ≡ at r i) → ((i : ℕ) → n + m ≤ i → at l i ≡ at r i) → l ≡ r
   all-entries h k = ext-getD 0 l r long (λ i _. ⊎-elim (λ (q : n + m ≤ i). k i q) (λ (q : i < n + m). h i q) (order (n + m) i))
@@ -72,7 +72,7 @@ module _ (n m : ℕ) {up down l r : List ℕ} (a : JoinedNumbers n m up down l) 
   pub row-same : l ≡ r
   row-same = ext-getD 0 l r (a .numbers ∙ sym (b .numbers)) (λ k q. number k (omega (arith, a .numbers)))
 
--- a road by its fields
+-- a road with equal fields
 same-road : (r : Road) {n version seconds gate : ℕ} {speed wave share ramp jam capacity : List ℕ}
     → n ≡ r .n → version ≡ r .version → seconds ≡ r .seconds → gate ≡ r .«gate_capacity»
     → speed ≡ r .speed → wave ≡ r .wave → share ≡ r .share → ramp ≡ r .ramp → jam ≡ r .jam → capacity ≡ r .capacity
@@ -90,8 +90,8 @@ same-road : (r : Road) {n version seconds gate : ℕ} {speed wave share ramp jam
     }) r
 same-road r n v s g speed wave share ramp jam capacity = rw (n, v, s, g, speed, wave, share, ramp, jam, capacity)
 
--- upstream and downstream are the parts of a record: its cells up to one and those from there on, the joint's share apart, its rows' numbers of these cells
--- and T, version and seconds; the upper part has its gate, the lower one's has no queue and no arrival
+-- upstream and downstream are the parts of a record: its cells up to one and those after it (the joint's share apart), their numbers in its
+-- rows, and T, version and seconds. The upper part has the record's gate; the lower part's gate has no queue and no arrivals
 pub record Parts (s up down : List ℕ) (share : ℕ) : Type 0 where
   pub reads : readingOf s .number ≡ 0
   pub both : Both up down
@@ -164,7 +164,7 @@ module _ (s up down : List ℕ) (share : ℕ) (small : (i : ℕ) → at s i < 25
   abbrev rows : ℕ → List ℕ
   rows = λ t. joinedRow (recordRow up n t) (recordRow down m t)
 
-  -- the joined record is the whole
+  -- the joined record is the whole record
   pub parts-bytes : recordOf (joinedOf up down share) ≡ s
   parts-bytes =
       ap (λ (r : Road). recordOf (study r (joinedStart n m (x .state) (y .state)) (x .steps) rows [])) road
@@ -180,7 +180,7 @@ module _ (s up down : List ℕ) (share : ℕ) (small : (i : ℕ) → at s i < 25
       ∙ ap (λ (T : ℕ). sizeOf (z .road .version) (z .road .n) T) (sym (k .steps .0))
       ∙ read-size s (p .reads)
 
-  -- joining isn't refused where the record has room, and counts its bytes
+  -- joining isn't refused if the record has room, and counts its bytes
   module _ (target : List ℕ) (room : length s ≤ length target) where
     asked : Asked up down share target
     asked =
@@ -203,7 +203,7 @@ module _ (s up down : List ℕ) (share : ℕ) (small : (i : ℕ) → at s i < 25
     pub parts-answer : joiningOf up down share target ≡ written (length s)
     parts-answer = joins-if up down share target asked ∙ ap written size
 
-    -- and the target then begins with exactly these bytes
+    -- the target then begins with exactly these bytes
     pub parts-joined : take (length s) (joinedTarget up down share target) ≡ s
     parts-joined =
         let h : joiningOf up down share target .number ≡ 0 = ap (λ (q : WriteAnswer). q .number) parts-answer in

@@ -1,4 +1,4 @@
--- Which refusal of joining comes first, on paper, and what the tests of 20, 21 and 22 say, as facts. Assumes nothing.
+-- The order of joining's refusals, worked out in numbers, and the tests of 20, 21 and 22 as facts. Assumes nothing.
 use mathlib.Core.Path.{_≡_, refl}
 use mathlib.Core.Bool.{true}
 use mathlib.Core.List.{List, [], _∷_}
@@ -17,7 +17,7 @@ use Rattle.model.specs.Encoding.{recordSize}
 use Rattle.model.specs.Writing.{unwritten}
 use Rattle.model.specs.Joining.{alike, gateIdle, joinedFits, joiningBy, joiningOf}
 
--- a road of n cells and T steps without rows, whose numbers are 0 but for the gate's queue
+-- a road of n cells and T steps without rows, whose numbers are 0 except the gate's queue
 abbrev blank : ℕ → ℕ → ℕ → Study
 blank n T queue = study (record {
   n = n;
@@ -55,7 +55,7 @@ pub record Alike (a b : Study) : Type 0 where
   pub version : a .road .version ≡ b .road .version
   pub seconds : a .road .seconds ≡ b .road .seconds
 
--- 21 doesn't apply: the gate has no queue and, in no step, an arrival
+-- 21 doesn't apply: the gate has no queue and in no step an arrival
 pub record Idle (b : Study) : Type 0 where
   pub queue : b .start .«gate_queue» ≡ 0
   pub arrivals : (t : ℕ) → t < b .steps → at (b .rows t) 0 ≡ 0

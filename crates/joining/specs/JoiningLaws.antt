@@ -27,34 +27,34 @@ use Rattle.model.specs.Joining.{joinedStudy, alike, gateIdle, joinedFits, joini
 use Rattle.joining.specs.Theorems.{joins-only, reads-as-joined}
 use Rattle.joining.specs.JoinedBytes.{Joins}
 
--- 21 in the bytes: the gate has no arrival in step t; no queue and, in no step, an arrival
+-- 21 in the bytes: the gate has no arrival in step t; it has no queue, and no arrival in any step
 abbrev pub noArrival : List ℕ → ℕ → ℕ → Bool
 noArrival s n t = eqb (at (recordRow s n t) 0) 0
 
 abbrev pub idleBy : List ℕ → ℕ → ℕ → ℕ → Bool
 idleBy s n T queue = eqb queue 0 && allOf (noArrival s n) T
 
--- the gate's arrivals, where the code reads them
+-- the gate's arrivals, as the code reads them
 pub gate-number : (s : List ℕ) (n t : ℕ) {start x : ℕ} → start ≡ rowStart (versionOf s) n t → x ≡ numberOf s start numberSize
     → x ≡ at (recordRow s n t) 0
 gate-number s n t {start} {x} e k =
     let z : start ≡ entryStart (versionOf s) n t 0 = omega (arith, e) in
     k ∙ ap (λ (i : ℕ). numberOf s i numberSize) z ∙ sym (row-at s n t 0 (omega arith))
 
--- a queue at the gate, or else the loop over the steps decides
+-- the gate has a queue, or the loop over the steps decides
 pub idle-queue : (s : List ℕ) (n T queue : ℕ) → (queue ≡ 0 → ⊥) → false ≡ idleBy s n T queue
 idle-queue s n T queue h = rw (ne-eqb queue 0 h)
 
 pub idle-steps : (s : List ℕ) (n T queue : ℕ) {t : Bool} → queue ≡ 0 → t ≡ allOf (noArrival s n) T → t ≡ idleBy s n T queue
 idle-steps s n T queue h e = e ∙ rw (eq-eqb queue 0 h)
 
--- what the tests require of two records that read
+-- what the tests require from two records that read
 pub record Joinable (road : Road) (T : ℕ) (down : List ℕ) (next : Road) (nextT : ℕ) : Type 0 where
   pub cells : road .n ≤ mostCells
   pub steps : T ≤ mostSteps
   pub downstream : Steps down (next .n) nextT
 
--- 22's test: too many cells, or else the size's
+-- the test of 22: too many cells, or else the test of the size
 module _ (version n T : ℕ) where
   pub too-many : mostCells < n → false ≡ leb n mostCells && leb (sizeOf version n T) mostBytes
   too-many h = rw (lt-leb n mostCells h)
@@ -92,7 +92,7 @@ module _ (a b : Study) (share room : ℕ) where
           pub answer-written : recordSize joined ≤ room → written (recordSize joined) ≡ joiningBy a b share room
           answer-written l = rw (le-leb share whole h, k, g, f, le-leb (recordSize joined) room l)
 
--- what joining answers, and what it leaves of the target; without a refusal that reads as the joined road
+-- joining's answer, and the target that it leaves; without a refusal the target reads as the joined road
 pub record Left (up down : List ℕ) (share : ℕ) (target : List ℕ) (a : WriteAnswer) (left : List ℕ) : Type 0 where
   pub says : a ≡ joiningOf up down share target
   pub leaves : left ≡ joinedTarget up down share target
@@ -104,7 +104,7 @@ promise {up} {down} {share} {target} h e =
     let says = e ∙ h .says in
     (says, (h .leaves, λ z. reads-as-joined up down share target says (h .leaves) z))
 
--- each end of it
+-- each case of the answer
 module _ (up down : List ℕ) (share : ℕ) (target : List ℕ) where
   left-refused : (a : WriteAnswer) → (a .number ≡ 0 → ⊥) → a ≡ joiningOf up down share target → Left up down share target a target
   unfolding joinedTarget

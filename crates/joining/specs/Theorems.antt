@@ -29,7 +29,7 @@ pub record Both (up down : List ℕ) : Type 0 where
   pub upper : readingOf up .number ≡ 0
   pub lower : readingOf down .number ≡ 0
 
--- what holds where nothing is refused
+-- what holds if nothing is refused
 pub record Asked (up down : List ℕ) (share : ℕ) (target : List ℕ) : Type 0 where
   pub both : Both up down
   pub stated : share ≤ whole
@@ -39,7 +39,7 @@ pub record Asked (up down : List ℕ) (share : ℕ) (target : List ℕ) : Type 0
   pub room : recordSize (joinedOf up down share) ≤ length target
 
 -- 'Each input must first read without refusal, upstream first. A joint's share above 1,000 is 5 at the upstream road's last cell. Then come 20, 21 and 22,
--- all before 15': the ends of joining, each refusal with all that comes before it, and what each leaves of the target
+-- all before 15': the cases of joining's answer, each refusal with everything before it, and the target that each leaves
 pub data Ends (up down : List ℕ) (share : ℕ) (target : List ℕ) : WriteAnswer → List ℕ → Type 0 where
   upperUnread : (readingOf up .number ≡ 0 → ⊥) → Ends up down share target (unwritten (readingOf up .number) (readingOf up .place)) target
   lowerUnread : readingOf up .number ≡ 0 → (readingOf down .number ≡ 0 → ⊥)
@@ -95,7 +95,7 @@ module _ (up down : List ℕ) (share : ℕ) (target : List ℕ) where
         room = leb-true (recordSize j) (length target) w;
       }))))))))
 
--- no refusal comes exactly where all of this holds
+-- there is no refusal exactly if all of these conditions hold
 joined-asked : {up down : List ℕ} {share : ℕ} {target : List ℕ} {a : WriteAnswer} {after : List ℕ} → Ends up down share target a after → a .number ≡ 0
     → Asked up down share target
     × ((a ≡ written (recordSize (joinedOf up down share)))
@@ -124,7 +124,7 @@ pub joins-if : (up down : List ℕ) (share : ℕ) (target : List ℕ) → Asked 
     → joiningOf up down share target ≡ written (recordSize (joinedOf up down share))
 joins-if up down share target = asked-joined (ends up down share target)
 
--- 'No refusal touches the target', and it counts 0 bytes
+-- 'No refusal touches the target', and the count is 0
 refused-left : {up down : List ℕ} {share : ℕ} {target : List ℕ} {a : WriteAnswer} {after : List ℕ} → Ends up down share target a after → (a .number ≡ 0 → ⊥)
     → (after ≡ target) × (a .count ≡ 0)
 refused-left (Ends.upperUnread h) n = (refl, refl)
@@ -145,7 +145,7 @@ abbrev pub joinedBytes : List ℕ → List ℕ → ℕ → List ℕ → List ℕ
 joinedBytes up down share target = take (joiningOf up down share target .count) (joinedTarget up down share target)
 
 -- 'Upstream cells, then downstream cells, with a stated onward share for the joint. The second gate is dropped, and all else stands as it was':
--- a reading z beside the readings x of upstream and y of downstream
+-- the reading z of the joined record, compared with the readings x of upstream and y of downstream
 pub record Stands (share : ℕ) (x y z : ReadAnswer) : Type 0 where
   pub cells : z .road .n ≡ x .road .n + y .road .n
   pub steps : (z .steps ≡ x .steps) × (z .steps ≡ y .steps)
@@ -165,13 +165,13 @@ pub record Stands (share : ℕ) (x y z : ReadAnswer) : Type 0 where
   pub held : Joined (x .road .n) (y .road .n) (x .state .held) (y .state .held) (z .state .held)
   pub queue : Joined (x .road .n) (y .road .n) (x .state .queue) (y .state .queue) (z .state .queue)
 
--- 'rows joined step by step': each row of the bytes beside those of both
+-- 'rows joined step by step': each row of the bytes, compared with those of both records
 abbrev pub RowStands : List ℕ → List ℕ → List ℕ → ℕ → Type 0
 RowStands up down bytes t =
     JoinedNumbers (readingOf up .road .n) (readingOf down .road .n)
     (recordRow up (readingOf up .road .n) t) (recordRow down (readingOf down .road .n) t) (recordRow bytes (readingOf bytes .road .n) t)
 
--- where joining isn't refused
+-- if joining isn't refused
 module _ (up down : List ℕ) (share : ℕ) (target : List ℕ) (h : joiningOf up down share target .number ≡ 0) where
   abbrev x : ReadAnswer
   x = readingOf up
@@ -191,7 +191,7 @@ module _ (up down : List ℕ) (share : ℕ) (target : List ℕ) (h : joiningOf u
   pub joins-only : Asked up down share target
   joins-only = joined-asked (ends up down share target) h .0
 
-  -- 'What is returned and the bytes beyond are as in writing': the record's bytes are counted, and those beyond are untouched
+  -- 'What is returned and the bytes beyond are as in writing': the record's bytes are counted, and the bytes beyond them are unchanged
   pub joined-count : joiningOf up down share target .count ≡ recordSize (joinedOf up down share)
   joined-count = ap (λ (q : WriteAnswer). q .count) (joined-asked (ends up down share target) h .1 .0)
 
@@ -227,7 +227,7 @@ module _ (up down : List ℕ) (share : ℕ) (target : List ℕ) (h : joiningOf u
       let start = start-cut (x .road) (y .road) share u d (k .stated) (k .small .cells) (x .state) (y .state) in
       ap readingOf joined-bytes ∙ reads-back result within ∙ rw (road, start)
 
-  -- and its rows are upstream's, each followed by downstream's without its gate
+  -- its rows are upstream's, each followed by downstream's without its gate arrivals
   pub joined-rows : (t : ℕ) → t < readingOf up .steps
       → recordRow (joinedBytes up down share target) (readingOf up .road .n + readingOf down .road .n) t
       ≡ joinedRow (recordRow up (readingOf up .road .n) t) (recordRow down (readingOf down .road .n) t)
@@ -263,7 +263,7 @@ module _ (up down : List ℕ) (share : ℕ) (target : List ℕ) (h : joiningOf u
       subst (λ (row : List ℕ). JoinedNumbers n m (recordRow up n t) (recordRow down m t) row) (sym rows)
       (row-joined n m (recordRow up n t) (recordRow down m t) (length-row up n t) (length-row down m t))
 
--- by the answer and the target at exit
+-- the same for an answer and a target that equal these
 pub reads-as-joined : (up down : List ℕ) (share : ℕ) (target : List ℕ) {a : WriteAnswer} {after : List ℕ} → a ≡ joiningOf up down share target
     → after ≡ joinedTarget up down share target → a .number ≡ 0 → ReadsJoined up down share (a .count) after
 reads-as-joined up down share target ea et z =

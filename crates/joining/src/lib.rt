@@ -33,7 +33,7 @@ fn gate_arrivals(bytes: &[u8], n: usize, t: usize) -> u32
     fields::number(bytes, start, fields::NUMBER_SIZE)
 }
 
-// Whether a gate has no queue and, in no step, an arrival.
+// Whether a gate has no queue and no arrival in any step.
 fn gate_idle(bytes: &[u8], n: usize, steps: usize, queue: u32) -> bool
     requires { ⌜ Steps (now bytes) n steps ⌝ }
     ensures { λ r. ⌜ r ≡ idleBy (now (bytes .entry)) n steps queue ⌝ }
@@ -58,7 +58,7 @@ fn alike(road: Road, steps: usize, next: Road, next_steps: usize) -> bool
     (steps == next_steps) & ((road.version == next.version) & (road.seconds == next.seconds))
 }
 
-// Whether a record of n cells has at most 64 of them and 65,536 bytes.
+// Whether n is at most 64 and a record of n cells has at most 65,536 bytes.
 fn fits(version: u8, n: usize, steps: usize) -> bool
     requires { ⌜ steps ≤ mostSteps ⌝ }
     ensures { λ r. ⌜ r ≡ leb n mostCells && leb (sizeOf version n steps) mostBytes ⌝ }
@@ -69,7 +69,7 @@ fn fits(version: u8, n: usize, steps: usize) -> bool
     fields::row_start(version, n, steps) <= Road::BYTES
 }
 
-// Of two records that read: 5 at the joint, 20, 21, 22 and 15, or the count of bytes that the joined record takes.
+// For two records that read: 5 at the joint, 20, 21, 22 and 15, or the count of the joined record's bytes.
 fn checked(
     road: Road,
     steps: usize,
@@ -121,7 +121,7 @@ fn with_share(road: Road, share: u16) -> Road
     joint
 }
 
-// A row, then the next road's without its gate arrivals.
+// Puts a row, then the next road's without its gate arrivals.
 fn put_joined_row(target: &mut [u8], at: usize, row: &[u32], next: &[u32]) -> usize
     requires { ⌜ (1 ≤ length (now next)) × (at + length (joinedRow (now row) (now next)) * numberSize ≤ length (now target)) ⌝ }
     ensures { λ e. ⌜ Puts (now (target .entry)) at
@@ -131,7 +131,7 @@ fn put_joined_row(target: &mut [u8], at: usize, row: &[u32], next: &[u32]) -> us
     encoding::put_row(target, end, &next[1..])
 }
 
-// The rows of all steps, joined step by step.
+// Puts the rows of all steps, joined step by step.
 fn put_joined_rows(
     target: &mut [u8],
     at: usize,
@@ -158,7 +158,7 @@ fn put_joined_rows(
     end
 }
 
-// The joined record's bytes at the start of the target.
+// Puts the joined record's bytes at the start of the target.
 fn put_joined(
     target: &mut [u8],
     upstream: &[u8],
@@ -193,7 +193,7 @@ fn put_joined(
     put_joined_rows(target, to_rows, upstream, n, downstream, m, steps)
 }
 
-// Joins two records into the target, or leaves it as it is: what reading refuses, upstream first, then 5, 20, 21, 22 and 15.
+// Joins two records into the target, or leaves it unchanged: the refusals of reading, upstream first, then 5, 20, 21, 22 and 15.
 pub fn join(upstream: &[u8], downstream: &[u8], share: u16, target: &mut [u8]) -> Written
     ensures answer { λ a. ⌜ writeAnswer a ≡ joiningOf (now (upstream .entry)) (now (downstream .entry)) share (now (target .entry)) ⌝ }
     ensures target { λ a. ⌜ now (target .exit) ≡ joinedTarget (now (upstream .entry)) (now (downstream .entry)) share (now (target .entry)) ⌝ }

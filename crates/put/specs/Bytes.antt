@@ -1,4 +1,4 @@
--- Laws of a number's bytes placed into a list: it is read there, and all that lies apart from it is as it was. Assumes nothing.
+-- Laws of a number's bytes placed into a list: the number is read there, and everything outside it is unchanged. Assumes nothing.
 use mathlib.Core.Path.{_≡_, refl, sym, ap, _∙_}
 use mathlib.Core.Logic.{_⊎_, ⊎-elim, inl, inr}
 use mathlib.Core.List.{List, _++_, append-assoc}
@@ -15,7 +15,7 @@ use Rattle.model.specs.Record.{numberSize, numberOf, bytesOf}
 use Rattle.fields.specs.BytesLaws.{length-bytes, number-same, field-number}
 use Rattle.model.specs.Filling.{Outside}
 
--- the v places from j and the w places from i do not meet
+-- the v bytes from j on and the w bytes from i on do not overlap
 abbrev pub Apart : ℕ → ℕ → ℕ → ℕ → Type 0
 Apart j v i w = (j + v ≤ i) ⊎ (i + w ≤ j)
 
@@ -23,7 +23,7 @@ pub apart-outside : (j v i w k : ℕ) → Apart j v i w → k < v → Outside (j
 apart-outside j v i w k (_⊎_.inl h) l = inl (omega arith)
 apart-outside j v i w k (_⊎_.inr h) l = inr (omega arith)
 
--- two numbers in order
+-- two numbers are equal, or one is smaller
 pub compare : (a b : ℕ) → (a ≡ b) ⊎ ((a < b) ⊎ (b < a))
 compare zero zero = inl refl
 compare zero (suc b) = inr (inl (omega arith))
@@ -77,7 +77,7 @@ module _ (s : List ℕ) (i w x : ℕ) (room : i + w ≤ length s) where
       field-number (placed s i (bytesOf w x)) i i w x refl l
       (record { byte = λ k h. placed-at s i (bytesOf w x) fits k (omega (arith, length-bytes w x)) })
 
-  -- any number apart from it is as it was
+  -- a number that does not overlap it is unchanged
   pub number-apart : (j v : ℕ) → Apart j v i w → numberOf (placed s i (bytesOf w x)) j v ≡ numberOf s j v
   number-apart j v a = number-same (placed s i (bytesOf w x)) s j j v (λ k l. byte-other (j + k) (apart-outside j v i w k a l))
 
@@ -90,7 +90,7 @@ zero-bytes s i (suc w) e k l = ⊎-elim
     (λ (m : k < w). zero-bytes s i w (omega arith) k m)
     (eq-or-lt-of-le (le-of-suc-le-suc l))
 
--- so 0 placed where 0 is changes nothing
+-- so putting 0 where 0 is changes nothing
 module _ (s : List ℕ) (i : ℕ) (room : i + numberSize ≤ length s) (z : numberOf s i numberSize ≡ 0) where
   abbrev zeroed : List ℕ
   zeroed = placed s i (bytesOf numberSize 0)

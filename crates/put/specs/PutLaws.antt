@@ -1,4 +1,4 @@
--- Laws of putting a release: what each test says, and each end of it. Assumes nothing.
+-- Laws of putting a release: its tests, and each case of its answer. Assumes nothing.
 use mathlib.Core.List.{List}
 use Prim.Native.Nat.{ℕ, _≤_, zero, suc, _-_, _<_}
 use mathlib.Core.Path.{_≡_, refl, sym, ap, _∙_}
@@ -14,7 +14,7 @@ use Rattle.model.specs.Refusals.{FaultAnswer, fault}
 use Rattle.model.specs.Reading.{ReadAnswer, readingOf}
 use Rattle.model.specs.Put.{rampOk, stepAndRateOk, releasedAt, puttingOf, releasedRecord, Ramp}
 
--- what putting a release there requires: the bytes hold the row, and the cell is on the road
+-- what putting a release requires: the bytes hold the row, and the cell is on the road
 pub record Place (bytes : List ℕ) (n step cell : ℕ) : Type 0 where
   pub row : HoldsRow bytes n step
   pub within : cell ≤ n
@@ -52,7 +52,7 @@ at-cell ramp n (suc i) l m =
     let e : suc i - 1 ≡ i = omega arith in
     rw (le-leb (suc i) n m, e)
 
--- the row's number, as the code has it
+-- the tests of the step and the release, as facts
 pub rates-facts : (step T release : ℕ) → stepAndRateOk step T release ≡ true → (step < T) × (release ≤ mostRate)
 rates-facts step T release h =
     let a = and-true (ltb step T) (leb release mostRate) h in
@@ -61,12 +61,12 @@ rates-facts step T release h =
 pub facts-rates : (step T release : ℕ) → step < T → release ≤ mostRate → stepAndRateOk step T release ≡ true
 facts-rates step T release l m = both-true (ltb step T) (leb release mostRate) (lt-ltb step T l) (le-leb release mostRate m)
 
--- what putting answers, and what it leaves of the record
+-- putting's answer, and the record that it leaves
 pub record Left (bytes : List ℕ) (step cell release : ℕ) (a : FaultAnswer) (left : List ℕ) : Type 0 where
   pub says : a ≡ puttingOf bytes step cell release
   pub leaves : left ≡ releasedRecord bytes step cell release
 
--- an answer with a refusal leaves the record as it was, one without puts the release
+-- an answer with a refusal leaves the record unchanged; one without puts the release
 left-refused : (bytes : List ℕ) (step cell release : ℕ) (a : FaultAnswer) → (a .number ≡ 0 → ⊥) → a ≡ puttingOf bytes step cell release
     → Left bytes step cell release a bytes
 unfolding releasedRecord

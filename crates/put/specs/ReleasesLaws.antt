@@ -1,4 +1,4 @@
--- Laws of releases put into a record: what is put is there, and nothing else changes. Assumes nothing.
+-- Laws of releases put into a record: they are there, and nothing else changes. Assumes nothing.
 use mathlib.Core.Path.{_≡_, refl, sym, ap, _∙_}
 use mathlib.Core.Logic.{_⊎_, ⊎-elim, inl, inr}
 use mathlib.Core.List.{List, [], _∷_}
@@ -50,7 +50,7 @@ module _ (s : List ℕ) (n t k x : ℕ) (l : k < 1 + 2 * n) (held : HoldsRow s n
   room : entryStart (versionOf s) n t k + numberSize ≤ length s
   room = omega (arith, held .row)
 
-  -- the header, and so the layout, is as it was
+  -- the header, and so the layout, is unchanged
   kept : versionOf u ≡ versionOf s
   kept = number-apart s start numberSize x room versionOffset 1 (inl (omega arith))
 
@@ -80,7 +80,7 @@ module _ (s : List ℕ) (n t k x : ℕ) (l : k < 1 + 2 * n) (held : HoldsRow s n
     rows = λ q d. row-by u n q (recordRow s n q) (length-row s n q) (λ j a. others q j a (λ e _. d e) ∙ sym (row-at s n q j a));
   }
 
--- a row with its releases given
+-- a row with given releases
 pub length-released : (f : ℕ → ℕ) (c : ℕ) (row : List ℕ) → length (releasedRow f c row) ≡ length row
 unfolding releasedRow
 length-released f zero row = refl
@@ -135,9 +135,9 @@ put-releases s n t f (suc c) h l m =
     let held : HoldsRow (putReleases s n t f c) n t = record { cells = l .cells; row = rw (p .version) (omega (arith, p .size, l .row)) } in
     put-more c p (put-entry (putReleases s n t f c) n t (releaseNumber c) (f c) (omega arith) held (m c (omega arith)))
 
--- releases of 0 put where 0 is change nothing
+-- putting releases of 0 where 0 is changes nothing
 module _ (s : List ℕ) (n t : ℕ) (f : ℕ → ℕ) (held : HoldsRow s n t) (small : (i : ℕ) → f i < 2 ^ 32) where
-  -- the cell at i has a release of 0, and gets none
+  -- the release of the cell at i is 0, and 0 is put there
   abbrev pub NoRelease : ℕ → Type 0
   NoRelease i = (f i ≡ 0) × (at (recordRow s n t) (releaseNumber i) ≡ 0)
 
@@ -165,7 +165,7 @@ module _ (s : List ℕ) (n t : ℕ) (f : ℕ → ℕ) (held : HoldsRow s n t) (s
       let e : a + (b - a) ≡ b = omega arith in
       ap (putReleases s n t f) (sym e) ∙ put-skip a (b - a) (omega arith) (λ i x y. z i x (omega arith))
 
--- only the releases of those cells matter
+-- only the releases of these cells matter
 pub put-same : (s : List ℕ) (n t : ℕ) (f g : ℕ → ℕ) (c : ℕ) → ((i : ℕ) → i < c → f i ≡ g i) → putReleases s n t f c ≡ putReleases s n t g c
 unfolding putReleases
 put-same s n t f g zero h = refl
@@ -208,7 +208,7 @@ put-table s n f (suc k) h m =
     let held : HoldsRow (putTable s n f k) n k = record { cells = w .cells; row = rw (p .version) (omega (arith, p .size, w .row)) } in
     table-more k p (put-releases (putTable s n f k) n k (f k) n (le-refl n) held (λ i a. m k i (omega arith) a))
 
--- the bytes before the rows are as they were
+-- the bytes before the rows are unchanged
 pub table-head : {s u : List ℕ} {n : ℕ} {f : ℕ → ℕ → ℕ} {k : ℕ} → PutTable s u n f k → (b : ℕ) → b < rowStart (versionOf s) n 0
     → at u b ≡ at s b
 table-head {n = n} p b l = p .byte b (λ t i h m. inl (omega (arith, mul-le-mul-right {m = 0} {n = t} (rowSize n) (omega arith))))

@@ -1,5 +1,5 @@
--- Theorems: a record that differs from another in its rows alone reads the same where its rows pass and fail alike, and where the other reads and
--- its own rows are within the limits. Assumes nothing.
+-- Theorems about two records that differ only in their rows. They read the same if the same rows pass, and if one reads and the other's rows
+-- are within the limits. Assumes nothing.
 use mathlib.Core.Path.{_≡_, sym, ap, _∙_}
 use mathlib.Core.Bool.{true, _&&_}
 use mathlib.Core.List.{List}
@@ -28,7 +28,7 @@ use Rattle.reading.specs.Cases.{Accepted, Found, read-found, early-refused, rea
 abbrev rowsFirst : List ℕ → ℕ
 rowsFirst s = firstOf (stepOk s (roadOf s)) (stepsOf s)
 
--- what reading answers, by a record's length, its header, its road and start, and that row
+-- what reading answers, from a record's length, its header, its road and start, and that row
 abbrev answerBy : ℕ → ℕ → ℕ → ℕ → ℕ → ℕ → Road → State → ℕ → ReadAnswer
 answerBy size count version n T seconds r q first =
     unless (leb (leastSize bothVersions version) size && (leb size mostBytes && eqb count (size - countSize))) (refusedOf 1 0)
@@ -95,7 +95,7 @@ module _ (s u : List ℕ) (head : (b : ℕ) → b < rowStart (versionOf s) (cell
     size = rw (size, version) (h .size);
   }
 
-  -- what reading goes by, beside the rows
+  -- what reading depends on, except the rows
   steps : stepsOf u ≡ stepsOf s
   steps = number stepsOffset shortSize (omega arith)
 
@@ -109,7 +109,7 @@ module _ (s u : List ℕ) (head : (b : ℕ) → b < rowStart (versionOf s) (cell
       ∙ ap (firstOf (stepOk u (roadOf s))) steps
       ∙ first-same (stepOk u (roadOf s)) (stepOk s (roadOf s)) (stepsOf s) h
 
-  -- rows that pass and fail alike leave the answer as it was, a refusal too
+  -- if the same rows pass, the answer is the same, also a refusal
   pub reading-alike : length u ≡ length s → ((t : ℕ) → t < stepsOf s → stepOk u (roadOf s) t ≡ stepOk s (roadOf s) t) → readingOf u ≡ readingOf s
   unfolding readingBy
   reading-alike size h =
@@ -142,7 +142,7 @@ module _ (s u : List ℕ) (size : length u ≡ length s) where
   found-same (Found.atStep t l) h head rows = absurd (omega arith)
   found-same (Found.clear w) h head rows = reading-same s u head w size rows
 
-  -- rows replaced by rows within the limits leave the answer as it was
+  -- replacing the rows by rows within the limits does not change the answer
   pub rows-replaced : readingOf s .number ≡ 0 → ((b : ℕ) → b < rowStart (versionOf s) (readingOf s .road .n) 0 → at u b ≡ at s b) → RowsOk u (readingOf s)
       → readingOf u ≡ readingOf s
   rows-replaced = found-same (read-found s)

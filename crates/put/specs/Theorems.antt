@@ -1,5 +1,5 @@
--- The theorems of putting a release: exactly that number changes, all else of the record and of its reading stays; each refusal comes exactly where
--- it should, and leaves the record as it was. Assumes nothing.
+-- The theorems of putting a release: exactly that number changes, and the record reads as before; each refusal applies exactly as
+-- on the page, and leaves the record unchanged. Assumes nothing.
 use mathlib.Core.Path.{_≡_, refl, sym, ap, _∙_}
 use mathlib.Core.Logic.{_⊎_, ⊎-elim, inl}
 use mathlib.Core.List.{List}
@@ -26,7 +26,7 @@ use Rattle.put.specs.ReleasesLaws.{put-entry}
 use Rattle.put.specs.SameReading.{rows-replaced}
 use Rattle.put.specs.PutLaws.{ramp-facts, facts-ramp, rates-facts, facts-rates, Left}
 
--- a row within its limits stays so with the release of a ramp
+-- a row within its limits stays within them if a ramp's release is put into it
 module _ (r : Road) (row : List ℕ) (h : RowOk r row) (cell x : ℕ) (ramp : Ramp (r .ramp) (r .n) cell) (l : x ≤ mostRate) where
   other : (j : ℕ) → (2 * cell ≡ j → ⊥) → at (set row (2 * cell) x) j ≡ at row j
   other j d = getD-set-other row (2 * cell) j x 0 (λ e. d (sym e))
@@ -87,7 +87,7 @@ module _ (bytes : List ℕ) (step cell release : ℕ) (asked : PutRequest bytes 
         (λ t l. row-ok (readingOf bytes .road) (recordRow after n t) (accepted .road) (row-within t l));
   }
 
--- 1: every answer is one of them
+-- 1: every answer is one of the cases
 module _ (bytes : List ℕ) (step cell release : ℕ) where
   abbrev r : Road
   r = readingOf bytes .road
@@ -111,12 +111,12 @@ module _ (bytes : List ℕ) (step cell release : ℕ) where
       let asked : PutRequest bytes step cell release = record { reads = reads; ramp = ramp; before = rates .0; rate = rates .1 } in
       PutEnds.put asked (stands bytes step cell release asked))))
 
--- an answer and a record that are those of the definitions are one of them; so a contract may promise all three
+-- an answer and a record that the definitions give are one of the cases, so a contract may promise all three
 pub ended : (bytes : List ℕ) (step cell release : ℕ) {a : FaultAnswer} {left : List ℕ} → Left bytes step cell release a left
     → (a ≡ puttingOf bytes step cell release) × ((left ≡ releasedRecord bytes step cell release) × PutEnds bytes step cell release a left)
 ended bytes step cell release h = (h .says, (h .leaves, rw (h .says, h .leaves) (ends bytes step cell release)))
 
--- 2: with no refusal the release is there and nothing else is changed
+-- 2: without a refusal the release is there and nothing else changes
 put-stands : {bytes : List ℕ} {step cell release : ℕ} {a : FaultAnswer} {after : List ℕ} → PutEnds bytes step cell release a after → a .number ≡ 0
     → PutRequest bytes step cell release × Stands bytes after step cell release
 put-stands (PutEnds.unread h) e = absurd (h e)
@@ -128,7 +128,7 @@ pub puts : (bytes : List ℕ) (step cell release : ℕ) → puttingOf bytes step
     → PutRequest bytes step cell release × Stands bytes (releasedRecord bytes step cell release) step cell release
 puts bytes step cell release = put-stands (ends bytes step cell release)
 
--- and there is none exactly where all of this holds
+-- there is no refusal exactly if all of these conditions hold
 asked-put : {bytes : List ℕ} {step cell release : ℕ} {a : FaultAnswer} {after : List ℕ} → PutEnds bytes step cell release a after → PutRequest bytes step cell release
     → a ≡ fault 0 0
 asked-put (PutEnds.unread h) q = absurd (h (q .reads))

@@ -1,4 +1,4 @@
-// Releases put into a record, and that it reads as before; a release put at one ramp and step.
+// Releases put into a record, which then reads as before; one release put at a ramp and a step.
 use model::Fault;
 use model::Refusal;
 use model::Road;
@@ -23,7 +23,7 @@ fn has_ramp(ramp: [u16; 64], n: usize, cell: usize) -> bool
     ramp[cell - 1] == 1
 }
 
-// Whether a step is one of a record's and a release may be one.
+// Whether a step is one of the record's and a release is at most 1,000,000.
 fn rates_within(step: usize, steps: usize, release: u32) -> bool
     ensures { λ r. ⌜ r ≡ stepAndRateOk step steps release ⌝ }
 {

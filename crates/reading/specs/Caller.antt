@@ -1,4 +1,4 @@
--- Theorems of a caller's own limits: exactly where 26 applies, what is read as without them, and what larger limits change. Assumes nothing.
+-- Theorems about a caller's own limits: exactly when 26 applies, which records are read as without them, and what larger limits change. Assumes nothing.
 use mathlib.Core.Path.{_≡_, refl, sym, ap, _∙_}
 use mathlib.Core.Bool.{Bool, true, false}
 use mathlib.Core.List.{List}
@@ -26,11 +26,11 @@ module _ (s : List ℕ) where
     abbrev Told : ReadAnswer → Type 0
     Told x = x .number ≡ 26 → Beyond cells most s
 
-    -- 26 where it applies,
+    -- 26 is reported if it applies
     pub beyond-refused : Beyond cells most s → readingWithin cells most s ≡ refusedOf 26 0
     beyond-refused b = sym (answer-caller cells most (b .header) (caller-fails (b .above)) refl)
 
-    -- and nowhere else
+    -- and only then
     pub refused-beyond : readingWithin cells most s .number ≡ 26 → Beyond cells most s
     unfolding readingBy
     refused-beyond =
@@ -44,7 +44,7 @@ module _ (s : List ℕ) where
         unless-elim Told (rowsFit s) (λ _ n. absurd (omega arith)) (λ _ n.
         absurd (omega arith)))))))))
 
-    -- elsewhere the record is read as without limits of the caller
+    -- otherwise the record is read as without the caller's limits
     pub within-same : (Beyond cells most s → ⊥) → readingWithin cells most s ≡ readingOf s
     unfolding readingBy
     within-same fits =
@@ -59,7 +59,7 @@ module _ (s : List ℕ) where
     pub within-other : (readingWithin cells most s .number ≡ 26 → ⊥) → readingWithin cells most s ≡ readingOf s
     within-other h = within-same (λ b. h (ap (λ (a : ReadAnswer). a .number) (beyond-refused b)))
 
-    -- so is one that keeps within them,
+    -- a record within the limits is read in the same way
     pub within-kept : cellsOf s ≤ cells → length s ≤ most → readingWithin cells most s ≡ readingOf s
     within-kept h k = within-same (λ b. go (b .above))
       where
@@ -67,7 +67,7 @@ module _ (s : List ℕ) where
         go (inl l) = omega (arith, h, l)
         go (inr l) = omega (arith, k, l)
 
-    -- and one that is accepted, which has no more cells and bytes than they say
+    -- so is an accepted record, which has at most that many cells and bytes
     module _ (h : readingWithin cells most s .number ≡ 0) where
       pub within-accepted : readingWithin cells most s ≡ readingOf s
       within-accepted = within-other (λ z. omega (arith, h, z))
@@ -88,7 +88,7 @@ module _ (s : List ℕ) where
           unless-elim WithinLimits (sizeFits s) (λ _ z. absurd (omega arith)) (λ _.
           unless-elim WithinLimits (callerTakes s cells most) (λ _ z. absurd (omega arith)) (λ k _. caller-facts k)))))) h
 
-  -- reading itself, which takes 64 cells and 65,536 bytes, is never refused with 26
+  -- reading itself takes 64 cells and 65,536 bytes and never reports 26
   pub read-never : readingOf s .number ≡ 26 → ⊥
   read-never h = go (refused-beyond mostCells mostBytes h)
     where
@@ -99,7 +99,7 @@ module _ (s : List ℕ) where
           above (inl l) = omega (arith, l, counts-facts (cellsOf s) (stepsOf s) (b .header .counts) .cells)
           above (inr l) = omega (arith, l, length-facts s (b .header .lengths) .1)
 
-  -- larger limits change nothing but 26: what one caller accepts, or refuses by another number, every caller with larger limits does, too
+  -- larger limits change only 26: a caller with larger limits gets every other answer of a caller with smaller ones
   pub within-larger : (cells most more longer : ℕ) → cells ≤ more → most ≤ longer → (readingWithin cells most s .number ≡ 26 → ⊥)
       → readingWithin more longer s ≡ readingWithin cells most s
   within-larger cells most more longer h k z = within-same more longer (λ b. larger b (b .above)) ∙ sym (within-other cells most z)
@@ -111,7 +111,7 @@ module _ (s : List ℕ) where
       larger b (inl l) = z (number (record { header = b .header; above = inl (omega (arith, h, l)) }))
       larger b (inr l) = z (number (record { header = b .header; above = inr (omega (arith, k, l)) }))
 
-  -- limits above 64 and 65,536 count as these
+  -- limits above 64 and 65,536 count as 64 and 65,536
   pub within-capped : (cells most : ℕ) → readingWithin cells most s ≡ readingWithin (min cells mostCells) (min most mostBytes) s
   within-capped cells most = go (eqb (readingWithin (min cells mostCells) (min most mostBytes) s .number) 26) refl
     where
@@ -132,7 +132,7 @@ module _ (s : List ℕ) where
           let b = refused-beyond (min cells mostCells) (min most mostBytes) z in
           beyond-refused cells most (capped b) ∙ sym (beyond-refused (min cells mostCells) (min most mostBytes) b)
 
--- what follows the header is reading's, of a record that 26 lets through
+-- the answer after the header's tests is reading's if 26 does not apply
 pub answer-within : (cells most : ℕ) {s : List ℕ} {n T : ℕ} → Header s n T → callerOk cells most n (length s) ≡ true
     → {x : ReadAnswer} → x ≡ readingOf s → x ≡ readingWithin cells most s
 answer-within cells most {s} {n} {T} h k e =

@@ -1,4 +1,4 @@
--- What reading found, as facts: one case for each way through its tests. Assumes nothing.
+-- Reading's answers, as facts: one case for each way through its tests. Assumes nothing.
 use mathlib.Core.Bool.{Bool, true, false}
 use mathlib.Core.List.{[], _∷_, List}
 use Prim.Native.Nat.{ℕ, _+_, _-_, _≤_, _<_}
@@ -23,11 +23,11 @@ use Rattle.fields.specs.HeaderLaws.{length-facts, counts-facts}
 use Rattle.reading.specs.Headers.{Header}
 use Rattle.reading.specs.ReadingLaws.{Body, answer-accepted}
 
--- Classes of refusals, by their numbers. First those that reading finds before it looks at a place or a step: their place is 0
+-- Classes of refusals, by their numbers. First those that reading finds before it tests a place or a step: their place is 0
 unfoldable pub inHeader : ℕ → Bool
 inHeader number = oneOf (1 ∷ 2 ∷ 3 ∷ 19 ∷ 4 ∷ 26 ∷ []) number
 
--- a number below n at which a test fails, as it does nowhere below
+-- the lowest number below n at which a test fails
 pub record Lowest (test : ℕ → Bool) (n i : ℕ) : Type 0 where
   pub within : i < n
   pub first : First test n i
@@ -37,7 +37,7 @@ lowest test n h =
     let f = first test n in
     record { within = omega (arith, f .within, eqb-false (firstOf test n) n h); first = f }
 
--- what holds of the road, T and the state of a record that reads
+-- what holds for the road, T and the state of a record that reads
 pub record Accepted (s : List ℕ) (T : ℕ) (r : Road) (q : State) : Type 0 where
   pub header : Header s (r .n) T
   pub size : length s ≡ sizeOf (versionOf s) (r .n) T
@@ -51,7 +51,7 @@ pub record Accepted (s : List ℕ) (T : ℕ) (r : Road) (q : State) : Type 0 whe
   pub state : StateOk r q
   pub row : (t : ℕ) → t < T → RowOk r (recordRow s (r .n) t)
 
--- what reading found
+-- the cases of reading's answer
 pub data Found (s : List ℕ) : ReadAnswer → Type 0 where
   early : (number : ℕ) → inHeader number ≡ true → Found s (refusedOf number 0)
   atPlace : (place : ℕ) → Lowest (placeOk (roadOf s) (startOf s)) (cellsOf s + 1) place → Found s (refusedOf 5 place)
@@ -116,7 +116,7 @@ module _ (s : List ℕ) where
         row = λ t l. row-facts (roadOf s) (recordRow s (cellsOf s) t) (length-row s (cellsOf s) t) (road .ramp) (all-at (stepOk s (roadOf s)) (stepsOf s) g t l);
       }
 
-  -- whatever the caller's limits
+  -- for all limits of the caller
   pub found-within : (cells most : ℕ) → Found s (readingWithin cells most s)
   unfolding readingBy inHeader oneOf
   found-within cells most =
@@ -133,7 +133,7 @@ module _ (s : List ℕ) where
   pub read-found : Found s (readingOf s)
   read-found = found-within mostCells mostBytes
 
--- a record whose header passes, and whose places and rows are all within their limits, is accepted
+-- a record is accepted if its header passes and all its places and rows are within their limits
 pub reads : {s : List ℕ} {n T : ℕ} → Header s n T → ((p : ℕ) → p < n + 1 → placeOk (roadOf s) (startOf s) p ≡ true)
     → ((t : ℕ) → t < T → stepOk s (roadOf s) t ≡ true) → readingOf s ≡ acceptedOf T (roadOf s) (startOf s)
 reads {s} {n} {T} h places rows =

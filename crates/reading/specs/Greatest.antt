@@ -1,4 +1,4 @@
--- The greatest byte at each place over parts of equal size: a row of such bytes within its limits has every row within them. Assumes nothing.
+-- The greatest byte at each position over parts of equal size: if the row of these bytes is within its limits, every row is. Assumes nothing.
 use mathlib.Core.Path.{_≡_, refl, sym, ap, subst, _∙_}
 use mathlib.Core.Bool.{Bool, true, false}
 use mathlib.Core.Logic.{⊎-elim}
@@ -30,33 +30,33 @@ rowAt s n start = listOf (λ k. numberOf s (start + numberSize * k) numberSize) 
 pub row-number : (s : List ℕ) (n start k : ℕ) → k < rowNumbers n → at (rowAt s n start) k ≡ numberOf s (start + numberSize * k) numberSize
 row-number s n start k l = list-at (λ k. numberOf s (start + numberSize * k) numberSize) (rowNumbers n) k l
 
--- the bytes of a row of 64 cells, the longest
+-- the bytes of a row of 64 cells, the longest row
 abbrev pub mostRow : ℕ
 mostRow = rowSize mostCells
 
--- what raising the greatest bytes to `count` parts of s requires, of `size` bytes each, one after the other from `start` on
+-- what raising the greatest bytes to `count` parts of s requires; each part has `size` bytes, and the first begins at `start`
 pub record Raisable (s : List ℕ) (start size count : ℕ) (greatest : List ℕ) : Type 0 where
   pub parts : start + count * size ≤ length s
   pub small : size ≤ mostRow
   pub room : mostRow ≤ length greatest
 
--- each of the parts ends within them
+-- each part ends within all of them
 pub part-within : (size k count : ℕ) → k < count → k * size + size ≤ count * size
 part-within size k count l = omega (arith, suc-mul k size, mul-le-mul-right size l)
 
--- bytes that are nowhere below those before, nor below the `size` bytes of s from `start` on
+-- no byte is below the one before, or below that of s in the `size` bytes from `start` on
 pub record AbovePart (s : List ℕ) (start size : ℕ) (before after : List ℕ) : Type 0 where
   pub same : length after ≡ length before
   pub kept : (j : ℕ) → at before j ≤ at after j
   pub above : (j : ℕ) → j < size → at s (start + j) ≤ at after j
 
--- nor below those of `count` such parts, one after the other
+-- the same for `count` such parts, one after the other
 pub record AboveParts (s : List ℕ) (start size count : ℕ) (before after : List ℕ) : Type 0 where
   pub same : length after ≡ length before
   pub kept : (j : ℕ) → at before j ≤ at after j
   pub above : (k : ℕ) → k < count → (j : ℕ) → j < size → at s (start + k * size + j) ≤ at after j
 
--- a store of a greater byte leaves none less
+-- storing a greater byte makes no byte smaller
 raised : (l : List ℕ) (i x : ℕ) → i < length l → at l i ≤ x → (j : ℕ) → at l j ≤ at (set l i x) j
 raised l i x h le j = go (eqb j i) refl
   where
@@ -108,7 +108,7 @@ module _ {s : List ℕ} {start size : ℕ} {before : List ℕ} where
   pub parts-end : {k count : ℕ} {now : List ℕ} → AboveParts s start size k before now → count ≤ k → AboveParts s start size count before now
   parts-end h l = record { same = h .same; kept = h .kept; above = λ q m. h .above q (omega arith) }
 
--- T rows in blocks, each of as many rows side by side as the longest row has room for; the rows after the blocks are single
+-- T rows in blocks; a block is as many rows side by side as the longest row has room for. The rows after the blocks are single
 pub record Blocks (n beside blocks T : ℕ) : Type 0 where
   pub some : 0 < beside
   pub span : beside * rowSize n ≤ mostRow
@@ -123,7 +123,7 @@ in-blocks n T h =
       rows = div-mul-le-self T (mostRow / rowSize n);
     }
 
--- what each of the three raises requires: over the blocks, over the rows of the greatest block, and over the rows after the blocks
+-- what each of the three passes requires: over the blocks, over the rows of the greatest block, and over the rows after the blocks
 module _ {s : List ℕ} {n T beside blocks : ℕ} (held : Steps s n T) (plan : Blocks n beside blocks T) where
   pub blocks-there : rowStart (versionOf s) n (blocks * beside) ≤ length s
   blocks-there = omega (arith, mul-le-mul-right (rowSize n) (plan .rows), held .held)
@@ -143,7 +143,7 @@ module _ {s : List ℕ} {n T beside blocks : ℕ} (held : Steps s n T) (plan : B
     room = l;
   }
 
--- what the three have done: the greatest bytes of the blocks are in `block`, those of its rows in `first`, those of all rows in `row`
+-- the results of the three passes: the greatest bytes of the blocks in `block`, of its rows in `first`, and of all rows in `row`
 module _ {s zeros block first row : List ℕ} {n beside blocks T start left count : ℕ} (plan : Blocks n beside blocks T)
     (starts : start ≡ rowStart (versionOf s) n 0) (blocked : AboveParts s start (beside * rowSize n) blocks zeros block)
     (folded : AboveParts block 0 (rowSize n) beside zeros first)
@@ -189,6 +189,6 @@ module _ {s zeros block first row : List ℕ} {n beside blocks T start left coun
       subst (λ (x : ℕ). at s x ≤ at row j) there (above-rows t j l (omega arith))) in
       omega (arith, le, row-at s n t k m, row-number row n 0 k m)
 
-  -- where the row of the greatest bytes is within its limits, every row is
+  -- if the row of the greatest bytes is within its limits, every row is
   pub rows-within : (ramp : List ℕ) → rowOk ramp n (rowAt row n 0) ≡ true → (t : ℕ) → t < T → rowOk ramp n (recordRow s n t) ≡ true
   rows-within ramp h t l = row-less ramp n (recordRow s n t) (rowAt row n 0) (numbers-above t l) h

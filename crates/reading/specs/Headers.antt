@@ -20,7 +20,7 @@ pub record Steps (s : List ℕ) (n T : ℕ) : Type 0 where
   pub most : n ≤ mostCells
   pub held : rowStart (versionOf s) n T ≤ length s
 
--- a record that refusals 1, 2, 3, 19 and 4 let through
+-- a record to which refusals 1, 2, 3, 19 and 4 do not apply
 pub record Header (s : List ℕ) (n T : ℕ) : Type 0 where
   pub lengths : lengthOk bothVersions s ≡ true
   pub version : oneOf bothVersions (versionOf s) ≡ true

@@ -1,4 +1,4 @@
--- Theorem: every number of a road and a state that were read is at its offset, and past cell n all is 0. Assumes nothing.
+-- Theorem: every number of a road and a state that were read is that at its offset; past cell n all are 0. Assumes nothing.
 use mathlib.Core.Path.{_≡_, refl, ap, _∙_}
 use mathlib.Core.List.{List}
 use Prim.Native.Nat.{ℕ}

@@ -1,4 +1,4 @@
--- Laws of reading that its code goes by. Assumes nothing.
+-- Laws of reading for the proofs of its code. Assumes nothing.
 use mathlib.Core.Path.{_≡_, refl, sym, ap, _∙_}
 use mathlib.Core.Bool.{Bool, true, false}
 use mathlib.Core.List.{List}
@@ -19,7 +19,7 @@ use Rattle.model.specs.Reading.{cellsOf, stepsOf, sizeOf, bothVersions, lengthO
 use Rattle.model.specs.Reading.{acceptedOf, readingBy, readingWithin, readingOf}
 use Rattle.fields.specs.HeaderLaws.{Counts, length-facts, counts-facts, caller-passes}
 
--- what the header requires is what the cells and the rows require
+-- a record with such a header holds its cells and rows
 module _ {s : List ℕ} {n T : ℕ} (h : Header s n T) where
   header-counts : Counts n T
   header-counts = counts-facts n T (h .counts)
@@ -44,7 +44,7 @@ module _ {s : List ℕ} {n T : ℕ} (h : Header s n T) where
     pub header-steps : Steps s (r .n) T
     header-steps = rw header-road (record { most = header-counts .cells; held = omega (arith, h .size) })
 
--- the refusals of the header, each from the tests on the way to it, whatever the caller's limits
+-- the refusals of the header, each from the tests before it, for all limits of the caller
 module _ (cells most : ℕ) (s : List ℕ) where
   pub answer-length : {x : ReadAnswer} → lengthOk bothVersions s ≡ false → x ≡ refusedOf 1 0 → x ≡ readingWithin cells most s
   unfolding readingBy
@@ -55,7 +55,7 @@ module _ (cells most : ℕ) (s : List ℕ) where
   unfolding readingBy
   answer-version h k g = g ∙ rw (h, k) refl
 
--- a record that refusals 1 and 2 let through, with its n and T
+-- a record to which refusals 1 and 2 do not apply, with its n and T
 pub record Opened (s : List ℕ) (n T : ℕ) : Type 0 where
   pub lengths : lengthOk bothVersions s ≡ true
   pub version : oneOf bothVersions (versionOf s) ≡ true
@@ -90,7 +90,7 @@ header-passed h k l e z = record {
   size = z ∙ e;
 }
 
--- 26, of a record that all these let through
+-- 26, for a record to which none of these apply
 module _ (cells most : ℕ) {s : List ℕ} {n T : ℕ} (h : Header s n T) where
   pub answer-caller : {x : ReadAnswer} → callerOk cells most n (length s) ≡ false → x ≡ refusedOf 26 0 → x ≡ readingWithin cells most s
   unfolding readingBy
@@ -98,14 +98,14 @@ module _ (cells most : ℕ) {s : List ℕ} {n T : ℕ} (h : Header s n T) where
       let size = eq-eqb (length s) (sizeOf (versionOf s) n T) (h .size) in
       g ∙ rw (h .lengths, h .version, ← h .cells, ← h .steps, h .counts, h .seconds, size, k) refl
 
--- what follows the header
+-- the answer after the header's tests
 abbrev bodyOf : List ℕ → ℕ → Road → State → ReadAnswer
 bodyOf s T r q =
     unlessFirst (placeOk r q) (r .n + 1) (refusedOf 5)
     (unlessFirst (stepOk s r) T (refusedOf 6)
     (acceptedOf T r q))
 
--- a record that the header's refusals let through, with its road, its start and the lowest place at fault
+-- a record that passes the header's tests, with its road, its start and the lowest place out of its limits
 pub record Body (s : List ℕ) (n T : ℕ) (r : Road) (q : State) (p : ℕ) : Type 0 where
   pub header : Header s n T
   pub road : r ≡ roadOf s
@@ -152,7 +152,7 @@ pub entry-read : (s : List ℕ) (n start k : ℕ) {place x : ℕ} → place ≡ 
     → k < rowNumbers n → x ≡ at (rowAt s n start) k
 entry-read s n start k p ex l = ex ∙ ap (λ (i : ℕ). numberOf s i numberSize) p ∙ sym (row-number s n start k l)
 
--- and what it finds of a cell's rates
+-- the code's test of a cell's rates
 pub rates-read : (ramp row : List ℕ) (i : ℕ) {arrivals release : ℕ} {b : Bool} → b ≡ ratesOk (at ramp i) arrivals release
     → arrivals ≡ at row (2 * i + 1) → release ≡ at row (2 * i + 2) → b ≡ ratesAt ramp row i
 rates-read ramp row i {release = release} e a r =

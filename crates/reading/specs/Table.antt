@@ -1,4 +1,4 @@
--- Theorem: the table of outflows of a record that reads, one row a step with the gate first, has at most 8,799 numbers. Assumes nothing.
+-- Theorem: a record that reads has at most 8,799 outflows, n + 1 per step. Assumes nothing.
 use mathlib.Core.Path.{_≡_, refl}
 use mathlib.Core.Bool.{Bool, true, false}
 use mathlib.Core.List.{List}
@@ -13,15 +13,15 @@ use Rattle.model.specs.Reading.{sizeOf, ReadAnswer, readingOf}
 use Rattle.reading.specs.Within.{read-within}
 use Rattle.model.specs.Listing.{mostOutflows}
 
--- up to 5 cells the limit of steps bounds it
+-- up to 5 cells the limit of the steps bounds them
 few : (n T : ℕ) → n ≤ 5 → T ≤ mostSteps → T * (n + 1) ≤ mostOutflows
 few n T h l = let k : n + 1 ≤ 6 = omega arith in omega (arith, mul-le-mul l k)
 
--- from 6 on the limit of bytes: at 6 there are at most 1,257 steps
+-- from 6 cells on the limit of the bytes does: with 6 cells there are at most 1,257 steps
 six : (version n T : ℕ) → n ≡ 6 → sizeOf version n T ≤ mostBytes → T * (n + 1) ≤ mostOutflows
 six version n T e h = let k : sizeOf version 6 T ≤ mostBytes = rw e at h in rw e (omega arith)
 
--- and from 7 on at most 1,089
+-- with 7 cells or more there are at most 1,089
 many : (version n T : ℕ) → 7 ≤ n → sizeOf version n T ≤ mostBytes → T * (n + 1) ≤ mostOutflows
 many version n T h l =
     let k : 60 ≤ rowSize n = omega arith in

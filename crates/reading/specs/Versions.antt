@@ -1,4 +1,4 @@
--- The theorems of the two versions: what the first reader, which knows only version 1, answers beside reading, and what reading gives of each. Assumes nothing.
+-- Theorems about the two versions: what a first reader, which knows only version 1, answers, and what reading gives in each version. Assumes nothing.
 use mathlib.Core.List.{List, [], _∷_}
 use Prim.Native.Nat.{ℕ, _+_, _-_, _*_, _≤_}
 use mathlib.Core.Path.{_≡_, refl, sym, ap, _∙_}
@@ -24,12 +24,12 @@ firstAlone = firstVersion ∷ []
 abbrev pub firstReadingOf : List ℕ → ReadAnswer
 firstReadingOf s = readingBy (record { known = firstAlone; cells = mostCells; bytes = mostBytes }) s
 
--- bytes whose byte 4 is not 2, and so every record of version 1, are read as the first reader reads them
+-- bytes whose byte 4 is not 2, and so every record of version 1, read as they do for the first reader
 pub first-reader-same : (s : List ℕ) → (versionOf s ≡ secondVersion → ⊥) → readingOf s ≡ firstReadingOf s
 unfolding readingBy oneOf
 first-reader-same s h = rw (ne-eqb (versionOf s) secondVersion h)
 
--- in every version but 2 the layout is that of version 1, in numbers
+-- every version other than 2 has the layout of version 1
 pub record FirstLayout (version : ℕ) : Type 0 where
   pub noSeconds : secondsSize version ≡ 0
   pub gateCapacity : gateCapacityOffset version ≡ 8
@@ -50,7 +50,7 @@ first-layout version h =
       unread = λ seconds. rw (ne-eqb version secondVersion h);
     }
 
--- to the first reader version 2 is not known, and its least size is version 1's
+-- the first reader does not know version 2; its least size for it is version 1's
 second-unknown : (version : ℕ) → version ≡ secondVersion → oneOf firstAlone version ≡ false
 unfolding oneOf
 second-unknown version e = rw e
@@ -58,14 +58,14 @@ second-unknown version e = rw e
 second-least : (version : ℕ) → version ≡ secondVersion → leastSize firstAlone version ≤ leastSize bothVersions version
 second-least version e = rw (second-unknown version e, least-both version) (omega (arith, seconds-none firstVersion (λ z. omega (arith, z))))
 
--- so a length that is right to both is right to it
+-- so a length that reading accepts is right for the first reader too
 first-length : (s : List ℕ) → versionOf s ≡ secondVersion → lengthOk bothVersions s ≡ true → lengthOk firstAlone s ≡ true
 first-length s e h =
     let a = le-head (leastSize bothVersions (versionOf s)) (length s) _ h in
     let l = second-least (versionOf s) e in
     le-then (leastSize firstAlone (versionOf s)) (length s) _ (omega (arith, l, a .0)) (a .1)
 
--- a record of version 2 is 2 to the first reader, unless reading finds its length wrong
+-- the first reader refuses a record of version 2 with 2, unless reading refuses its length
 pub first-refuses : (s : List ℕ) → versionOf s ≡ secondVersion → (readingOf s .number ≡ 1 → ⊥) → firstReadingOf s ≡ refusedOf 2 0
 unfolding readingBy
 first-refuses s e h = go (lengthOk bothVersions s) refl
@@ -74,9 +74,9 @@ first-refuses s e h = go (lengthOk bothVersions s) refl
     go true k = rw (first-length s e k, second-unknown (versionOf s) e)
     go false k = absurd (h (rw k))
 
--- what reads
+-- a record that reads
 module _ (s : List ℕ) (a : ReadAnswer) (e : a ≡ readingOf s) (h : a .number ≡ 0) where
-  -- has version 1 or 2
+  -- it has version 1 or 2
   pub read-version : (a .road .version ≡ firstVersion) ⊎ (a .road .version ≡ secondVersion)
   unfolding oneOf
   read-version = go (eqb (a .road .version) firstVersion) (eqb (a .road .version) secondVersion) refl refl (read-within s a e h .version)
@@ -95,14 +95,14 @@ module _ (s : List ℕ) (a : ReadAnswer) (e : a ≡ readingOf s) (h : a .number 
       let b = le-head 1 (a .road .seconds) _ k in
       (b .0, leb-true (a .road .seconds) mostSeconds (b .1))
 
-  -- and in version 1 they are 0
+  -- in version 1 the seconds are 0
   pub read-untimed : (a .road .version ≡ secondVersion → ⊥) → a .road .seconds ≡ 0
   unfolding numberOf
   read-untimed z =
       let n = read-numbers s a e h in
       n .seconds ∙ ap (numberOf s secondsOffset) (seconds-none (versionOf s) (λ w. z (n .version ∙ w)))
 
-  -- so that 900 bounds them in both
+  -- so they are at most 900 in both
   pub read-seconds : a .road .seconds ≤ mostSeconds
   read-seconds = go (eqb (a .road .version) secondVersion) refl
     where
@@ -110,12 +110,12 @@ module _ (s : List ℕ) (a : ReadAnswer) (e : a ≡ readingOf s) (h : a .number 
       go true k = read-timed (eqb-true (a .road .version) secondVersion k) .1
       go false k = omega (arith, read-untimed (eqb-false (a .road .version) secondVersion k))
 
-  -- a record of version 2 that reads is 2 to the first reader
+  -- the first reader refuses a record of version 2 that reads with 2
   pub read-refused-first : a .road .version ≡ secondVersion → firstReadingOf s ≡ refusedOf 2 0
   read-refused-first z =
       let number : readingOf s .number ≡ 0 = rw e at h in
       first-refuses s (sym (read-numbers s a e h .version) ∙ z) (λ k. omega (arith, number, k))
 
-  -- and one of version 1 reads there as it does here
+  -- it reads one of version 1 as reading does
   pub read-same-first : (a .road .version ≡ secondVersion → ⊥) → a ≡ firstReadingOf s
   read-same-first z = e ∙ first-reader-same s (λ k. z (read-numbers s a e h .version ∙ k))

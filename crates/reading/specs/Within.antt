@@ -1,4 +1,4 @@
--- The theorems of reading: what reads is within the limits of stepping, and a refusal's place is the lowest. Assumes nothing.
+-- The theorems of reading: a record that reads is within the limits of stepping, and a refusal's place is the lowest. Assumes nothing.
 use mathlib.Core.Path.{_≡_, refl}
 use mathlib.Core.Bool.{true}
 use mathlib.Core.List.{List}
@@ -48,7 +48,7 @@ found-refused s (Found.atPlace p l) h = record { steps = refl; road = refl; stat
 found-refused s (Found.atStep t l) h = record { steps = refl; road = refl; state = refl }
 found-refused s (Found.clear w) h = absurd (h refl)
 
--- of any answer that reading gives
+-- for every answer of reading
 module _ (s : List ℕ) (a : ReadAnswer) (e : a ≡ readingOf s) where
   found : Found s a
   found = rw e (read-found s)
@@ -63,7 +63,7 @@ module _ (s : List ℕ) (a : ReadAnswer) (e : a ≡ readingOf s) where
       let w = read-within h in
       holds-row s (a .road .n) t (a .steps) (w .road .cells) (omega (arith, w .size)) l
 
-  -- and 7 cannot arise from them
+  -- stepping does not refuse them with 7
   pub read-input : a .number ≡ 0 → (t : ℕ) → t < a .steps → inputOk (a .road) (a .state) (recordRow s (a .road .n) t) ≡ true
   read-input h t l =
       let w = read-within h in

@@ -17,7 +17,7 @@ ghost use Rattle.model.specs.Reading.{roadOf, startOf, stepOk, refusedOf, readA
 ghost use Rattle.reading.specs.Headers.{Cells, Steps, Header};
 ghost use Rattle.reading.specs.Greatest.{rowAt, Raisable, AbovePart, AboveParts};
 
-// The bytes of a row of 64 cells, the longest.
+// The bytes of a row of 64 cells, the longest row.
 const ROW_BYTES: usize = 516;
 
 // The road of a record of n cells.
@@ -60,7 +60,7 @@ fn start_of(bytes: &[u8], n: usize) -> State
     }
 }
 
-// Whether the numbers of a row that starts at byte `start` are within their limits, one after the other.
+// Whether the numbers of a row that starts at byte `start` are within their limits, tested one after the other.
 fn numbers_within(bytes: &[u8], ramp: &[u16; 64], n: usize, start: usize) -> bool
     requires { ⌜ (n ≤ mostCells) × (start + rowSize n ≤ length (now bytes)) ⌝ }
     ensures { λ r. ⌜ r ≡ rowOk (now (ramp .entry)) n (rowAt (now (bytes .entry)) n start) ⌝ }
@@ -90,7 +90,7 @@ fn row_within(bytes: &[u8], ramp: &[u16; 64], n: usize, t: usize) -> bool
     numbers_within(bytes, ramp, n, start)
 }
 
-// The greater of two bytes; a caller only needs that it is below neither.
+// A byte that is at least `a` and at least `b`: the greater of the two.
 fn greater(a: u8, b: u8) -> u8
     ensures { λ r. ⌜ (a ≤ r) × (b ≤ r) ⌝ }
 {
@@ -100,7 +100,7 @@ fn greater(a: u8, b: u8) -> u8
     a
 }
 
-// Raises the greatest bytes to the `size` bytes from `start` on. The loop has no early exit and carries nothing, so it becomes vector code.
+// Raises the greatest bytes to the `size` bytes from `start` on. The loop has no early exit and no carried value, so it becomes vector code.
 fn raise_to_part(bytes: &[u8], start: usize, size: usize, greatest: &mut [u8; ROW_BYTES])
     requires { ⌜ Raisable (now bytes) start size 1 (now greatest) ⌝ }
     ensures { λ _. ⌜ AbovePart (now (bytes .entry)) start size (now (greatest .entry)) (now (greatest .exit)) ⌝ }
@@ -130,7 +130,7 @@ fn raise_to_parts(
     }
 }
 
-// Whether the greatest bytes of all rows make a row within its limits; then every row is. Short rows are looked at side by side, in blocks.
+// Whether the greatest bytes of all rows make a row within its limits; if so, every row is. Short rows are tested side by side, in blocks.
 fn all_rows_within(bytes: &[u8], ramp: &[u16; 64], n: usize, steps: usize) -> bool
     requires { ⌜ Steps (now bytes) n steps ⌝ }
     ensures { λ r. ⌜ (r ≡ true → (t : ℕ) → t < steps → rowOk (now (ramp .entry)) n (recordRow (now (bytes .entry)) n t) ≡ true) ⌝ }
@@ -183,7 +183,7 @@ pub fn refused(refusal: Refusal, place: usize) -> Reading
     }
 }
 
-// Refusals 5 and 6, and what the record gives.
+// Refusals 5 and 6, or the record's road, T and start.
 fn body(bytes: &[u8], n: usize, steps: usize) -> Reading
     requires { ⌜ Header (now bytes) n steps ⌝ }
     ensures { λ a. ⌜ readAnswer a ≡ readingOf (now (bytes .entry)) ⌝ }
@@ -235,7 +235,7 @@ pub fn read_within(bytes: &[u8], cells: usize, most: usize) -> Reading
     body(bytes, n, steps)
 }
 
-// Reads a record of any length, with no limits but the model's.
+// Reads a record of any length, with only the model's limits.
 pub fn read(bytes: &[u8]) -> Reading
     ensures { λ a. ⌜ readAnswer a ≡ readingOf (now (bytes .entry)) ⌝ }
 {

@@ -1,4 +1,4 @@
--- Laws of a row's numbers: what the code finds, and that a record that reads gives each of its rows. Assumes nothing.
+-- Laws of a row's numbers: the code's tests, and that each row of a record that reads is its own. Assumes nothing.
 use mathlib.Core.Path.{_≡_, refl, sym, ap, _∙_}
 use mathlib.Core.Bool.{Bool, true, false, _&&_}
 use mathlib.Core.List.{List}
@@ -16,7 +16,7 @@ use Rattle.model.specs.Reading.{ReadAnswer, readingOf}
 use Rattle.reading.specs.Cases.{Found, read-found, early-refused}
 use Rattle.model.specs.RowNumbers.{noNumbers, entryOr, numberAt, numbersAt, rowArray}
 
--- one number: there, or not whole
+-- one number, whose bytes are all present or not
 module _ (s : List ℕ) (i : ℕ) where
   pub entry-there : {x : ℕ} → i + numberSize ≤ length s → x ≡ numberOf s i numberSize → x ≡ entryOr s i
   unfolding entryOr
@@ -26,12 +26,12 @@ module _ (s : List ℕ) (i : ℕ) where
   unfolding entryOr
   entry-none h = rw (lt-leb (i + numberSize) (length s) h)
 
--- bytes that end before byte 4 name no version
+-- fewer than five bytes have no version
 pub version-none : (s : List ℕ) → length s ≤ versionOffset → 0 ≡ versionOf s
 unfolding numberOf
 version-none s h = omega (arith, List·getD-eq-default s 0 h)
 
--- the array: outside the limits, and within them
+-- the array, outside the limits and within them
 module _ (s : List ℕ) (n t : ℕ) where
   pub array-cells : mostCells < n → noNumbers ≡ rowArray s n t
   unfolding rowArray
@@ -88,7 +88,7 @@ row-held s n t l h =
     ap (take (rowNumbers n)) (sym (array-numbers s n t (h .cells) l refl))
     ∙ row-taken s n t noNumbers (numbersAt s n t) (omega (arith, length-replicate {A = ℕ} 129 0, h .cells)) (held-numbers s n t h)
 
--- a record that reads without refusal gives the row of each of its steps
+-- for a record that reads, the numbers taken are the row of each of its steps
 found-row : (s : List ℕ) {a : ReadAnswer} → Found s a → a .number ≡ 0 → (t : ℕ) → t < a .steps
     → take (rowNumbers (a .road .n)) (rowArray s (a .road .n) t) ≡ recordRow s (a .road .n) t
 found-row s (Found.early k l) h t m = absurd (early-refused l h)

@@ -1,5 +1,5 @@
--- docs/MODEL.md, 'The numbers of a row': what taking the rows of a record that reads promises. They are the record's rows, what is beyond
--- them in the list is kept, and writing them with what was read gives the record's bytes again. Assumes nothing.
+-- docs/MODEL.md, 'The numbers of a row': what taking the rows of a record that reads promises. They are the record's rows, the list beyond
+-- them is unchanged, and writing them with what was read gives the record's bytes again. Assumes nothing.
 use mathlib.Core.Path.{_≡_, refl, ap, _∙_}
 use mathlib.Core.List.{List}
 use Prim.Native.Nat.{ℕ, _*_, _≤_, _<_}
@@ -17,7 +17,7 @@ use Rattle.writing.specs.Theorems.{again-answer, again-bytes}
 use Rattle.model.specs.RowNumbers.{takenRow, takenCount, takenList}
 use Rattle.taking.specs.TakingLaws.{Roomy, length-taken-row, count-all, taken-row, taken-past, taken-rows}
 
--- the rows as writing takes them: the front of the list, as long as the count says
+-- the rows as writing takes them: the front of the list, as long as the answer
 abbrev pub rowsTaken : List ℕ → ℕ → ℕ → List ℕ → List ℕ
 rowsTaken bytes n T list = take (takenCount n T (length list)) (takenList bytes n T list)
 
@@ -38,18 +38,18 @@ module _ (s : List ℕ) (reads : readingOf s .number ≡ 0) (list : List ℕ)
   pub count-numbers : takenCount n T (length list) ≡ T * rowNumbers n
   count-numbers = count-all n T (length list) within
 
-  -- row t in the list is the record's
+  -- row t in the list is the record's row
   pub list-row : (t : ℕ) → t < T → rowAt (takenList s n T list) (rowNumbers n) t ≡ recordRow s n t
   list-row t l = taken-row s n T list within t l ∙ record-row t l
 
-  -- what is beyond the rows is kept
+  -- the list beyond the rows is unchanged
   pub list-beyond : drop (T * rowNumbers n) (takenList s n T list) ≡ drop (T * rowNumbers n) list
   list-beyond = taken-past s n T list within
 
   size : (t : ℕ) → length (takenRow s n t) ≡ rowNumbers n
   size t = length-taken-row s n t (within .cells)
 
-  -- and so for the rows alone
+  -- the same for the rows by themselves
   pub length-rows : length (rowsTaken s n T list) ≡ T * rowNumbers n
   length-rows = ap length (taken-rows s n T list within) ∙ length-concat (takenRow s n) (rowNumbers n) size T
 
@@ -59,7 +59,7 @@ module _ (s : List ℕ) (reads : readingOf s .number ≡ 0) (list : List ℕ)
       ∙ concat-row (takenRow s n) (rowNumbers n) size T t l
       ∙ record-row t l
 
-  -- writing what was read with these rows isn't refused and gives these bytes
+  -- writing what was read with these rows isn't refused and gives the same bytes
   module _ (small : (i : ℕ) → at s i < 256) (target : List ℕ) (long : length s ≤ length target) where
     pub same-answer : writingOf (readingOf s .road) T (startIn (readingOf s .state)) (rowsTaken s n T list) target ≡ written (length s)
     same-answer = again-answer s small reads (rowsTaken s n T list) target length-rows rows-row long

@@ -23,14 +23,14 @@ pub record Roomy (n T room : ℕ) : Type 0 where
   pub steps : T ≤ mostSteps
   pub long : T * rowNumbers n ≤ room
 
--- all numbers that there may be, small to a machine
+-- the most numbers that there can be; they fit a machine number
 abbrev pub mostNumbers : ℕ
 mostNumbers = mostSteps * rowNumbers mostCells
 
 pub count-small : (n T : ℕ) → n ≤ mostCells → T ≤ mostSteps → T * rowNumbers n ≤ mostNumbers
 count-small n T h l = let k : rowNumbers n ≤ rowNumbers mostCells = omega arith in mul-le-mul l k
 
--- the test, by what the code finds
+-- the test, from the code's tests
 module _ (n T room : ℕ) where
   pub over-cells : mostCells < n → roomy n T room ≡ false
   over-cells h = rw (lt-leb n mostCells h)
@@ -48,14 +48,14 @@ module _ (n T room : ℕ) where
   unfolding takenCount
   count-all r = rw (has-room r)
 
-  -- as many numbers of the list may be lent
+  -- the answer is at most the list's length
   pub count-within : takenCount n T room ≤ room
   unfolding takenCount
   count-within =
       unless-elim (λ (m : ℕ). m ≤ room) (roomy n T room) (λ _. omega arith) (λ e.
       leb-true (T * rowNumbers n) room (le-head T mostSteps _ (le-head n mostCells _ e .1) .1))
 
--- without room nothing is taken, and the list is as lent
+-- without room nothing is taken, and the list is unchanged
 pub untaken : (bytes : List ℕ) (n T : ℕ) (list : List ℕ) → roomy n T (length list) ≡ false
     → (0 ≡ takenCount n T (length list)) × (list ≡ takenList bytes n T list)
 unfolding takenCount takenList
@@ -77,23 +77,23 @@ module _ (bytes : List ℕ) (n T : ℕ) (list : List ℕ) (r : Roomy n T (length
   pub length-taken : length (takenList bytes n T list) ≡ length list
   length-taken = ap length list-front ∙ length-front (takenRow bytes n) (rowNumbers n) size list T (r .long)
 
-  -- row t of it is the row of step t
+  -- row t of the list is the row of step t
   pub taken-row : (t : ℕ) → t < T → rowAt (takenList bytes n T list) (rowNumbers n) t ≡ takenRow bytes n t
   taken-row t l =
       ap (λ (x : List ℕ). rowAt x (rowNumbers n) t) list-front ∙ front-row (takenRow bytes n) (rowNumbers n) size list T t l
 
-  -- what is beyond the rows is kept
+  -- the list beyond the rows is unchanged
   pub taken-past : drop (T * rowNumbers n) (takenList bytes n T list) ≡ drop (T * rowNumbers n) list
   taken-past = ap (drop (T * rowNumbers n)) list-front ∙ front-past (takenRow bytes n) (rowNumbers n) size list T
 
-  -- the rows alone
+  -- the rows by themselves
   pub taken-rows : take (takenCount n T (length list)) (takenList bytes n T list) ≡ concatOf (takenRow bytes n) T
   taken-rows =
       ap (λ (k : ℕ). take k (takenList bytes n T list)) (count-all n T (length list) r)
       ∙ ap (take (T * rowNumbers n)) list-front
       ∙ front-rows (takenRow bytes n) (rowNumbers n) size list T
 
--- the loop over a row's numbers: the part holds the first k
+-- the loop over a row's numbers: the part of the list holds the first k
 pub record CopiedRow (row start part : List ℕ) (k : ℕ) : Type 0 where
   pub within : k ≤ length start
   pub numbers : part ≡ fillOf (at row) k start
@@ -122,7 +122,7 @@ module _ {row start : List ℕ} where
         let i-in : i < length start = omega (arith, length-fill (at row) (length start) start) in
         fill-at (at row) (length start) start i i-in (omega arith) ∙ sym (getD-take (length start) row i 0 i-in))
 
--- the loop over the steps: the rows of the first t are in the list, and the next begins at `from`
+-- the loop over the steps: the rows of the first t steps are in the list, and the next begins at `from`
 pub record Listed (bytes : List ℕ) (n T : ℕ) (list out : List ℕ) (from t : ℕ) : Type 0 where
   pub within : t ≤ T
   pub place : from ≡ t * rowNumbers n
@@ -140,14 +140,14 @@ module _ {bytes : List ℕ} {n T : ℕ} {list : List ℕ} where
         ∙ length-front (takenRow bytes n) (rowNumbers n) (size bytes n T list r) list t
         (omega (arith, r .long, mul-le-mul-right {m = t} {n = T} (rowNumbers n) (h .within)))
 
-    -- the next row lies within it
+    -- the next row is within the list
     pub row-fits : t < T → from + rowNumbers n ≤ length out
     row-fits l = omega (arith, row-ends t T (rowNumbers n) l, h .place, r .long, listed-length)
 
     pub row-small : t < T → from + rowNumbers n ≤ mostNumbers
     row-small l = omega (arith, row-ends t T (rowNumbers n) l, h .place, count-small n T (r .cells) (r .steps))
 
-    -- one row more, as a loan of the part of the list leaves it
+    -- one more row, as the code's write to a part of the list leaves it
     pub listed-more : t < T → {row part : List ℕ} → row ≡ rowArray bytes n t
         → part ≡ take (length (take (from + rowNumbers n - from) (drop from out))) row
         → Listed bytes n T list (take from out ++ (part ++ drop (from + rowNumbers n - from) (drop from out))) (from + rowNumbers n) (t + 1)

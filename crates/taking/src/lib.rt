@@ -1,4 +1,4 @@
-// A row of a record's numbers, of any bytes, and all rows in one list, as writing takes them.
+// The numbers of a record's row, from any bytes, and all rows in one list, as writing takes them.
 use model::Road;
 ghost use mathlib.Core.Path.{_≡_};
 ghost use Prim.Native.Nat.{_≤_, _<_};
@@ -7,7 +7,7 @@ ghost use Rattle.model.specs.Record.{versionOf, rowNumbers};
 ghost use Rattle.model.specs.RowNumbers.{entryOr, numbersAt, rowArray, takenCount, takenList};
 ghost use lib.ListN.{length, take};
 
-// The number in the four bytes from `at`, 0 where they are not all there.
+// The number in the four bytes from `at` on, 0 if they are not all present.
 fn entry(bytes: &[u8], at: usize) -> u32
     ensures { λ r. ⌜ r ≡ entryOr (now (bytes .entry)) at ⌝ }
 {
@@ -20,7 +20,7 @@ fn entry(bytes: &[u8], at: usize) -> u32
     fields::number(bytes, at, fields::NUMBER_SIZE)
 }
 
-// The version that the bytes name, 0 where they end before it.
+// The version in byte 4, 0 if there is none.
 fn version(bytes: &[u8]) -> u8
     ensures { λ r. ⌜ r ≡ versionOf (now (bytes .entry)) ⌝ }
 {
@@ -45,7 +45,7 @@ fn numbers(bytes: &[u8], n: usize, t: usize) -> [u32; 129]
     r
 }
 
-// The numbers of step t's row as the layout of n cells places them, 0 where the bytes hold none.
+// The numbers of step t's row in the layout of n cells, 0 if the bytes don't hold them.
 pub fn row(bytes: &[u8], n: usize, t: usize) -> [u32; 129]
     ensures { λ r. ⌜ r ≡ rowArray (now (bytes .entry)) n t ⌝ }
 {
@@ -58,7 +58,7 @@ pub fn row(bytes: &[u8], n: usize, t: usize) -> [u32; 129]
     numbers(bytes, n, t)
 }
 
-// Puts the first numbers of a row into a lent part, as many as it has.
+// Puts the first numbers of a row into a part of the list, as many as it holds.
 fn put_numbers(part: &mut [u32], row: [u32; 129])
     requires { ⌜ length (now part) ≤ rowNumbers mostCells ⌝ }
     ensures { λ r. ⌜ now (part .exit) ≡ take (length (now (part .entry))) row ⌝ }
@@ -70,7 +70,7 @@ fn put_numbers(part: &mut [u32], row: [u32; 129])
     }
 }
 
-// Puts the rows of the first steps into a list, one after the other, and answers how many numbers they have; 0 where there is no room for them.
+// Puts the rows of the first steps into a list, one after the other, and returns the count of their numbers; 0 if there is no room.
 pub fn rows(bytes: &[u8], n: usize, steps: usize, list: &mut [u32]) -> usize
     ensures count { λ c. ⌜ c ≡ takenCount n steps (length (now (list .entry))) ⌝ }
     ensures list { λ c. ⌜ now (list .exit) ≡ takenList (now (bytes .entry)) n steps (now (list .entry)) ⌝ }

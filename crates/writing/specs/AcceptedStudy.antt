@@ -1,4 +1,4 @@
--- What follows of its arguments where writing is not refused. Assumes nothing.
+-- What follows for the arguments if writing is not refused. Assumes nothing.
 use mathlib.Core.Path.{_≡_, refl, sym, _∙_}
 use mathlib.Core.Bool.{Bool, true}
 use mathlib.Core.List.{List, _++_}
@@ -59,7 +59,7 @@ module _ (a : Study) (numbers room : ℕ) where
         answer = rw (frame, places, rows, enough);
       }))))
 
-  -- a refusal counts no bytes
+  -- a refusal's count is 0
   abbrev Uncounted : WriteAnswer → Type 0
   Uncounted x = (x .number ≡ 0 → ⊥) → x .count ≡ 0
 
@@ -79,7 +79,7 @@ module _ (road : Road) (T : ℕ) (start : Start) (rows target : List ℕ) where
   unfolding writingOf
   given-accepted h = accepted a (length rows) (length target) h
 
-  -- a refusal leaves the target as it was
+  -- a refusal leaves the target unchanged
   pub target-refused : (writingOf road T start rows target .number ≡ 0 → ⊥) → targetAfter road T start rows target ≡ target
   unfolding targetAfter
   target-refused h = rw (ne-eqb (writingOf road T start rows target .number) 0 h)
@@ -89,7 +89,7 @@ module _ (road : Road) (T : ℕ) (start : Start) (rows target : List ℕ) where
   unfolding targetAfter
   target-written h = rw (eq-eqb (writingOf road T start rows target .number) 0 h)
 
-  -- as the code finds it
+  -- what `put_record` requires, and the target that it leaves
   pub fits : writingOf road T start rows target .number ≡ 0 → Fits (given road T start rows) rows target
   fits h = let k = given-accepted h in record { counts = k .frame .counts; all = k .frame .all; room = k .enough }
 

@@ -1,4 +1,4 @@
--- What the inner functions of writing require, and how its tests end. Assumes nothing.
+-- What the inner functions of writing require, and the cases of its tests. Assumes nothing.
 use mathlib.Core.Path.{_≡_, refl, sym}
 use mathlib.Core.Bool.{true, false}
 use mathlib.Core.List.{List, []}
@@ -37,14 +37,14 @@ blank version n T = study (record {
   capacity = zeros;
 }) emptyState T (λ _. []) []
 
--- 65 cells and 1,440 steps are too many bytes as well: an unknown version is refused with 2, version 2 without seconds with 3, with 64 cells with 19, and version 1 then with 1
+-- 65 cells and 1,440 steps are too many bytes too. Version 3 is refused with 2, version 2 with 3; with 64 cells version 2 with 19, and version 1 with 1
 on-paper : (writingBy (blank 3 65 1440) 0 0 ≡ unwritten 2 0)
     × ((writingBy (blank 2 65 1440) 0 0 ≡ unwritten 3 0)
     × ((writingBy (blank 2 64 1440) 0 0 ≡ unwritten 19 0) × (writingBy (blank 1 64 1440) 0 0 ≡ unwritten 1 0)))
 unfolding frameFault oneOf secondsSize
 on-paper = (refl, (refl, (refl, refl)))
 
--- what 2, 3, 19, 1 and 4 let through
+-- 2, 3, 19, 1 and 4 do not apply
 pub record Framed (a : Study) (numbers : ℕ) : Type 0 where
   pub version : oneOf bothVersions (a .road .version) ≡ true
   pub counts : Counts (a .road .n) (a .steps)
@@ -85,7 +85,7 @@ module _ (a : Study) (numbers : ℕ) where
   abbrev Lets : ℕ → Type 0
   Lets m = m ≡ 0 → Framed a numbers
 
-  -- no fault: all five hold
+  -- without a fault all five hold
   pub framed : frameOf a numbers ≡ 0 → Framed a numbers
   unfolding frameFault
   framed =
@@ -105,7 +105,7 @@ module _ (a : Study) (numbers : ℕ) where
   faultless : Framed a numbers → frameOf a numbers ≡ 0
   faultless ok = sym (frame-none _ _ _ _ _ (ok .version) (facts-counts (ok .counts)) (ok .seconds) (ok .size) (ok .all))
 
--- the loop over the rows: the one of step t, which begins at `from`, lies within the list
+-- the loop over the rows: the row of step t begins at `from` and is within the list
 pub row-fits : {rows : List ℕ} {n T from t : ℕ} → Rows rows n T → from ≡ t * rowNumbers n → t < T → from + rowNumbers n ≤ length rows
 row-fits {n = n} {T} {t = t} h e l = omega (arith, h .all, row-ends t T (rowNumbers n) l)
 
@@ -121,7 +121,7 @@ module _ (a : Study) (numbers room : ℕ) where
     abbrev step : ℕ
     step = firstOf (givenOk a) (a .steps)
 
-    -- what is left past the frame
+    -- the tests after the first five
     body : unlessFirst (placeOk (a .road) (a .start)) (a .road .n + 1) (unwritten 5)
         (unlessFirst (givenOk a) (a .steps) (unwritten 6)
         (unless (leb (recordSize a) room) (unwritten 15 0) (written (recordSize a))))
@@ -144,7 +144,7 @@ module _ (a : Study) (numbers room : ℕ) where
         answer-written l =
             rw (← body, ← ep, eq-eqb p (a .road .n + 1) hp, ← et, eq-eqb t (a .steps) ht, le-leb (recordSize a) room l)
 
--- the answer to what was given
+-- the answer for what was given
 pub by-given : (road : Road) (T : ℕ) (start : Start) (rows target : List ℕ)
     → writingBy (given road T start rows) (length rows) (length target) ≡ writingOf road T start rows target
 unfolding writingOf

@@ -1,4 +1,4 @@
--- A road and a state as a record keeps them: up to cell n, and 0 past it. Assumes nothing.
+-- A road and a state in a record: values up to cell n, and 0 past it. Assumes nothing.
 use mathlib.Core.Path.{_≡_, refl, _∙_}
 use mathlib.Core.Bool.{Bool, true, false}
 use mathlib.Core.List.{List}
@@ -24,7 +24,7 @@ cut-at n l h i k = fill-at (λ j. at l j) n zeros i k (omega (arith, length-zero
 pub cut-past : (n : ℕ) (l : List ℕ) (i : ℕ) → n ≤ i → at (cutOf n l) i ≡ 0
 cut-past n l i h = fill-past (λ j. at l j) n zeros i h ∙ zeros-at i
 
--- version 2 keeps its seconds, another has none, and what is kept is within the limits of what was given
+-- version 2 keeps its seconds, other versions have none, and the seconds kept are within the limit of those given
 pub kept-second : (version seconds : ℕ) → version ≡ secondVersion → keptSeconds version seconds ≡ seconds
 kept-second version seconds e = rw (eq-eqb version secondVersion e)
 
@@ -38,7 +38,7 @@ kept-ok version seconds = go (eqb version secondVersion) refl
     go true e = rw e
     go false e = rw e
 
--- the limits look at no entry past cell n
+-- the limits don't depend on entries past cell n
 pub cut-road : (r : Road) → RoadOk r → RoadOk (cutRoad r)
 cut-road r ok =
     let m = ok .cells in

@@ -1,4 +1,4 @@
--- The record's bytes of a study within the limits are read back. Assumes nothing.
+-- The record of a study within the limits reads back as that study. Assumes nothing.
 use mathlib.Core.Path.{_≡_, refl, sym, ap, _∙_}
 use mathlib.Core.Bool.{Bool, true, false, _&&_}
 use mathlib.Core.List.{List}
@@ -30,7 +30,7 @@ use Rattle.model.specs.Writing.{cutOf, keptSeconds, cutRoad, cutState}
 use Rattle.writing.specs.CutLaws.{kept-ok, cut-road, cut-state, cut-row}
 use Rattle.writing.specs.Stands.{HeaderFields, header-fields, CellFields, cell-fields, in-header, in-cell, in-row}
 
--- a study within the limits: its version is known, its record is short enough, and its road, its state before step 0 and each row are within theirs
+-- a study within the limits: its version is known, its record is short enough, and its road, its start and each row are within their limits
 pub record Recordable (a : Study) : Type 0 where
   pub version : oneOf bothVersions (a .road .version) ≡ true
   pub counts : Counts (a .road .n) (a .steps)
@@ -68,7 +68,7 @@ module _ (a : Study) (ok : Recordable a) where
   version-read =
       field-number s 4 4 1 (road .version) refl (omega (arith, known-most (road .version) (ok .version))) (in-header a (omega arith) (header .versionField))
 
-  -- so the bytes are laid out as they were put
+  -- so the bytes have the layout of the study's version
   layout : secondsSize (versionOf s) ≡ secondsSize (road .version)
   layout = ap secondsSize version-read
 
@@ -107,7 +107,7 @@ module _ (a : Study) (ok : Recordable a) where
       (at (a .road .ramp) i) (at (a .road .jam) i) (at (a .road .capacity) i) (at (a .start .held) i) (at (a .start .queue) i)
   cell i = cell-fields _ _ _ _ _ _ _ _
 
-  -- a column of a record of n cells, by what is in each
+  -- a column of a record of n cells, from the fields of the cells
   column : (offset w : ℕ) (l : List ℕ) → offset + w ≤ cellSize
       → ((i : ℕ) → i < a .road .n → (at l i < 256 ^ w) × Field (cellBytes (a .road) (a .start) i) offset w (at l i))
       → columnOf (recordOf a) offset w (cellsOf (recordOf a)) ≡ cutOf (a .road .n) l

@@ -1,4 +1,4 @@
--- What reading gave, as a study: it is within the limits, and begins with the state of its start. Assumes nothing.
+-- What reading gives, as a study: it is within the limits and begins with the state of its start. Assumes nothing.
 use mathlib.Core.Path.{_≡_, refl, sym, ap, subst, _∙_}
 use mathlib.Core.Bool.{Bool, true, false}
 use mathlib.Core.List.{List}
@@ -54,7 +54,7 @@ module _ (s : List ℕ) (reads : readingOf s .number ≡ 0) where
       let n = read-numbers s (readingOf s) refl reads in
       start-state (readingOf s .state) (n .done) (n .gateTime) (n .roadTime) (n .rampTime) (n .gateCumulative) (n .cumulative)
 
-  -- the version that was read has the record's size
+  -- the size for the version read is the record's length
   pub read-size : sizeOf (readingOf s .road .version) (readingOf s .road .n) (readingOf s .steps) ≡ length s
   read-size =
       ap (λ (v : ℕ). sizeOf v (r .n) (readingOf s .steps)) (read-numbers s (readingOf s) refl reads .version)
@@ -73,7 +73,7 @@ module _ (s : List ℕ) (reads : readingOf s .number ≡ 0) where
         row = w .row;
       }
 
-  -- where the version has no seconds they are 0
+  -- if the version has no seconds they are 0
   pub read-kept : keptSeconds (readingOf s .road .version) (readingOf s .road .seconds) ≡ readingOf s .road .seconds
   read-kept = go (eqb (r .version) secondVersion) refl
     where

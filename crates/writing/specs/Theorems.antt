@@ -1,5 +1,5 @@
--- docs/MODEL.md, 'Writing': what saving a road promises. Read back it is the same up to cell n and 0 past it; a record that was read and
--- written again has the same bytes; bytes beyond the record are untouched, and a refusal leaves the target unchanged. Assumes nothing.
+-- docs/MODEL.md, 'Writing': what writing promises. A written record reads back as the same values up to cell n, and 0 past it. A record that was
+-- read and is written again has the same bytes. Bytes beyond the record are unchanged, and a refusal leaves the target unchanged. Assumes nothing.
 use mathlib.Core.Path.{_≡_, refl, sym, ap, _∙_}
 use mathlib.Core.Bool.{true}
 use mathlib.Core.List.{List, []}
@@ -31,7 +31,7 @@ use Rattle.writing.specs.WrittenAgain.{same-bytes}
 abbrev pub savedOf : Road → ℕ → Start → List ℕ → List ℕ → List ℕ
 savedOf road T start rows target = take (writingOf road T start rows target .count) (targetAfter road T start rows target)
 
--- what was given without a refusal is within the limits
+-- what writing accepts is within the limits
 recordable : (road : Road) (T : ℕ) (start : Start) (rows : List ℕ) (room : ℕ)
     → Accepted (given road T start rows) (length rows) room → Recordable (given road T start rows)
 recordable road T start rows room ok =
@@ -49,12 +49,12 @@ recordable road T start rows room ok =
     }
 
 module _ (road : Road) (T : ℕ) (start : Start) (rows target : List ℕ) where
-  -- where writing isn't refused
+  -- if writing isn't refused
   pub record Saved : Type 0 where
     pub count : writingOf road T start rows target .count ≡ sizeOf (road .version) (road .n) T
     -- the first `count` bytes read back as what was given (cut-at, cut-past)
     pub back : ReadsBack road T start rows (writingOf road T start rows target .count) (targetAfter road T start rows target)
-    -- bytes beyond the record are untouched
+    -- bytes beyond the record are unchanged
     pub beyond : drop (sizeOf (road .version) (road .n) T) (targetAfter road T start rows target) ≡ drop (sizeOf (road .version) (road .n) T) target
 
   pub saved : writingOf road T start rows target .number ≡ 0 → Saved
@@ -77,14 +77,14 @@ module _ (road : Road) (T : ℕ) (start : Start) (rows target : List ℕ) where
             (drop-at (recordOf a) (drop (sizeOf (road .version) (road .n) T) target) (sizeOf (road .version) (road .n) T) (length-record a));
       }
 
-  -- by the answer and the target at exit
+  -- the same for an answer and a target that equal these
   pub reads-as-given : {a : WriteAnswer} {after : List ℕ} → a ≡ writingOf road T start rows target → after ≡ targetAfter road T start rows target
       → a .number ≡ 0 → ReadsBack road T start rows (a .count) after
   reads-as-given ea et z =
       let k = saved (ap (λ (x : WriteAnswer). x .number) (sym ea) ∙ z) in
       rw (ea, et) (k .back)
 
-  -- what writing promises: the answer, the target at exit, and that it reads back
+  -- what writing promises: the answer, the target afterwards, and that it reads back
   abbrev pub Promise : WriteAnswer → List ℕ → Type 0
   Promise a after =
       (a ≡ writingOf road T start rows target) × ((after ≡ targetAfter road T start rows target)
@@ -99,7 +99,7 @@ module _ (road : Road) (T : ℕ) (start : Start) (rows target : List ℕ) where
   unfolding writingOf
   unsaved h = (target-refused road T start rows target h, refused-count (given road T start rows) (length rows) (length target) h)
 
-  -- so running and judging a written record, under any table of lanes, is running and judging what was given: their study has its road, start, T and rows
+  -- so running and judging a written record under any table of lanes is running and judging what was given: road, start, T and rows are the same
   pub saved-road : Saved → (lanes : List ℕ) → studyOf (savedOf road T start rows target) lanes .road ≡ cutRoad road
   saved-road k lanes = rw (k .back .reads)
 
@@ -112,7 +112,7 @@ module _ (road : Road) (T : ℕ) (start : Start) (rows target : List ℕ) where
   pub saved-rows : Saved → (lanes : List ℕ) (t : ℕ) → t < T → studyOf (savedOf road T start rows target) lanes .rows t ≡ rowAt rows (rowNumbers (road .n)) t
   saved-rows k lanes t l = rw (k .back .reads) (k .back .row t l)
 
-  -- it keeps the version, and in version 2 the seconds; in version 1 they are 0
+  -- the version is kept, and in version 2 the seconds; in version 1 they are 0
   pub saved-version : Saved → readingOf (savedOf road T start rows target) .road .version ≡ road .version
   saved-version k = rw (k .back .reads)
 
@@ -136,7 +136,7 @@ module _ (s : List ℕ) (small : (i : ℕ) → at s i < 256) (reads : readingOf 
   abbrev start : Start
   start = startIn (readingOf s .state)
 
-  -- it isn't refused, and counts the record's bytes
+  -- writing isn't refused, and counts the record's bytes
   pub again-answer : writingOf (readingOf s .road) (readingOf s .steps) (startIn (readingOf s .state)) rows target ≡ written (length s)
   again-answer =
       let w = read-recordable s reads [] in
@@ -157,7 +157,7 @@ module _ (s : List ℕ) (small : (i : ℕ) → at s i < 256) (reads : readingOf 
       T (sym (first-none (givenOk (given road T start rows)) T fits)) refl (omega (arith, size)))
       ∙ ap written size
 
-  -- and the target then begins with exactly these bytes
+  -- the target then begins with exactly these bytes
   pub again-bytes : take (length s) (targetAfter (readingOf s .road) (readingOf s .steps) (startIn (readingOf s .state)) rows target) ≡ s
   again-bytes =
       let h : writingOf road T start rows target .number ≡ 0 = ap (λ (x : WriteAnswer). x .number) again-answer in

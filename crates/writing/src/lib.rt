@@ -62,7 +62,7 @@ pub fn refused(refusal: Refusal, place: usize) -> Written
     }
 }
 
-// The refusals in order, or the count of bytes that the record takes.
+// The first refusal, or the count of the record's bytes.
 fn checked(road: Road, steps: usize, start: Start, rows: &[u32], target: &[u8]) -> Written
     ensures { λ a. ⌜ writeAnswer a ≡ writingOf road steps start (now (rows .entry)) (now (target .entry)) ⌝ }
 {
@@ -93,7 +93,7 @@ fn checked(road: Road, steps: usize, start: Start, rows: &[u32], target: &[u8]) 
     }
 }
 
-// Writes a record into the target, or leaves it as it is: 2, 3, 19, 1, 4, 5, 6, then 15.
+// Writes a record into the target, or leaves it unchanged: 2, 3, 19, 1, 4, 5, 6, then 15.
 pub fn write(road: Road, steps: usize, start: Start, rows: &[u32], target: &mut [u8]) -> Written
     ensures answer { λ a. ⌜ writeAnswer a ≡ writingOf road steps start (now (rows .entry)) (now (target .entry)) ⌝ }
     ensures target { λ a. ⌜ now (target .exit) ≡ targetAfter road steps start (now (rows .entry)) (now (target .entry)) ⌝ }

@@ -4,7 +4,7 @@ use Rattle.encoding.proofs.put_cell.Statement.{statement}
 use Rattle.encoding.proofs.put_cell.Tie as tie
 use borrow.Author.Needs.{needs}
 
--- where each number has been put, from where the next has
+-- places of the code: after each number, from after the next
 abbrev Queue : tie.After-slice-known9 → tie.After-put-number4
 Queue c = c .before .before
 

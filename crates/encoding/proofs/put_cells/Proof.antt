@@ -15,7 +15,7 @@ Inv-loop target₀ at road start n end₀ i₀ target end i = (i ≤ n) × Putti
 abbrev μ-loop : tie.MeasureT-loop
 μ-loop target₀ at road start n end₀ i₀ target end i = n - i
 
--- the arguments, from the loop's place; the loop's test, from the place before the last argument of the call, by the one in the middle
+-- places of the code: the arguments from the loop; the loop's test from the place before the call's last argument, by way of the one in the middle
 abbrev A : tie.At-loop Inv-loop μ-loop → tie.Start Inv-loop μ-loop
 A c = c .before .before
 

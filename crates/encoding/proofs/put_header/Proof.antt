@@ -6,7 +6,7 @@ use Rattle.encoding.proofs.put_header.Tie as tie
 use native.Mathlib.Omega.{arith}
 use borrow.Author.Needs.{needs}
 
--- where each number has been put, from where the next has
+-- places of the code: after each number, from after the next
 abbrev Queue : tie.After-slice-known8 → tie.After-put-number3
 Queue c = c .before .before
 

@@ -7,7 +7,7 @@ use Rattle.encoding.proofs.put_record.Tie as tie
 use native.Mathlib.Omega.{arith}
 use borrow.Author.Needs.{needs}
 
--- places of the code: the arguments, from the header; the header, from the cells' call; the cells, from the rows' call
+-- places of the code: the arguments from the header, the header from the call for the cells, the cells from the call for the rows
 abbrev A : tie.After-put-header → tie.Start
 A c = c .before .before .before .before
 

@@ -16,7 +16,7 @@ Inv-loop target₀ at row end₀ k₀ target end k = (k ≤ length row) × Putti
 abbrev μ-loop : tie.MeasureT-loop
 μ-loop target₀ at row end₀ k₀ target end k = length row - k
 
--- the arguments, from the loop's place
+-- places of the code: the arguments from the loop
 abbrev A : tie.At-loop Inv-loop μ-loop → tie.Start Inv-loop μ-loop
 A c = c .before .before .before
 

@@ -15,7 +15,7 @@ Inv-loop target₀ at n rows steps numbers end₀ from₀ t₀ target end from t
 abbrev μ-loop : tie.MeasureT-loop
 μ-loop target₀ at n rows steps numbers end₀ from₀ t₀ target end from t = steps - t
 
--- the arguments, from the loop's place; the turn's row lies within the rows
+-- places of the code: the arguments from the loop; and the turn's row is within the rows
 abbrev A : tie.At-loop Inv-loop μ-loop → tie.Start Inv-loop μ-loop
 A c = c .before .before .before
 

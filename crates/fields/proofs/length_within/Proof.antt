@@ -8,7 +8,7 @@ use Rattle.fields.proofs.length_within.Statement.{statement}
 use Rattle.fields.proofs.length_within.Tie as tie
 use borrow.Author.Needs.{needs}
 
--- the arguments, from the test of 16 bytes; those and the header's size, from the test of that size
+-- places of the code: the arguments from the test of 16 bytes; the arguments and the header's size from the test of that size
 abbrev A : tie.Then1 → tie.Start
 A c = c .before .before
 

@@ -1,4 +1,4 @@
--- `fields::number` meets its contract. The invariant: r is the number in the k bytes passed. Assumes nothing.
+-- `fields::number` meets its contract. The invariant: r is the number in the first k bytes. Assumes nothing.
 use Rattle.model.specs.Record.{numberOf}
 use Rattle.fields.specs.FieldsLaws.{number-more, power-more, power-small}
 use Rattle.fields.proofs.number.Statement.{statement}

@@ -8,14 +8,14 @@ use Rattle.fields.proofs.put_seconds.Statement.{statement}
 use Rattle.fields.proofs.put_seconds.Tie as tie
 use borrow.Author.Needs.{needs}
 
--- the arguments, from both sides of the version's test
+-- places of the code: the arguments from both sides of the version's test
 abbrev A : tie.Then1 → tie.Start
 A c = c .before .before
 
 abbrev B : tie.Else1 → tie.Start
 B c = c .before .before
 
--- version 2 has two bytes
+-- version 2 has two bytes for the seconds
 two : (c : tie.Then1) → secondsSize (A c .args .version) ≡ shortSize
 two c = seconds-second (A c .args .version) (c .if1 .taken)
 

@@ -1,4 +1,4 @@
--- `fields::read_row` meets its contract. The invariant: the k numbers passed are stored. Assumes nothing.
+-- `fields::read_row` meets its contract. The invariant: the first k numbers are stored. Assumes nothing.
 use mathlib.Core.Path.{_≡_, refl, ap, _∙_}
 use Prim.Native.Nat.{ℕ, _≤_, _-_, _+_, _*_}
 use Rattle.model.specs.Numbers.{fillOf}
@@ -16,7 +16,7 @@ Inv-loop bytes n t r₀ start k₀ r k = (k ≤ 1 + 2 * n) × (r ≡ fillOf (ent
 abbrev μ-loop : tie.MeasureT-loop
 μ-loop bytes n t r₀ start k₀ r k = 1 + 2 * n - k
 
--- the arguments, from the version and from the row's start, and this start
+-- places of the code: the arguments from the version and from the row's start; and this start
 abbrev A : tie.After-version Inv-loop μ-loop → tie.Start Inv-loop μ-loop
 A c = c .before .before
 

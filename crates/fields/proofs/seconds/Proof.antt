@@ -8,7 +8,7 @@ use Rattle.fields.proofs.seconds.Statement.{statement}
 use Rattle.fields.proofs.seconds.Tie as tie
 use borrow.Author.Needs.{needs}
 
--- the arguments, from the count of the seconds' bytes, and this count
+-- places of the code: the arguments from the count of the seconds' bytes; and this count
 abbrev A : tie.After-seconds-size → tie.Start
 A c = c .before .before .before
 

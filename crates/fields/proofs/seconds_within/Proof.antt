@@ -1,4 +1,4 @@
--- `fields::seconds_within` meets its contract. Each return, by the test on the way to it. Assumes nothing.
+-- `fields::seconds_within` meets its contract. Each return follows from the test before it. Assumes nothing.
 use Rattle.fields.specs.HeaderLaws.{seconds-tested, seconds-unread}
 use Rattle.fields.proofs.seconds_within.Statement.{statement}
 use Rattle.fields.proofs.seconds_within.Tie as tie

@@ -1,4 +1,4 @@
--- `fields::short_column` meets its contract. The invariant: the fields of the i cells passed are stored. Assumes nothing.
+-- `fields::short_column` meets its contract. The invariant: the fields of the first i cells are stored. Assumes nothing.
 use mathlib.Core.Path.{_≡_, ap, _∙_}
 use Prim.Native.Nat.{ℕ, _+_, _*_, _-_}
 use native.Mathlib.Omega.{arith}
@@ -14,7 +14,7 @@ Inv-loop bytes offset n header r₀ i₀ r i = Collected bytes offset shortSize 
 abbrev μ-loop : tie.MeasureT-loop
 μ-loop bytes offset n header r₀ i₀ r i = n - i
 
--- the arguments, from the header's size, and this size
+-- places of the code: the arguments from the header's size; and this size
 abbrev A : tie.After-header-size Inv-loop μ-loop → tie.Start Inv-loop μ-loop
 A c = c .before .before .before
 

@@ -1,4 +1,4 @@
--- `joining::checked` meets its contract. Each return, by the tests on the way to it. Assumes nothing.
+-- `joining::checked` meets its contract. Each return follows from the tests before it. Assumes nothing.
 use mathlib.Core.Path.{_≡_, ap, sym, _∙_}
 use mathlib.Core.Bool.{true, false}
 use mathlib.Core.List.{List, []}
@@ -16,7 +16,7 @@ use Rattle.joining.proofs.checked.Statement.{statement}
 use Rattle.joining.proofs.checked.Tie as tie
 use borrow.Author.Needs.{needs}
 
--- places of the code, each from a later one: the arguments, and the places past each test
+-- places of the code, each from a later one: the arguments, and the place after each test
 abbrev A : tie.Else1 → tie.Start
 A c = c .before .before
 
@@ -42,14 +42,14 @@ C c = B (Same (c .before))
 abbrev D : tie.Else4 → tie.Start
 D c = C (Idle (c .before))
 
--- the upstream study, whatever its start and rows, and the downstream one
+-- the upstream study, with any start and rows, and the downstream study
 abbrev Up : tie.Start → State → (ℕ → List ℕ) → Study
 Up c start rows = study (c .args .road) start (c .args .steps) rows []
 
 abbrev Down : tie.Start → Study
 Down c = studyBy (c .args .downstream .now) [] (c .args .next) (c .args .next-state) (c .args .next-steps)
 
--- what is known past each test
+-- the facts after each test
 same : (c : tie.Else2) (start : State) (rows : ℕ → List ℕ) → alike (Up (B c) start rows) (Down (B c)) ≡ true
 same c start rows = sym (c .before .alike .ensures) ∙ not-false _ (c .if2 .left)
 
@@ -64,7 +64,7 @@ within c =
     let a = D c .args in
     within-bytes (a .road .version) (a .road .n + a .next .n) (a .steps) (sym (c .before .fits2 .ensures) ∙ not-false _ (c .if4 .left))
 
--- and where it fails
+-- and the facts if it fails
 differ : (c : tie.Then2) (start : State) (rows : ℕ → List ℕ) →
     let s = A (Shared (c .before)) in
     alike (Up s start rows) (Down s) ≡ false

@@ -1,4 +1,4 @@
--- `joining::fits` meets its contract. Each return, by the test on the way to it. Assumes nothing.
+-- `joining::fits` meets its contract. Each return follows from the test before it. Assumes nothing.
 use native.Mathlib.Omega.{arith}
 use Rattle.fields.specs.FieldsLaws.{start-small}
 use Rattle.joining.specs.JoiningLaws.{too-many, by-size}

@@ -1,4 +1,4 @@
--- `joining::gate_arrivals` meets its contract: the first number of the row. Assumes nothing.
+-- `joining::gate_arrivals` meets its contract: it reads the first number of the row. Assumes nothing.
 use mathlib.Core.Path.{_≡_, ap, _∙_}
 use Prim.Native.Nat.{ℕ}
 use native.Mathlib.Omega.{arith}
@@ -8,11 +8,11 @@ use Rattle.joining.proofs.gate_arrivals.Statement.{statement}
 use Rattle.joining.proofs.gate_arrivals.Tie as tie
 use borrow.Author.Needs.{needs}
 
--- the arguments, from the version
+-- places of the code: the arguments from the version
 abbrev A : tie.After-version → tie.Start
 A c = c .before .before
 
--- the row's start, by the version that the bytes name
+-- the row's start, computed from the version in the bytes
 starts : (c : tie.After-version) →
     let a = A c .args in
     rowStart (c .version .result) (a .n) (a .t) ≡ rowStart (versionOf (a .bytes .now)) (a .n) (a .t)

@@ -16,14 +16,14 @@ Inv-loop bytes n steps queue t₀ t = (queue ≡ 0) × Passed (noArrival bytes n
 abbrev μ-loop : tie.MeasureT-loop
 μ-loop bytes n steps queue t₀ t = steps - t
 
--- the arguments, from the queue's test; the turn's start, from its arrivals
+-- places of the code: the arguments from the test of the queue; the turn's start from its arrivals
 abbrev A : tie.Else1 Inv-loop μ-loop → tie.Start Inv-loop μ-loop
 A c = c .before .before
 
 abbrev In : tie.After-gate-arrivals Inv-loop μ-loop → tie.In-loop Inv-loop μ-loop
 In c = c .before
 
--- what the code finds of a step
+-- the code's test of a step
 found : (c : tie.After-gate-arrivals Inv-loop μ-loop) →
     let l = In c .before in
     let a = A (l .before) .args in

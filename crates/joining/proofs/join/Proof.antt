@@ -1,4 +1,4 @@
--- `joining::join` meets its contract. Each return, by the tests on the way to it. Assumes nothing.
+-- `joining::join` meets its contract. Each return follows from the tests before it. Assumes nothing.
 use mathlib.Core.Path.{_≡_, refl, sym, _∙_}
 use mathlib.Core.List.{[]}
 use lib.ListN.{length}
@@ -12,7 +12,7 @@ use Rattle.joining.proofs.join.Statement.{statement}
 use Rattle.joining.proofs.join.Tie as tie
 use borrow.Author.Needs.{needs}
 
--- places of the code, each from a later one: the arguments, both readings and the places past their tests, the checks and the place past them
+-- places of the code, each from a later one: the arguments, both readings and the places after their tests, the checks and the place after them
 abbrev A : tie.After-read → tie.Start
 A c = c .before .before .before .before
 

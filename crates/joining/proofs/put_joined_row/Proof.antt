@@ -5,7 +5,7 @@ use Rattle.joining.proofs.put_joined_row.Statement.{statement}
 use Rattle.joining.proofs.put_joined_row.Tie as tie
 use borrow.Author.Needs.{needs}
 
--- the arguments, from the first row's call; the first row, from the part of the second
+-- places of the code: the arguments from the first row's call; the first row from the part of the second
 abbrev A : tie.After-put-row-arg → tie.Start
 A c = c .before .before .before .before
 

@@ -1,4 +1,4 @@
--- `limits::times_within` meets its contract: each return, by the tests on the way to it. Assumes nothing.
+-- `limits::times_within` meets its contract: each return follows from the tests before it. Assumes nothing.
 use borrow.Author.Tests.{le-leb, lt-leb}
 use mathlib.Core.Path.{sym}
 use Prim.Native.Nat.{_+_}

@@ -1,4 +1,4 @@
--- `load::load` meets its contract. Each return, by the test on the way to it. Assumes nothing.
+-- `load::load` meets its contract. Each return follows from the test before it. Assumes nothing.
 use mathlib.Core.Path.{sym, ap, _∙_}
 use Rattle.model.specs.Load.{loaded}
 use Rattle.load.specs.LoadLaws.{refused-answer, refused-list, loaded-answer, loaded-list}

@@ -1,4 +1,4 @@
--- `opening::opened` meets its contract. Each return, by the tests on the way to it. Assumes nothing.
+-- `opening::opened` meets its contract. Each return follows from the tests before it. Assumes nothing.
 use mathlib.Core.Path.{_≡_, sym, _∙_}
 use Rattle.model.specs.Refusals.{refusalNumber}
 use Rattle.reading.specs.Within.{read-within}

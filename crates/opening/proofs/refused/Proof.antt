@@ -1,4 +1,4 @@
--- `opening::refused` meets its contract. Each return, by the tests on the way to it. Assumes nothing.
+-- `opening::refused` meets its contract. Each return follows from the tests before it. Assumes nothing.
 use mathlib.Core.Path.{sym, _∙_}
 use native.Mathlib.Nat.{mul-le-mul}
 use native.Mathlib.Omega.{arith}

@@ -1,4 +1,4 @@
--- `opening::start_refusal` meets its contract. Each return, by the tests on the way to it. Assumes nothing.
+-- `opening::start_refusal` meets its contract. Each return follows from the tests before it. Assumes nothing.
 use mathlib.Core.Path.{_≡_}
 use mathlib.Core.Bool.{true, false}
 use borrow.Author.Tests.{not-true, not-false, lt-leb, le-leb}

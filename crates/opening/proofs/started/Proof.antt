@@ -1,4 +1,4 @@
--- `opening::started` meets its contract. Each return, by the tests on the way to it. Assumes nothing.
+-- `opening::started` meets its contract. Each return follows from the tests before it. Assumes nothing.
 use mathlib.Core.Path.{_≡_, refl, sym, ap, _∙_}
 use native.Mathlib.Omega.{arith}
 use Rattle.model.specs.Refusals.{refusalNumber}

@@ -1,11 +1,11 @@
--- `put::has_ramp` meets its contract. Each return, by the tests on the way to it. Assumes nothing.
+-- `put::has_ramp` meets its contract. Each return follows from the tests before it. Assumes nothing.
 use native.Mathlib.Omega.{arith}
 use Rattle.put.specs.PutLaws.{no-cell, past-cells, at-cell}
 use Rattle.put.proofs.has_ramp.Statement.{statement}
 use Rattle.put.proofs.has_ramp.Tie as tie
 use borrow.Author.Needs.{needs}
 
--- the arguments, from the test that the cell is one
+-- places of the code: the arguments from the test that the cell is at least 1
 abbrev A : tie.Else1 → tie.Start
 A c = c .before
 

@@ -1,4 +1,4 @@
--- `put::put` meets its contract. Each return, by the tests on the way to it. Assumes nothing.
+-- `put::put` meets its contract. Each return follows from the tests before it. Assumes nothing.
 use mathlib.Core.Path.{_≡_, sym, _∙_}
 use mathlib.Core.Bool.{true}
 use borrow.Author.Tests.{not-true, not-false}
@@ -24,7 +24,7 @@ to-passed c = c .before .before .before
 abbrev to-ramp : tie.After-rates-within → tie.Else2
 to-ramp c = c .before
 
--- a record that was read, at a cell that has a ramp, and a step and a release within their limits
+-- the record reads, the cell has a ramp, and the step and the release are within their limits
 read-well : (c : tie.Else1) → refusalNumber (to-read c .read .result .refusal) ≡ 0
 read-well c = sym (c .before .number .ensures) ∙ c .if1 .left
 

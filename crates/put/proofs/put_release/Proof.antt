@@ -14,7 +14,7 @@ A c = c .before .before .before
 abbrev to-start : tie.After-put-number-arg → tie.After-row-start
 to-start c = c .before
 
--- the row's start, by the version that the bytes name
+-- the row's start, computed from the version in the bytes
 starts : (c : tie.After-version) →
     let a = A c .args in
     rowStart (c .version .result) (a .n) (a .step) ≡ rowStart (versionOf (a .bytes .now)) (a .n) (a .step)

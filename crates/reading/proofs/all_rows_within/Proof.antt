@@ -19,7 +19,7 @@ blocks c = c .args .steps / beside c
 plan : (c : tie.Start) → Blocks (c .args .n) (beside c) (blocks c) (c .args .steps)
 plan c = in-blocks (c .args .n) (c .args .steps) (c .pre .most)
 
--- the arguments, from the version and from the second start; that start, from the raises
+-- places of the code: the arguments from the version and from the second start; that start from the three passes
 abbrev A : tie.After-version → tie.Start
 A c = c .before .before
 
@@ -36,7 +36,7 @@ Raised c = c .before .before .before
 there : (c : tie.Start) → rowStart (versionOf (c .args .bytes .now)) (c .args .n) (blocks c * beside c) ≤ length (c .args .bytes .now)
 there c = blocks-there (c .pre) (plan c)
 
--- where row t starts, by the version as the code has it
+-- the start of row t, computed from the version in the code
 from-version : (c : tie.After-version) (t : ℕ) →
     let a = A c .args in
     rowStart (c .version .result) (a .n) t ≡ rowStart (versionOf (a .bytes .now)) (a .n) t

@@ -1,10 +1,10 @@
--- `reading::body` meets its contract. Each return, by the tests on the way to it. Assumes nothing.
+-- `reading::body` meets its contract. Each return follows from the tests before it. Assumes nothing.
 use Rattle.reading.specs.ReadingLaws.{Body, header-cells, header-done, header-most, header-steps, answer-place, answer-step, answer-accepted}
 use Rattle.reading.proofs.body.Statement.{statement}
 use Rattle.reading.proofs.body.Tie as tie
 use borrow.Author.Needs.{needs}
 
--- the arguments, from the road; the road, from the place; and the place, from the step
+-- places of the code: the arguments from the road, the road from the place, and the place from the step
 abbrev A : tie.After-road-of → tie.Start
 A c = c .before .before
 

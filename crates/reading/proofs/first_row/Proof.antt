@@ -1,4 +1,4 @@
--- `reading::first_row` meets its contract. The invariant: the rows of the t steps passed are within their limits. Assumes nothing.
+-- `reading::first_row` meets its contract. The invariant: the rows of the first t steps are within their limits. Assumes nothing.
 use mathlib.Core.Path.{sym}
 use borrow.Author.Tests.{not-true, not-false}
 use Prim.Native.Nat.{_-_}
@@ -16,7 +16,7 @@ Inv-loop bytes steps n ramp t₀ t = Passed (λ j. rowOk ramp n (recordRow bytes
 abbrev μ-loop : tie.MeasureT-loop
 μ-loop bytes steps n ramp t₀ t = steps - t
 
--- the arguments, from the look at all rows and from the loop's place; the turn's start, from the row's test
+-- places of the code: the arguments from the test of all rows and from the loop; the turn's start from the row's test
 abbrev A : tie.After-all-rows-within Inv-loop μ-loop → tie.Start Inv-loop μ-loop
 A c = c .before .before .before .before
 

@@ -1,4 +1,4 @@
--- `reading::numbers_within` meets its contract. The invariant: the rates of the i cells passed are within their limits. Assumes nothing.
+-- `reading::numbers_within` meets its contract. The invariant: the rates of the first i cells are within their limits. Assumes nothing.
 use borrow.Author.Tests.{not-true, not-false}
 use mathlib.Core.Path.{_≡_}
 use Prim.Native.Nat.{_-_, _+_, _*_, _≤_}
@@ -20,7 +20,7 @@ Inv-loop bytes ramp n start i₀ i = let row = rowAt bytes n start in (at row 0 
 abbrev μ-loop : tie.MeasureT-loop
 μ-loop bytes ramp n start i₀ i = n - i
 
--- the arguments, from the gate's number and from the loop's place; and a turn's start
+-- places of the code: the arguments from the gate's number and from the loop; and a turn's start
 abbrev A : tie.After-number Inv-loop μ-loop → tie.Start Inv-loop μ-loop
 A c = c .before .before
 
@@ -33,7 +33,7 @@ In c = c .before .before
 abbrev Read : tie.After-rates-within Inv-loop μ-loop → tie.After-number3 Inv-loop μ-loop
 Read c = c .before .before
 
--- the gate's arrivals as the code has them
+-- the gate's arrivals, as the code reads them
 gate : (c : tie.After-number Inv-loop μ-loop) →
     let a = A c .args in
     c .number .result ≡ at (rowAt (a .bytes .now) (a .n) (a .start)) 0
@@ -41,7 +41,7 @@ gate c =
     let a = A c .args in
     entry-read (a .bytes .now) (a .n) (a .start) 0 (omega arith) (c .number .ensures .0) (omega arith)
 
--- what it finds of the cell at i
+-- the code's test of the cell at i
 found : (c : tie.After-rates-within Inv-loop μ-loop) →
     let l = In (Read c) .before in
     let a = At l .args in

@@ -12,7 +12,7 @@ Inv-loop bytes start size greatest₀ j₀ greatest j = (j ≤ size) × AbovePar
 abbrev μ-loop : tie.MeasureT-loop
 μ-loop bytes start size greatest₀ j₀ greatest j = size - j
 
--- a turn's start, from the greater byte, and the arguments
+-- places of the code: a turn's start from the greater byte, and the arguments
 abbrev In : tie.After-greater Inv-loop μ-loop → tie.In-loop Inv-loop μ-loop
 In c = c .before .before .before
 

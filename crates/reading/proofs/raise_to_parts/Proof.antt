@@ -14,7 +14,7 @@ Inv-loop bytes start size count greatest₀ k₀ greatest k = (k ≤ count) × A
 abbrev μ-loop : tie.MeasureT-loop
 μ-loop bytes start size count greatest₀ k₀ greatest k = count - k
 
--- the arguments, from a turn's start
+-- places of the code: the arguments from a turn's start
 abbrev A : tie.In-loop Inv-loop μ-loop → tie.Start Inv-loop μ-loop
 A c = c .before .before .before
 

@@ -1,4 +1,4 @@
--- `reading::read_within` meets its contract. Each return, by the tests on the way to it. Assumes nothing.
+-- `reading::read_within` meets its contract. Each return follows from the tests before it. Assumes nothing.
 use borrow.Author.Tests.{not-true, not-false}
 use mathlib.Core.Path.{_≡_, sym, ap, _∙_}
 use mathlib.Core.Bool.{true}
@@ -17,7 +17,7 @@ use Rattle.reading.proofs.read_within.Tie as tie
 use native.Mathlib.Omega.{arith}
 use borrow.Author.Needs.{needs}
 
--- the arguments, from the length's test; the places past the tests of the length, the version, the counts and the seconds, each from a later one
+-- places of the code: the arguments from the test of the length; after the tests of the length, the version, the counts and the seconds, each from the next
 abbrev A : tie.After-length-within → tie.Start
 A c = c .before .before
 
@@ -39,7 +39,7 @@ Counts c = c .before .before
 abbrev Seconds : tie.After-row-start → tie.Else4
 Seconds c = c .before
 
--- the arguments and the record, from the version, and from the counts' test
+-- the arguments from the version, and from the test of the counts
 abbrev Args : tie.After-version → tie.Start
 Args c = A (Length c .before)
 
@@ -52,7 +52,7 @@ ArgsIn c = Args (Version (Known (T c) .before))
 abbrev In : tie.Else3 → List ℕ
 In c = ArgsIn c .args .bytes .now
 
--- what is known past each test
+-- the facts after each test
 lengthy : (c : tie.Else1) → lengthOk bothVersions (A (c .before) .args .bytes .now) ≡ true
 lengthy c = sym (c .before .length-within .ensures) ∙ not-false _ (c .if1 .left)
 

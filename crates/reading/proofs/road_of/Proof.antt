@@ -10,7 +10,7 @@ use Rattle.reading.proofs.road_of.Statement.{statement}
 use Rattle.reading.proofs.road_of.Tie as tie
 use borrow.Author.Needs.{needs}
 
--- the arguments, from the count of the seconds' bytes, and this count; the gate's capacity, which is so much later
+-- places of the code: the arguments from the count of the seconds' bytes; this count; and the gate's capacity, which comes that much later
 abbrev A : tie.After-seconds-size → tie.Start
 A c = c .before .before .before
 
@@ -24,7 +24,7 @@ capacity c =
     let h = c .before .before in
     c .number .ensures .0 ∙ ap (λ (x : ℕ). numberOf (A h .args .bytes .now) (8 + x) numberSize) (size h)
 
--- a column, of the cells that the record has
+-- a column of the record's own cells
 of : (c : tie.Start) (offset w : ℕ) → columnOf (c .args .bytes .now) offset w (c .args .n) ≡ columnOf (c .args .bytes .now) offset w (cellsOf (c .args .bytes .now))
 of c offset w = ap (columnOf (c .args .bytes .now) offset w) (c .pre .count)
 

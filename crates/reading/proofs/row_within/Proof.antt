@@ -9,7 +9,7 @@ use Rattle.reading.proofs.row_within.Tie as tie
 use borrow.Author.Needs.{needs}
 use native.Mathlib.Omega.{arith}
 
--- the arguments, from the version and from the row's start
+-- places of the code: the arguments from the version and from the row's start
 abbrev A : tie.After-version → tie.Start
 A c = c .before .before
 

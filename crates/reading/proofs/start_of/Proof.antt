@@ -8,7 +8,7 @@ use Rattle.reading.proofs.start_of.Statement.{statement}
 use Rattle.reading.proofs.start_of.Tie as tie
 use borrow.Author.Needs.{needs}
 
--- the arguments, from the count of the seconds' bytes, and this count; the gate's queue, which is so much later
+-- places of the code: the arguments from the count of the seconds' bytes; this count; and the gate's queue, which comes that much later
 abbrev A : tie.After-seconds-size → tie.Start
 A c = c .before .before .before
 

@@ -1,4 +1,4 @@
--- `street::grant` meets its contract. Each return, by the test on the way to it. Assumes nothing.
+-- `street::grant` meets its contract. Each return follows from the test before it. Assumes nothing.
 use mathlib.Core.Path.{_≡_, sym, _∙_}
 use mathlib.Core.Bool.{true}
 use lib.ListN.{length}

@@ -1,11 +1,11 @@
--- `taking::entry` meets its contract. Each return, by the tests on the way to it. Assumes nothing.
+-- `taking::entry` meets its contract. Each return follows from the tests before it. Assumes nothing.
 use native.Mathlib.Omega.{arith}
 use Rattle.taking.specs.PickingLaws.{entry-there, entry-none}
 use Rattle.taking.proofs.entry.Statement.{statement}
 use Rattle.taking.proofs.entry.Tie as tie
 use borrow.Author.Needs.{needs}
 
--- the arguments, from both sides of the first test
+-- places of the code: the arguments from both sides of the first test
 abbrev A : tie.Then1 → tie.Start
 A c = c .before .before
 

@@ -1,4 +1,4 @@
--- `taking::numbers` meets its contract. The invariant: the k numbers passed are stored. Assumes nothing.
+-- `taking::numbers` meets its contract. The invariant: the first k numbers are stored. Assumes nothing.
 use mathlib.Core.Path.{_≡_, ap, _∙_}
 use Prim.Native.Nat.{ℕ, _+_, _*_, _-_, _≤_}
 use native.Mathlib.Omega.{arith}
@@ -16,7 +16,7 @@ Inv-loop bytes n t start r₀ k₀ r k = RowTaken bytes n t r k
 abbrev μ-loop : tie.MeasureT-loop
 μ-loop bytes n t start r₀ k₀ r k = rowNumbers n - k
 
--- the start that was found, from the loop's place; the version, from it; and the arguments, from that
+-- places of the code: the row's start from the loop, the version from it, and the arguments from the version
 abbrev Began : tie.At-loop Inv-loop μ-loop → tie.After-row-start Inv-loop μ-loop
 Began c = c .before
 
@@ -26,7 +26,7 @@ Version c = c .before
 abbrev A : tie.After-version Inv-loop μ-loop → tie.Start Inv-loop μ-loop
 A c = c .before .before
 
--- it is that of the bytes' version, and small
+-- the start is that of the bytes' version, and fits a machine number
 small : (c : tie.After-version Inv-loop μ-loop) → let a = A c .args in rowStart (c .version .result) (a .n) (a .t) ≤ mostSize
 small c = let a = A c in start-small (c .version .result) (a .args .n) (a .args .t) (a .pre .0) (omega (arith, a .pre .1))
 

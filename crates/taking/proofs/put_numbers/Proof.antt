@@ -1,4 +1,4 @@
--- `taking::put_numbers` meets its contract. The invariant: the first k numbers of the row stand in the part. Assumes nothing.
+-- `taking::put_numbers` meets its contract. The invariant: the first k numbers of the row are in the part. Assumes nothing.
 use mathlib.Core.Path.{_≡_, refl}
 use Prim.Native.Nat.{_-_}
 use lib.ListN.{length}

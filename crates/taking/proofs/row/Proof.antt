@@ -1,10 +1,10 @@
--- `taking::row` meets its contract. Each return, by the tests on the way to it. Assumes nothing.
+-- `taking::row` meets its contract. Each return follows from the tests before it. Assumes nothing.
 use native.Mathlib.Omega.{arith}
 use Rattle.taking.specs.PickingLaws.{array-cells, array-steps, array-numbers}
 use Rattle.taking.proofs.row.Statement.{statement}
 use Rattle.taking.proofs.row.Tie as tie
 
--- the arguments, from both sides of the test of n
+-- places of the code: the arguments from both sides of the test of n
 abbrev A : tie.Then1 → tie.Start
 A c = c .before .before
 

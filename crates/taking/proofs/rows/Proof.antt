@@ -1,4 +1,4 @@
--- `taking::rows` meets its contract. The invariant: the rows of the first t steps stand in the list. Assumes nothing.
+-- `taking::rows` meets its contract. The invariant: the rows of the first t steps are in the list. Assumes nothing.
 use Prim.Native.Nat.{_+_, _-_, _≤_}
 use lib.ListN.{length}
 use Rattle.numbers.specs.TablesLaws.{part-length}
@@ -38,7 +38,7 @@ room : (c : tie.Else3 Inv-loop μ-loop) →
     Roomy (a .n) (a .steps) (length (a .list .now))
 room c = record { cells = c .before .before .if1 .left; steps = c .before .if2 .left; long = c .if3 .left }
 
--- the next row lies within the list
+-- the next row is within the list
 fits : (c : tie.In-loop Inv-loop μ-loop) →
     let l = c .before in
     l .loop .from + rowNumbers (Tested (l .before .before) .args .n) ≤ length (l .loop .list)

@@ -1,4 +1,4 @@
--- `taking::version` meets its contract. Each return, by the test on the way to it. Assumes nothing.
+-- `taking::version` meets its contract. Each return follows from the test before it. Assumes nothing.
 use Rattle.taking.specs.PickingLaws.{version-none}
 use Rattle.taking.proofs.version.Statement.{statement}
 use Rattle.taking.proofs.version.Tie as tie

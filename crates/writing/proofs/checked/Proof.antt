@@ -1,4 +1,4 @@
--- `writing::checked` meets its contract. Each return, by the tests on the way to it. Assumes nothing.
+-- `writing::checked` meets its contract. Each return follows from the tests before it. Assumes nothing.
 use mathlib.Core.Path.{_≡_, ap, sym, _∙_}
 use Prim.Native.Nat.{ℕ, _+_}
 use lib.ListN.{length}
@@ -16,7 +16,7 @@ use Rattle.writing.proofs.checked.Tie as tie
 use native.Mathlib.Omega.{arith}
 use borrow.Author.Needs.{needs}
 
--- places of the code, each from a later one: the arguments, the frame's test, the place, the step and the size
+-- places of the code, each from a later one: the arguments, the first five tests, the place, the step and the size
 abbrev A : tie.After-frame-refusal → tie.Start
 A c = c .before .before .before
 
@@ -32,7 +32,7 @@ Step c = c .before .before
 abbrev Size : tie.After-row-start → tie.Else3
 Size c = c .before
 
--- what was given
+-- the study given
 abbrev Of : tie.Start → Study
 Of c = given (c .args .road) (c .args .steps) (c .args .start) (c .args .rows .now)
 
@@ -42,13 +42,13 @@ numbers c = length (c .args .rows .now)
 abbrev room : tie.Start → ℕ
 room c = length (c .args .target .now)
 
--- past the frame's test
+-- after the first five tests
 ok : (c : tie.Else1) → Framed (Of (A (Frame c))) (numbers (A (Frame c)))
 ok c =
     let z : refusalNumber (Frame c .frame-refusal .result) ≡ 0 = search needs in
     framed (Of (A (Frame c))) (numbers (A (Frame c))) (sym (Frame c .frame-refusal .ensures) ∙ z)
 
--- the place that was found
+-- the lowest place out of its limits
 place : (c : tie.After-first-place) →
     let a = Of (A (Frame (Place c))) in
     c .first-place .result ≡ firstOf (placeOk (a .road) (a .start)) (a .road .n + 1)
@@ -56,7 +56,7 @@ place c =
     let a = A (Frame (Place c)) .args in
     c .first-place .ensures ∙ ap (λ (s : State). firstOf (placeOk (a .road) s) (a .road .n + 1)) (c .before .state .ensures)
 
--- an answer of the study, as the answer to what was given
+-- the study's answer is the answer to what was given
 whole : (c : tie.Start) → writingBy (Of c) (numbers c) (room c)
     ≡ writingOf (c .args .road) (c .args .steps) (c .args .start) (c .args .rows .now) (c .args .target .now)
 whole c = by-given (c .args .road) (c .args .steps) (c .args .start) (c .args .rows .now) (c .args .target .now)

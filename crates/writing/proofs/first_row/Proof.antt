@@ -1,4 +1,4 @@
--- `writing::first_row` meets its contract. The invariant: the rows of the t steps passed are within their limits. Assumes nothing.
+-- `writing::first_row` meets its contract. The invariant: the rows of the first t steps are within their limits. Assumes nothing.
 use mathlib.Core.Path.{_≡_, ap, _∙_}
 use mathlib.Core.List.{List}
 use Prim.Native.Nat.{ℕ, _+_, _-_, _*_, _≤_}
@@ -22,7 +22,7 @@ Inv-loop ramp n rows steps numbers from₀ t₀ from t =
 abbrev μ-loop : tie.MeasureT-loop
 μ-loop ramp n rows steps numbers from₀ t₀ from t = steps - t
 
--- the arguments, from the loop's place; the loop's test, from the row's
+-- places of the code: the arguments from the loop; the loop's test from the row's
 abbrev A : tie.At-loop Inv-loop μ-loop → tie.Start Inv-loop μ-loop
 A c = c .before .before
 
@@ -38,7 +38,7 @@ Row c =
 fits : (c : tie.In-loop Inv-loop μ-loop) → c .before .loop .from + rowNumbers (A (c .before) .args .n) ≤ length (A (c .before) .args .rows .now)
 fits c = row-fits (A (c .before) .pre) (c .before .loop .inv .0) (c .loop-test .taken)
 
--- what the code finds of it
+-- the code's test of it
 found : (c : tie.After-row-within Inv-loop μ-loop) →
     let l = In c .before in
     let a = A l .args in

@@ -1,4 +1,4 @@
--- `writing::frame_refusal` meets its contract. Each return, by the tests on the way to it. Assumes nothing.
+-- `writing::frame_refusal` meets its contract. Each return follows from the tests before it. Assumes nothing.
 use mathlib.Core.Path.{_≡_, sym, _∙_}
 use mathlib.Core.Bool.{true}
 use Prim.Native.Nat.{_≤_}
@@ -13,7 +13,7 @@ use Rattle.writing.proofs.frame_refusal.Tie as tie
 use native.Mathlib.Omega.{arith}
 use borrow.Author.Needs.{needs}
 
--- the arguments, from the version's test; the places past each test, from the next
+-- places of the code: the arguments from the version's test; after each test, from the next
 abbrev A : tie.After-version-known → tie.Start
 A c = c .before
 
@@ -36,7 +36,7 @@ C c = B (Counted c .before)
 abbrev D : tie.After-row-start → tie.Start
 D c = C (Timed c .before)
 
--- what is known past each test
+-- the facts after each test
 known : (c : tie.Else1) → oneOf bothVersions (A (c .before) .args .version) ≡ true
 known c = sym (c .before .version-known .ensures) ∙ not-false _ (c .if1 .left)
 

@@ -1,4 +1,4 @@
--- `writing::write` meets its contract. Each return, by the test on the way to it. Assumes nothing.
+-- `writing::write` meets its contract. Each return follows from the test before it. Assumes nothing.
 use mathlib.Core.Path.{_≡_, sym, ap, _∙_}
 use Rattle.model.specs.Refusals.{refusalNumber}
 use Rattle.model.specs.Writing.{WriteAnswer, writingOf}
@@ -8,14 +8,14 @@ use Rattle.writing.proofs.write.Statement.{statement}
 use Rattle.writing.proofs.write.Tie as tie
 use borrow.Author.Needs.{needs}
 
--- places of the code: the arguments, from the checks; the checks, from the test after them
+-- places of the code: the arguments from the checks, and the checks from the test after them
 abbrev A : tie.After-checked → tie.Start
 A c = c .before .before .before .before
 
 abbrev Checked : tie.Else1 → tie.After-checked
 Checked c = c .before .before
 
--- the number that the test looked at is the answer's
+-- the number tested is the answer's
 number : (c : tie.After-checked) →
     let a = A c .args in
     refusalNumber (c .checked .result .refusal) ≡ writingOf (a .road) (a .steps) (a .start) (a .rows .now) (a .target .now) .number
