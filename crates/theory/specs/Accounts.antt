@@ -1,4 +1,4 @@
--- What the states of a schedule add up to, for every record that reads and every table of lanes: the three times, the total, cumulative outflows and conservation. Assumes nothing.
+-- The sums over a schedule's states, for every record that reads and every table of lanes: the three times, the total, F and conservation. Assumes nothing.
 use mathlib.Core.Path.{_≡_, refl, sym, _∙_}
 use mathlib.Core.List.{List}
 use Prim.Native.Nat.{ℕ, zero, suc, _+_, _≤_}
@@ -19,13 +19,13 @@ use Rattle.reading.specs.Numbers.{Numbers, read-numbers}
 use Rattle.theory.specs.Readable.{readable}
 use Rattle.model.specs.Demand.{Taken, Reaches}
 
--- after k steps of a table of outflows
+-- the sums after k steps of a table of outflows
 pub record Accounts (a : Study) (zs : List ℕ) (k : ℕ) : Type 0 where
-  -- gate, road and ramp time are the sums of the gate queue, of all held counts and of all ramp queues over the states after those steps
+  -- gate, road and ramp time are the sums of the gate queue, of all held counts and of all ramp queues over the states after these steps
   pub gateTime : scheduledAt a zs k .«gate_time» ≡ sumOf (listOf (λ j. scheduledAt a zs (suc j) .«gate_queue») k)
   pub roadTime : scheduledAt a zs k .«road_time» ≡ sumOf (listOf (λ j. heldSum (a .road) (scheduledAt a zs (suc j))) k)
   pub rampTime : scheduledAt a zs k .«ramp_time» ≡ sumOf (listOf (λ j. queueSum (a .road) (scheduledAt a zs (suc j))) k)
-  -- and the total is the sum of present
+  -- the total is the sum of present
   pub total : totalOf (scheduledAt a zs k) ≡ sumOf (listOf (λ j. presentOf (a .road) (scheduledAt a zs (suc j))) k)
   -- each F is the sum of its column of outflows
   pub cumulative : (p : ℕ) → p ≤ a .road .n → cumulativeAt (scheduledAt a zs k) p ≡ sumOf (listOf (λ j. at (proposedAt a zs j) p) k)
@@ -124,7 +124,7 @@ module _ (bytes lanes zs : List ℕ) (taken : Taken bytes lanes) where
         sum-list-more (λ j. at (proposedAt a zs j) p) k,
       )
 
-  -- of every step that a schedule reaches; running's written rows are one, and so is what judging goes through
+  -- for every step that a schedule reaches: the rows that running writes are such a schedule, and so are the rows that judging accepts
   pub accounts : (k : ℕ) → Reaches (studyOf bytes lanes) zs k → Accounts (studyOf bytes lanes) zs k
   accounts k h = record {
     gateTime = gate-time-sum k;

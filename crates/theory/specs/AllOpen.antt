@@ -1,4 +1,4 @@
--- With all built lanes open a step is one without closures. Assumes nothing.
+-- If all built lanes are open, a step is one without closures. Assumes nothing.
 use mathlib.Core.Path.{_≡_, refl, ap, _∙_}
 use mathlib.Core.Bool.{Bool, true, false}
 use mathlib.Core.List.{List}

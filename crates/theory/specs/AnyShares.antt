@@ -1,4 +1,4 @@
--- Any shares: one step of a study and of the finer one, with each error divided by the share of its traffic that reaches the end. Assumes nothing.
+-- Any shares: one step of a study and of the finer study, with each error divided by the part of the traffic that reaches the end. Assumes nothing.
 use mathlib.Core.Path.{_≡_, sym, ap, _∙_, subst}
 use mathlib.Core.Logic.{_⊎_, inl, inr, ⊎-elim}
 use mathlib.Core.List.{List}
@@ -23,14 +23,14 @@ use Rattle.theory.specs.FinerLaws.{FinerRoad, finer-alike, finer-onward,
 use Rattle.theory.specs.Coupling.{Coupling, sized-finer}
 use Rattle.theory.specs.StepRules.{Decided, demand-most, demand-least, room-most, room-least}
 
--- F and onward total of t are beyond K times those of s by U thousands at most: F times the product R of the shares from its place on, the onward
--- total times that of the next place
+-- t's F and onward total exceed K times those of s by at most U thousands: F times the product R of the shares from its place on, the onward
+-- total times the product from the next place on
 pub record Most (K U : ℕ) (r : Road) (s t : State) : Type 0 where
   pub outflow : (p : ℕ) → p ≤ r .n → cumulativeAt t p * reachOf r p ≤ K * cumulativeAt s p * reachOf r p + U * thousandsOf r p
   pub onward : (p : ℕ) → p < r .n
       → onwardAt r t p * reachOf r (suc p) ≤ K * onwardAt r s p * reachOf r (suc p) + U * thousandsOf r (suc p)
 
--- and short of them by L thousands at most
+-- K times those of s exceed t's by at most L thousands
 pub record Least (K L : ℕ) (r : Road) (s t : State) : Type 0 where
   pub outflow : (p : ℕ) → p ≤ r .n → K * cumulativeAt s p * reachOf r p ≤ cumulativeAt t p * reachOf r p + L * thousandsOf r p
   pub onward : (p : ℕ) → p < r .n
@@ -58,14 +58,14 @@ module _ (K : ℕ) (a b : Road) (h : Alike a b) (s t : State) where
         rw (reach-alike a b h (suc p) l′ .0, reach-alike a b h (suc p) l′ .1, share-alike a b h p (omega arith)) (m .onward p l′);
   }
 
--- a strict bound with the step's own rounding, in thousands
+-- a strict bound that includes the step's own rounding, in thousands
 widen : (x y U T P W : ℕ) → W ≤ T → x < y + U * T + P * W → x ≤ y + (U + P) * T
 widen x y U T P W l h = omega (arith, mul-le-mul-left P l)
 
 widen-one : (x y U T W : ℕ) → W ≤ T → x < y + U * T + W → x ≤ y + (U + 1) * T
 widen-one x y U T W l h = omega arith
 
--- the laws of a place's step, with the product P of shares and their thousands D given by equations
+-- the laws of one place in a step; equations give the product P of the shares and their thousands D
 module _ (K b W T P D Z G G′ M M′ N N′ : ℕ) (k : 0 < K) (some : W ≤ T) (v : P ≡ b * W) (d : D ≡ whole * T) where
   most-at : G′ * P ≤ K * G * P + Z * D → M′ * W ≤ K * M * W + Z * T → N′ ≤ G′ → onwardOf b N′ ≤ M′ → (N ≡ G) ⊎ (onwardOf b N ≡ M)
       → (N′ * P ≤ K * N * P + (Z + K) * D) × (onwardOf b N′ * W ≤ K * onwardOf b N * W + (Z + K) * T)
@@ -112,11 +112,11 @@ module _ (K : ℕ) (q q′ : Road) (s t : State) (row y z : List ℕ) (k : 0 < K
         finer-onward f T′ p l,
       )
 
-  -- where nothing goes on
+  -- nothing goes on from a place with share 0
   onward-stop : (u : State) (p : ℕ) → shareAt q p ≡ 0 → onwardAt q u p ≡ 0
   onward-stop u p e = ap (λ (b : ℕ). onwardOf b (cumulativeAt u p)) e ∙ onward-none (cumulativeAt u p)
 
-  -- a place before the last, or one where nothing goes on
+  -- a place is before the last, or nothing goes on from it
   place-of : (p : ℕ) → p ≤ q .n → (shareAt q p ≡ 0) ⊎ ((shareAt q p ≡ 0 → ⊥) × (p < q .n))
   place-of p l = ⊎-elim
       (λ (e : shareAt q p ≡ 0). inl e)
@@ -157,7 +157,7 @@ module _ (K : ℕ) (q q′ : Road) (s t : State) (row y z : List ℕ) (k : 0 < K
         (λ (e : enteringAt q s y p ≡ roomAt q s row p). inr (omega (arith, own-on p at-place, e)))
         (decided .place p l))
 
-    -- in a step U grows by 2 K at most
+    -- in a step U grows by at most 2 K
     pub most-step : Most K (U + K + K) q S′ T′
     most-step = record {
       outflow = λ p l. ⊎-elim
@@ -204,7 +204,7 @@ module _ (K : ℕ) (q q′ : Road) (s t : State) (row y z : List ℕ) (k : 0 < K
         (λ (e : enteringAt q′ t z p ≡ roomAt q′ t (timesOf K row) p). inr (omega (arith, fine-on p at-place, e)))
         (decided .place p (omega (arith, f .n))))
 
-    -- in a step L grows by K + 1 at most
+    -- in a step L grows by at most K + 1
     pub least-step : Least K (L + 1 + K) q S′ T′
     least-step = record {
       outflow = λ p l. ⊎-elim

@@ -1,5 +1,5 @@
--- No schedule is ahead of the greatest outflows: two states after the same arrivals and releases, kept so by every step, one by the
--- greatest outflows on a road that is nowhere worse and the other by any row that obeys the rules. Assumes nothing.
+-- No schedule is ahead of the greatest outflows. Two states have the same arrivals and releases. One side makes each step with the greatest
+-- outflows on a road that is nowhere worse, the other with any row that obeys the rules. Assumes nothing.
 use mathlib.Core.Path.{_≡_, refl, sym, _∙_, subst}
 use mathlib.Core.Logic.{⊎-elim}
 use mathlib.Core.List.{List}
@@ -21,7 +21,7 @@ use Rattle.theory.specs.MoveLaws.{next-gate-queue, next-held, next-queue
 use Rattle.theory.specs.Roads.{Alike, Wider, Compared, alike-back, share-alike, onward-alike, queue-alike, present-alike, sized-alike}
 use Rattle.theory.specs.TwoStates.{Level, level-self, level-alike, onward-le, queue-same, present-le}
 
--- level, ramp times are equal, and t's total is not smaller
+-- s and t are level, their ramp times are equal, and t's total is not smaller
 pub record Behind (r : Road) (s t : State) : Type 0 where
   pub level : Level r s t
   pub rampTime : s .«ramp_time» ≡ t .«ramp_time»
@@ -34,7 +34,7 @@ behind-self r s z = record { level = level-self r s z; rampTime = refl; total = 
 pub behind-alike : (a b : Road) (s t : State) → Alike a b → Behind a s t → Behind b s t
 behind-alike a b s t e h = record { level = level-alike a b s t e (h .level); rampTime = h .rampTime; total = h .total }
 
--- a is the road of t and of z, any row that obeys the rules; b, nowhere worse, that of s and of y, the greatest outflows
+-- a is the road of t, with any row z that obeys the rules; b, nowhere worse, is the road of s, with y, the greatest outflows
 module _ (a b : Road) (s t : State) (row y z : List ℕ) (okA : RoadOk a) (okB : RoadOk b) (wider : Wider a b)
     (own : Obeys b s row y) (most : Greatest b s row y) (ok : Obeys a t row z) (before : Level a s t) where
   abbrev same : b .n ≡ a .n
@@ -68,7 +68,7 @@ module _ (a b : Road) (s t : State) (row y z : List ℕ) (okA : RoadOk a) (okB :
             (omega (arith, before .cells i l, before .cumulatives (suc i) l, k)),
       )
 
-  -- no place of the schedule gets ahead in the step
+  -- the schedule gets ahead at no place in the step
   outflow-step : (p : ℕ) → p ≤ a .n → cumulativeAt t p + at z p ≤ cumulativeAt s p + at y p
   outflow-step p l = ⊎-elim
       (λ (e : p ≡ a .n).
@@ -111,7 +111,7 @@ module _ (a b : Road) (s t : State) (row y z : List ℕ) (okA : RoadOk a) (okB :
         demand-at-gate a t,
       )
 
-  -- the onward total of S′, on a's shares
+  -- the onward total of S′, with a's shares
   onward-step′ : (p : ℕ) → p ≤ a .n → onwardAt a S′ p ≡ onwardAt a s p + enteringAt b s y p
   onward-step′ p l =
       omega (
@@ -182,7 +182,7 @@ module _ (a b : Road) (s t : State) (row y z : List ℕ) (okA : RoadOk a) (okB :
         present-le a S′ T′ okA step-level,
       )
 
--- a step by the greatest outflows on one side and by any row that obeys the rules on the other, on roads of r's cells and shares
+-- a step with the greatest outflows on one side and any row that obeys the rules on the other, on roads with r's cells and shares
 pub step-behind : (r a b : Road) (s t : State) (row y z : List ℕ) → Compared r a b → Obeys b s row y → Greatest b s row y → Obeys a t row z
     → Behind r s t → Behind r (nextOf b s row y) (nextOf a t row z)
 step-behind r a b s t row y z c own most ok before =

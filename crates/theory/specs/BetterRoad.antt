@@ -1,5 +1,5 @@
--- Theorem: raising speeds, waves, jam counts or capacities of cells, or the gate's capacity, makes no cumulative outflow smaller and never makes the
--- total larger, with the same start, rows and closures, where both runs accept the releases. Assumes nothing.
+-- Theorem: a larger speed, wave, jam count or capacity of a cell, or a larger gate capacity, makes no cumulative outflow smaller and no total
+-- larger. Start, rows and closures are the same, and both runs accept the releases. Assumes nothing.
 use mathlib.Core.Path.{_≡_, ap, _∙_, subst⁻¹}
 use mathlib.Core.Bool.{Bool, true, false, cond}
 use mathlib.Core.List.{List}
@@ -15,8 +15,8 @@ use Rattle.theory.specs.OpenRoad.{opened-wider}
 use Rattle.theory.specs.RunsLaws.{Fitting, StudyOk, Rivals, engine-schedule, engine-obeys, run-behind}
 use Rattle.theory.specs.Behind.{Behind}
 
--- b is the study a but for its road, on which no speed, wave, jam count or capacity is smaller. Shares are the same: with a larger one less leaves by
--- the off-ramp, and what goes on stays present
+-- b is the study a with another road, on which no speed, wave, jam count or capacity is smaller. The shares are the same: with a larger share
+-- less leaves by the off-ramp, and what goes on stays present
 pub record Improved (a b : Study) : Type 0 where
   pub road : Wider (a .road) (b .road)
   pub start : b .start ≡ a .start
@@ -24,13 +24,13 @@ pub record Improved (a b : Study) : Type 0 where
   pub rows : (k : ℕ) → k < a .steps → b .rows k ≡ a .rows k
   pub lanes : b .lanes ≡ a .lanes
 
--- both within the limits, with a capacity for each cell
+-- both studies are within the limits and have a capacity for each cell
 module _ {a b : Study} (h : Improved a b) (okA : StudyOk a) (okB : StudyOk b) (la : a .road .n ≤ length (a .road .capacity))
     (lb : b .road .n ≤ length (b .road .capacity)) where
   abbrev roadOf : Road → ℕ → Bool → ℕ → Road
   roadOf r n empty k = cond empty r (openRoad r (builtIn (a .lanes) n) (openIn (a .lanes) n k))
 
-  -- the same closures leave a road that is nowhere worse
+  -- with the same closures the better road is still nowhere worse
   roads-wider : (k : ℕ) → Wider (roadAt a k) (roadAt b k)
   unfolding roadAt
   roads-wider k =
@@ -56,7 +56,7 @@ module _ {a b : Study} (h : Improved a b) (okA : StudyOk a) (okB : StudyOk b) (l
     };
   }
 
-  -- after k steps that both make, no F of the run on it is smaller and its total is not larger
+  -- after k steps that both make, no F on the better road is smaller and its total is not larger
   pub improved-behind : (k : ℕ) → k ≤ a .steps → Fitting a k → Fitting b k → Behind (a .road) (engineAfter b k) (engineAfter a k)
   improved-behind k l fitsA fitsB =
       subst⁻¹ (Behind (a .road) (engineAfter b k)) (engine-schedule a k)

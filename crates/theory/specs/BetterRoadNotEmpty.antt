@@ -1,5 +1,5 @@
--- A pair of roads that profits, by evaluation: one speed is raised, both runs are accepted, and the total falls from 1 to 0. So `improved-accepted`
--- speaks of something. Assumes nothing.
+-- An example of a better road: one speed is larger, both runs are accepted, and the total falls from 1 to 0. So `improved-accepted` is not empty.
+-- Assumes nothing.
 use mathlib.Core.Path.{_≡_, refl}
 use mathlib.Core.List.{List, [], _∷_, _++_}
 use Prim.Native.Nat.{ℕ, zero, suc, _≤_, _<_}
@@ -21,7 +21,7 @@ use Rattle.model.specs.Running.{endOf, openingOf, runningOf}
 use Rattle.model.specs.Demand.{Taken}
 use Rattle.model.specs.WorkedRoads.{two, four, header, cell, row, list}
 
--- one part in cell 1, whose share is 0 and whose speed is given: at 500 it is still there after the one step, at 1000 it has left
+-- one part in cell 1, with share 0 and the speed given: with speed 500 it is still there after the one step, with 1000 it has left
 unfoldable pub single : List ℕ → List ℕ
 single speed = header 80 1 ++ (cell speed (two 0 0) 0 1 0 ++ (cell (two 0 0) (two 0 0) 0 0 0 ++ row 0))
 
@@ -53,7 +53,7 @@ improved = record {
   lanes = refl;
 }
 
--- speed 500 and then 1000
+-- speed 500, and speed 1000
 pub record Profits : Type 0 where
   pub first : Taken (single (two 1 244)) []
   pub other : Taken (single (two 3 232)) []

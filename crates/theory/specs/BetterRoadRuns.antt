@@ -1,6 +1,6 @@
--- Theorem over whole records: raising speeds, waves, jam counts or capacities of cells, or the gate's capacity, makes no cumulative outflow smaller and
--- never makes the total larger, when both records are run with the same start, arrivals, releases and closures, after every step that both reach.
--- Not a share: `Raised` has a record whose total grows with one, and another whose run is refused once a speed is raised. Assumes nothing.
+-- Theorem about whole records: a larger speed, wave, jam count or capacity of a cell, or a larger gate capacity, makes no cumulative outflow
+-- smaller and no total larger, after every step that both runs reach. Start, arrivals, releases and closures are the same. A larger share is
+-- not included: `Raised` of `model/WorkedRoads` has a total that grows with it, and a run that is refused with a larger speed. Assumes nothing.
 use mathlib.Core.Path.{_≡_, refl, sym, ap, _∙_}
 use mathlib.Core.Logic.{⊎-elim}
 use mathlib.Core.List.{List}
@@ -23,7 +23,7 @@ use Rattle.model.specs.Demand.{Ahead, Taken}
 use Rattle.theory.specs.DemandLaws.{behind-ahead}
 use Rattle.theory.specs.DemandWhole.{promised}
 
--- a record that is taken
+-- a record and a table to which no refusal applies
 module _ (bytes lanes : List ℕ) (taken : Taken bytes lanes) where
   abbrev a : Study
   a = studyOf bytes lanes
@@ -34,7 +34,7 @@ module _ (bytes lanes : List ℕ) (taken : Taken bytes lanes) where
   entries : studyOf bytes lanes .road .n ≤ length (studyOf bytes lanes .road .capacity)
   entries = omega (arith, ok .road .cells, read-numbers bytes (readingOf bytes) refl (taken .reads) .capacity .entries)
 
-  -- a run reaches no step from its first fault on, and its releases fit up to there
+  -- a run makes no step from its first fault on, and its releases fit up to there
   module _ (list : List ℕ) where
     within : stepsMade (studyOf bytes lanes) (runningOf bytes lanes list) ≤ firstStep (runSays (studyOf bytes lanes)) (studyOf bytes lanes .steps)
     within = ⊎-elim
@@ -45,7 +45,7 @@ module _ (bytes lanes : List ℕ) (taken : Taken bytes lanes) where
     fits : (k : ℕ) → k ≤ stepsMade (studyOf bytes lanes) (runningOf bytes lanes list) → Fitting (studyOf bytes lanes) k
     fits k l = run-fits a k (λ j m. step-before (runSays a) (a .steps) j (omega (arith, within)))
 
-    -- the state of a run whose list is long enough is the one after the steps made
+    -- if its list is long enough, a run returns the state after the steps made
     final : tableSize (studyOf bytes lanes) ≤ length list
         → runningOf bytes lanes list .state ≡ engineAfter (studyOf bytes lanes) (stepsMade (studyOf bytes lanes) (runningOf bytes lanes list))
     final l =
@@ -64,7 +64,7 @@ module _ (bytes lanes : List ℕ) (taken : Taken bytes lanes) where
     all : runningOf bytes lanes list .number ≡ 0 → stepsMade (studyOf bytes lanes) (runningOf bytes lanes list) ≡ studyOf bytes lanes .steps
     all h = promised bytes lanes taken list .grounds .allRows h
 
--- two records under one table of lanes, the second improved, each run into a list
+-- two records under one table of lanes, the second with a better road, each run into a list
 module _ (s t lanes : List ℕ) (first : Taken s lanes) (other : Taken t lanes) (h : Improved (studyOf s lanes) (studyOf t lanes)) (list out : List ℕ) where
   -- after every step that both runs reach
   pub improved-steps : (k : ℕ) → k ≤ stepsMade (studyOf s lanes) (runningOf s lanes list) → k ≤ stepsMade (studyOf t lanes) (runningOf t lanes out)
@@ -76,7 +76,7 @@ module _ (s t lanes : List ℕ) (first : Taken s lanes) (other : Taken t lanes) 
       (omega (arith, within s lanes first list, step-within (runSays a) (a .steps)))
       (fits s lanes first list k l) (fits t lanes other out k m))
 
-  -- and so of the states that are returned, where both lists are long enough and both runs make equally many steps
+  -- the same for the states returned, if both lists are long enough and both runs make equally many steps
   pub improved-returned : tableSize (studyOf s lanes) ≤ length list → tableSize (studyOf t lanes) ≤ length out
       → stepsMade (studyOf s lanes) (runningOf s lanes list) ≡ stepsMade (studyOf t lanes) (runningOf t lanes out)
       → Ahead (studyOf s lanes .road) (runningOf t lanes out .state) (runningOf s lanes list .state)
@@ -84,7 +84,7 @@ module _ (s t lanes : List ℕ) (first : Taken s lanes) (other : Taken t lanes) 
       let K = stepsMade (studyOf s lanes) (runningOf s lanes list) in
       rw (final s lanes first list l, final t lanes other out m, ← e) (improved-steps K (le-refl K) (omega (arith, e)))
 
-  -- 'when both roads accept the same releases, start, arrivals and closures': where neither run is refused, the total returned is not larger
+  -- 'when both roads accept the same releases, start, arrivals and closures': if neither run is refused, the total returned is not larger
   pub improved-accepted : runningOf s lanes list .number ≡ 0 → runningOf t lanes out .number ≡ 0
       → totalOf (runningOf t lanes out .state) ≤ totalOf (runningOf s lanes list .state)
   improved-accepted a b =

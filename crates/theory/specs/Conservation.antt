@@ -1,4 +1,4 @@
--- Conservation: start plus arrivals equals present plus exits, after a step by any row that obeys the rules. Assumes nothing.
+-- Conservation: start plus arrivals equals present plus exits, after a step with any row that obeys the rules. Assumes nothing.
 use mathlib.Core.List.{List}
 use Prim.Native.Nat.{ℕ, _+_, zero, suc, _-_, _≤_, _<_}
 use mathlib.Core.Path.{_≡_, ap, _∙_}
@@ -85,7 +85,7 @@ module _ (r : Road) (s : State) (row y : List ℕ) (road : RoadOk r) (z : Sized 
   unfolding exitsOf arrivalsOf
   conserved = omega (arith, prefix (r .n) (le-refl (r .n)), onward-last r road s, onward-last r road T)
 
--- the same of the engine's step
+-- the same for the engine's step
 pub engine-conserved : (r : Road) (s : State) (row : List ℕ) → RoadOk r → Sized r s → Released r s row
     → presentOf r s + exitsOf r s + arrivalsOf r row
     ≡ presentOf r (nextOf r s row (outflowsOf r s row)) + exitsOf r (nextOf r s row (outflowsOf r s row))

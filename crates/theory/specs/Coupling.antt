@@ -1,5 +1,5 @@
--- A study and the finer one, each by any rows that obey the rules: what has reached each place is accounted for on both sides, K times as much in the
--- finer. Every step keeps this. Assumes nothing.
+-- A study and the finer study, each with any rows that obey the rules: at each place what came in is held or has left, K times as much in the
+-- finer study. Every step keeps this. Assumes nothing.
 use mathlib.Core.Path.{_≡_, refl, ap}
 use mathlib.Core.List.{List}
 use Prim.Native.Nat.{ℕ, zero, suc, _+_, _*_, _≤_, _<_}
@@ -20,7 +20,7 @@ use Rattle.theory.specs.Roads.{StepRoad, step-alike, alike-back, onward-
 use Rattle.theory.specs.Finer.{timesOf, scaledState}
 use Rattle.theory.specs.FinerLaws.{FinerRoad, finer-alike, finer-speed, finer-wave, finer-jam, finer-onward, times-at, length-times}
 
--- s of the study and t of the finer one
+-- s is a state of the study, t one of the finer study
 pub record Coupling (K : ℕ) (r : Road) (s t : State) : Type 0 where
   pub sizedS : Sized r s
   pub sizedT : Sized r t
@@ -31,7 +31,7 @@ pub record Coupling (K : ℕ) (r : Road) (s t : State) : Type 0 where
       → at (t .held) i + cumulativeAt t (suc i) + K * onwardAt r s i ≡ K * at (s .held) i + K * cumulativeAt s (suc i) + onwardAt r t i
   pub queues : (i : ℕ) → i < r .n → at (t .queue) i ≡ K * at (s .queue) i
 
--- other capacities change nothing of it
+-- other capacities change nothing in it
 module _ (K : ℕ) {r q : Road} (h : StepRoad r q) (s t : State) where
   pub coupled-on : Coupling K r s t → Coupling K q s t
   coupled-on c = record {
@@ -73,11 +73,11 @@ unfolding cumulativeAt
 scaled-cumulative K s zero = refl
 scaled-cumulative K s (suc i) = times-at K (s .cumulative) i
 
--- where nothing has left nothing has gone on
+-- if nothing has left a place, nothing has gone on from it
 pub onward-nothing : (r : Road) → RoadOk r → (u : State) (p : ℕ) → p ≤ r .n → cumulativeAt u p ≡ 0 → onwardAt r u p ≡ 0
 onward-nothing r ok u p l e = omega (arith, onward-le (shareAt r p) (cumulativeAt u p) (share-le r ok p l))
 
--- before step 0, where nothing has left
+-- before step 0 nothing has left
 module _ (K : ℕ) (r : Road) (s : State) (ok : RoadOk r) (none : (p : ℕ) → p ≤ r .n → cumulativeAt s p ≡ 0) where
   pub scaled-nothing : (p : ℕ) → p ≤ r .n → cumulativeAt (scaledState K s) p ≡ 0
   scaled-nothing p l = omega (arith, scaled-cumulative K s p, ap (λ (x : ℕ). K * x) (none p l))
@@ -104,7 +104,7 @@ module _ (K : ℕ) (r : Road) (s : State) (ok : RoadOk r) (none : (p : ℕ) → 
     queues = λ i l. times-at K (s .queue) i;
   }
 
--- what a step by a row that obeys the rules makes of the gate and of a cell, on any road with these speeds and waves
+-- how a step with a row that obeys the rules changes the gate and a cell
 module _ (r : Road) (u : State) (row y : List ℕ) (z : Sized r u) (ok : Obeys r u row y) where
   gate-account : nextOf r u row y .«gate_queue» + cumulativeAt (nextOf r u row y) 0 ≡ u .«gate_queue» + cumulativeAt u 0 + gateArrivals row
   gate-account =
@@ -140,7 +140,7 @@ module _ (r : Road) (u : State) (row y : List ℕ) (z : Sized r u) (ok : Obeys r
         supply-space (at (r .wave) i) (capacityAt r i) (at (r .jam) i) (at (u .held) i) h,
       )
 
--- a step of both
+-- a step of both studies
 module _ (K : ℕ) (q q′ : Road) (s t : State) (row y z : List ℕ) (road : RoadOk q) (f : FinerRoad K q q′) (own : Obeys q s row y)
     (fine : Obeys q′ t (timesOf K row) z) (c : Coupling K q s t) where
   abbrev S′ : State

@@ -1,4 +1,4 @@
--- Theorem: the weighted total of a run is at most that of each schedule, for weights that fall from the gate on. Assumes nothing.
+-- Theorem: if the weights fall from the gate on, the weighted total of a run is at most that of each schedule. Assumes nothing.
 use mathlib.Core.Path.{_≡_, refl, sym, ap, _∙_}
 use mathlib.Core.Logic.{⊎-elim}
 use mathlib.Core.List.{List}
@@ -38,7 +38,7 @@ module _ (bytes lanes : List ℕ) (taken : Taken bytes lanes) (list : List ℕ) 
   abbrev K : ℕ
   K = firstStep (runSays a) (a .steps)
 
-  -- no more steps are made than those before the first fault
+  -- the steps made are at most those before the first fault
   made : stepsMade (studyOf bytes lanes) (runningOf bytes lanes list) ≤ K
   made = ⊎-elim
       (λ (l : tableSize a ≤ length list). rw (runs-long bytes lanes taken list l) (omega (arith, end-made a (runSays a) (engineAfter a))))
@@ -61,7 +61,7 @@ module _ (bytes lanes : List ℕ) (taken : Taken bytes lanes) (list : List ℕ) 
       rw z refl)
       (order (tableSize a) (length list))
 
-  -- as many steps are made as the state returned has done, by running and by judging, and a schedule reaches those that are judged
+  -- running and judging make as many steps as the state returned has done, and a schedule reaches the steps judged
   run-made : stepsMade (studyOf bytes lanes) (runningOf bytes lanes list) ≡ runningOf bytes lanes list .state .done
   run-made = ⊎-elim
       (λ (l : tableSize a ≤ length list). rw (runs-long bytes lanes taken list l) (omega (arith, end-made a (runSays a) (engineAfter a), run-done a ok, zero)))
@@ -106,7 +106,7 @@ module _ (bytes lanes : List ℕ) (taken : Taken bytes lanes) (list : List ℕ) 
               rw (← k, ← own m (le-refl m)) (best falling zs m (le-refl m) (rw (← k) at (judge-reaches zs)));
         }
 
--- how the number ends: 0 where the run did not begin, else that of the steps before the first fault
+-- the weighted total at the end: 0 if the run did not begin, else that of the steps before the first fault
 module _ (w u : ℕ → ℕ) (bytes lanes list : List ℕ) where
   weighed-none : stepsMade (studyOf bytes lanes) (runningOf bytes lanes list) ≡ 0 → weightedTotalOfRun w u bytes lanes list ≡ 0
   unfolding weightedTotalOfRun

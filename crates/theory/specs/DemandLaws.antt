@@ -16,7 +16,7 @@ use Rattle.model.specs.Judging.{judgeSays, judgeEnd}
 use Rattle.theory.specs.SchedulesLaws.{step-within, step-before, end-all, end-state, run-fits, run-reached, judge-reached, obeys-faults, faults-obeys}
 use Rattle.model.specs.Demand.{Ahead, GreatestIn}
 
--- what is behind in the model is what the statement calls ahead
+-- if t is behind s, then s is ahead of t as `Demand` states it
 pub behind-ahead : (r : Road) (s t : State) → Behind r s t → Ahead r s t
 unfolding cumulativeAt
 behind-ahead r s t b = record {
@@ -38,7 +38,7 @@ module _ (a : Study) (ok : StudyOk a) where
   fits : Fitting a K
   fits = run-fits a K (step-before (runSays a) (a .steps))
 
-  -- no schedule is ahead of the engine
+  -- no schedule of the study is ahead of the engine
   pub engine-best : (zs : List ℕ) (k : ℕ) → k ≤ K → Obeying a (proposedAt a zs) k → Ahead (a .road) (engineAfter a k) (scheduledAt a zs k)
   engine-best zs k l h =
       behind-ahead (a .road) (engineAfter a k) (scheduledAt a zs k)
@@ -60,7 +60,7 @@ module _ (a : Study) (ok : StudyOk a) where
     pub own-best : (zs : List ℕ) (k : ℕ) → k ≤ K → Obeying a (proposedAt a zs) k → Ahead (a .road) (scheduledAt a out k) (scheduledAt a zs k)
     own-best zs k l h = rw (own-state k l) (engine-best zs k l h)
 
-    -- judging them where running was not refused
+    -- judging accepts them if running was not refused
     pub own-judged : K ≡ a .steps → judgeEnd a out ≡ runEnd a
     own-judged e =
         let n : J out ≡ a .steps =
@@ -69,7 +69,7 @@ module _ (a : Study) (ok : StudyOk a) where
         ∙ ap (ended 0 0 0 (a .road)) (own-state (a .steps) (omega arith))
         ∙ sym (end-all a (runSays a) (engineAfter a) e)
 
-  -- the states that are returned: those after the steps made
+  -- the states returned are those after the steps made
   pub run-done : runEnd a .state .done ≡ a .start .done + K
   run-done =
       ap (λ (u : State). u .done) (end-state a (runSays a) (engineAfter a))

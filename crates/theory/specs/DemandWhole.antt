@@ -1,5 +1,4 @@
--- Demand 3 whole: it holds of the list that running leaves and of the answer that it gives, for every record and every table of lanes that are taken.
--- Assumes nothing.
+-- Demand 3 for running's list and answer, for every record and every table of lanes without a refusal. Assumes nothing.
 use mathlib.Core.Path.{_≡_, refl, sym, ap, _∙_, subst⁻¹}
 use mathlib.Core.Bool.{Bool, true, false}
 use mathlib.Core.Logic.{_⊎_, ⊎-elim, inl, inr}
@@ -30,7 +29,7 @@ use Rattle.theory.specs.Readable.{readable}
 use Rattle.model.specs.Demand.{Ahead, Reaches, Taken, Demand, Grounds, Promised}
 use Rattle.theory.specs.DemandLaws.{own-state, own-obeys, own-greatest, own-best, own-judged, run-done, judge-done, returned-ahead}
 
--- a state that nothing has left yet
+-- a state with every F 0
 record Fresh (r : Road) (u : State) : Type 0 where
   gate : u .«gate_cumulative» ≡ 0
   cell : (i : ℕ) → i < r .n → at (u .cumulative) i ≡ 0
@@ -72,7 +71,7 @@ module _ (bytes lanes : List ℕ) (taken : Taken bytes lanes) where
         total = omega (arith, n .gateTime, n .roadTime, n .rampTime);
       }
 
-  -- a state of the run or of a schedule with no step done is the start
+  -- a state of the run or of a schedule after no step is the start
   run-fresh : runEnd a .state .done ≡ 0 → Fresh (a .road) (runEnd a .state)
   unfolding engineAfter
   run-fresh h =
@@ -85,7 +84,7 @@ module _ (bytes lanes : List ℕ) (taken : Taken bytes lanes) where
       let z : J zs ≡ 0 = omega (arith, judge-done a ok zs, h) in
       subst⁻¹ (Fresh (a .road)) (end-state a (judgeSays a zs) (scheduledAt a zs) ∙ ap (scheduledAt a zs) z) fresh-start
 
-  -- a schedule of the right length, or not
+  -- a schedule has the right length, or not
   pub sized : (zs : List ℕ) → (length zs ≡ tableSize (studyOf bytes lanes)) ⊎ ((length zs ≡ tableSize (studyOf bytes lanes)) → ⊥)
   sized zs = go (eqb (length zs) (tableSize a)) refl
     where
@@ -93,7 +92,7 @@ module _ (bytes lanes : List ℕ) (taken : Taken bytes lanes) where
       go true e = inl (eqb-true (length zs) (tableSize a) e)
       go false e = inr (eqb-false (length zs) (tableSize a) e)
 
-  -- a schedule of the right length: reaching is what judging does, and the state returned is its own
+  -- a schedule of the right length: it reaches the steps that judging makes, and the state returned is its own
   module _ (zs : List ℕ) (right : length zs ≡ tableSize (studyOf bytes lanes)) where
     answer : judgingOf bytes lanes zs ≡ judgeEnd a zs
     answer = judges-ends bytes lanes taken zs right
@@ -117,7 +116,7 @@ module _ (bytes lanes : List ℕ) (taken : Taken bytes lanes) where
     judged-road : judgingOf bytes lanes zs .road ≡ a .road
     judged-road = ap (λ (e : EndAnswer). e .road) answer ∙ end-road a (judgeSays a zs) (scheduledAt a zs)
 
-  -- a state compared with the one that judging returns, by the schedule's length
+  -- a state compared with the one that judging returns, for either length of the schedule
   against : (u : State) (zs : List ℕ) → u .done ≡ judgingOf bytes lanes zs .state .done
       → (length zs ≡ tableSize (studyOf bytes lanes) → u .done ≡ judgeEnd (studyOf bytes lanes) zs .state .done
       → Ahead (studyOf bytes lanes .road) u (judgeEnd (studyOf bytes lanes) zs .state))
@@ -132,7 +131,7 @@ module _ (bytes lanes : List ℕ) (taken : Taken bytes lanes) where
       (fresh-ahead (a .road) u emptyState (fresh (h ∙ ap (λ (e : EndAnswer). e .state .done) j)) (fresh-empty (a .road))))
       (sized zs)
 
-  -- a refusal that names no state: nothing is written, and no step is made
+  -- after a refusal that names no state, nothing is written and no step is made
   module _ (list : List ℕ) (number place : ℕ) (refused : number ≡ 0 → ⊥) (early : began number ≡ false) where
     none : stepsMade a (noState number place) ≡ 0
     none = rw (ne-eqb number 0 refused) refl
@@ -169,12 +168,12 @@ module _ (bytes lanes : List ℕ) (taken : Taken bytes lanes) where
     pub unbegun : Promised bytes lanes list (noState number place)
     unbegun = record { demand = unbegun-demand; grounds = unbegun-grounds }
 
-  -- as of a list too short
+  -- the same for a list that is too short
   short : (list : List ℕ) → Promised bytes lanes list (noState 11 0)
   unfolding began oneOf
   short list = unbegun list 11 0 (λ e. omega arith) refl
 
-  -- a list long enough: the engine's rows of the steps before the first fault
+  -- a list that is long enough holds the engine's rows of the steps before the first fault
   module _ (list : List ℕ) (long : tableSize (studyOf bytes lanes) ≤ length list) where
     abbrev out : List ℕ
     out = tableOf a list K
@@ -185,7 +184,7 @@ module _ (bytes lanes : List ℕ) (taken : Taken bytes lanes) where
     same : (j : ℕ) → j < K → proposedAt a out j ≡ outflowsAt a j
     same j l = table-row a ok list K j l
 
-    -- the table alone, where all T rows are written
+    -- the table by itself, if all T rows are written
     table : K ≡ a .steps → take (tableSize a) out ≡ flowsOf a (a .steps)
     table f = ap (λ (j : ℕ). take (tableSize a) (tableOf a list j)) f ∙ table-front a ok list (a .steps)
 

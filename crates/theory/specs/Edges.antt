@@ -8,11 +8,11 @@ use Rattle.flow.specs.FlowLaws.{outflow-exit, outflow-one}
 use Rattle.model.specs.WorkedEdges.{holds, rules, run, edges-hold}
 
 pub record StarredEdges : Type 0 where
-  -- the rules and the run with numbers
+  -- the rules and the run, computed
   pub computed : holds (rules ++ run) ≡ true
-  -- b 750, F 0, nothing may enter: outflow 1, if demand is at least 1
+  -- b 750, F 0, room 0: the outflow is 1, if the demand is at least 1
   pub one : (demand : ℕ) → 1 ≤ demand → outflowOf 750 0 0 demand ≡ 1
-  -- b 0: supply never holds the outflow
+  -- b 0: the supply never limits the outflow
   pub exit : (cumulative room demand : ℕ) → outflowOf 0 cumulative room demand ≡ demand
 
 pub starred-edges : StarredEdges

@@ -1,5 +1,5 @@
--- Where a division is exact, its rule rounds nothing: the papers' rules, one law each. A schedule of the finer study that has their numbers in it
--- obeys the rules, and demand or room decides at each place, so that the theorems speak of the papers' model. Assumes nothing.
+-- If a division is exact, its rule rounds nothing: one law for each of the papers' rules. A schedule of the finer study with these numbers obeys
+-- the rules, and demand or room decides at each place. So the theorems hold for the papers' model. Assumes nothing.
 use mathlib.Core.Path.{_≡_, ap}
 use mathlib.Core.Logic.{_⊎_, inl, inr, ⊎-elim}
 use mathlib.Core.List.{List}
@@ -16,7 +16,7 @@ use Rattle.model.specs.Places.{demandAt, roomAt, shareAt, cumulativeAt}
 use Rattle.model.specs.Schedules.{Released, Obeys}
 use Rattle.theory.specs.StepRules.{Decided}
 
--- s thousandths of x, where they are whole
+-- s thousandths of x, if they are a whole number
 exact-thousandths : (s x d : ℕ) → s * x ≡ whole * d → thousandthsOf s x ≡ d
 unfolding thousandthsOf
 exact-thousandths s x d e = omega arith
@@ -36,7 +36,7 @@ pub exact-onward : (b F d : ℕ) → b * F ≡ whole * d → onwardOf b F ≡ d
 unfolding onwardOf
 exact-onward b F d e = exact-thousandths b F d e
 
--- what enters: b × outflow ÷ 1,000
+-- entering: b × outflow ÷ 1,000
 pub exact-entering : (b F d y x : ℕ) → b * F ≡ whole * d → b * y ≡ whole * x → enteringOf b F y ≡ x
 exact-entering b F d y x e h =
     omega (arith, onward-entering b F y, exact-onward b F d e, exact-onward b (F + y) (d + x) (omega arith))
@@ -63,12 +63,12 @@ exact-paper b F room demand y d x z e h m w =
           (order demand x);
     }
 
--- an onward total is at most what its division is
+-- an onward total is at most the quotient
 onward-below : (b F most : ℕ) → b * F ≤ whole * most → onwardOf b F ≤ most
 unfolding onwardOf thousandthsOf
 onward-below b F most h = omega arith
 
--- and it is the engine's own where the onward total after the step is exact too
+-- it is the engine's own outflow if the onward total after the step is exact too
 pub exact-outflow : (b F room demand d x z : ℕ) → 0 < b → b * F ≡ whole * d → b * x ≡ whole * room → b * outflowOf b F room demand ≡ whole * z
     → outflowOf b F room demand ≡ min demand x
 exact-outflow b F room demand d x z some e h w =
@@ -86,14 +86,14 @@ exact-outflow b F room demand d x z some e h w =
     ) in
     omega (arith, outflow-le b F room demand, outflow-greatest b F room demand m (omega arith) fits)
 
--- a row of the papers' outflows: at each place before the last, and the demand where nothing goes on
+-- a row of the papers' outflows: such an outflow at each place before the last, and the demand where nothing goes on
 pub record PaperRow (r : Road) (s : State) (row y : List ℕ) : Type 0 where
   pub released : Released r s row
   pub place : (p : ℕ) → p < r .n → PaperOutflow (shareAt r p) (cumulativeAt s p) (roomAt r s row p) (demandAt r s p) (at y p)
   pub exit : (p : ℕ) → p ≤ r .n → shareAt r p ≡ 0 → at y p ≡ demandAt r s p
   pub last : at y (r .n) ≡ demandAt r s (r .n)
 
--- it obeys the rules, and demand or room decides at each place
+-- such a row obeys the rules, and demand or room decides at each place
 pub papers-obey : (r : Road) (s : State) (row y : List ℕ) → PaperRow r s row y → Obeys r s row y × Decided r s row y
 papers-obey r s row y h = (
   record {

@@ -1,4 +1,4 @@
--- The same study counted finer: for a whole K every count is K times as large, and its parts are K times smaller. Assumes nothing.
+-- The same study counted finer: for a whole K every count is K times as large, so its parts are K times smaller. Assumes nothing.
 use mathlib.Core.Bool.{cond}
 use mathlib.Core.List.{List, [], _∷_}
 use Prim.Native.Nat.{ℕ, zero, suc, _-_, _*_, _^_}
@@ -43,11 +43,11 @@ scaledState K s = record {
   cumulative = timesOf K (s .cumulative);
 }
 
--- and so are arrivals and releases; steps and lanes are the study's
+-- arrivals and releases times K; steps and lanes are the study's
 abbrev pub scaled : ℕ → Study → Study
 scaled K a = study (scaledRoad K (a .road)) (scaledState K (a .start)) (a .steps) (λ k. timesOf K (a .rows k)) (a .lanes)
 
--- the product of the shares of place p and of those after it, m places at most, up to the first of share 0; and how many they are
+-- the product of the shares of place p and of those after it, at most m places, up to the first with share 0; and the number of these shares
 unfoldable pub productFrom : (ℕ → ℕ) → ℕ → ℕ → ℕ
 productFrom share p zero = 1
 productFrom share p (suc m) = cond (eqb (share p) 0) 1 (share p * productFrom share (suc p) m)
@@ -56,10 +56,10 @@ unfoldable pub countFrom : (ℕ → ℕ) → ℕ → ℕ → ℕ
 countFrom share p zero = 0
 countFrom share p (suc m) = cond (eqb (share p) 0) 0 (suc (countFrom share (suc p) m))
 
--- R: the share of what leaves place p that reaches the end, as a product of shares b; in thousandths of thousandths, one thousand for each
+-- R: the part of the outflow of place p that reaches the end, as a product of shares b, each in thousandths
 unfoldable pub reachOf : Road → ℕ → ℕ
 reachOf r p = productFrom (shareAt r) p (r .n - p)
 
--- 1,000^m, m the number of these shares
+-- 1,000^m, where m is the number of these shares
 unfoldable pub thousandsOf : Road → ℕ → ℕ
 thousandsOf r p = whole ^ countFrom (shareAt r) p (r .n - p)

@@ -35,8 +35,8 @@ times-at K [] i = omega arith
 times-at K (x ∷ l) zero = refl
 times-at K (x ∷ l) (suc i) = times-at K l i
 
--- the roads of a step: q′ has q's cells, speeds, waves and shares, K times its jam counts and gate capacity, and K times its capacities but for what
--- closed lanes round down
+-- the roads of a step: q′ has q's cells, speeds, waves and shares, and K times its jam counts and gate capacity. Its capacities are K times
+-- q's, except for what closed lanes round down
 pub record FinerRoad (K : ℕ) (q q′ : Road) : Type 0 where
   pub n : q′ .n ≡ q .n
   pub gate : q′ .«gate_capacity» ≡ K * q .«gate_capacity»
@@ -77,7 +77,7 @@ finer-open K r k = record {
   most = λ i l. omega (arith, times-at K (r .capacity) i);
 }
 
--- a quotient of K times as much
+-- the quotient of a dividend that is K times as large
 finer-quotient : (K x y : ℕ) → 0 < y → K * (x / y) ≤ K * x / y
 finer-quotient K x y h = le-div-iff-mul-le {k = y} {x = K * (x / y)} {y = K * x} h .1 (omega (arith, mul-le-mul-left K (mul-div-le x y)))
 
@@ -85,11 +85,11 @@ finer-quotient-most : (K x y : ℕ) → 0 < K → 0 < y → K * x / y < K * (x /
 finer-quotient-most K x y k h =
     div-lt-iff-lt-mul {k = y} {x = K * x} {y = K * (x / y) + K} h .1 (omega (arith, mul-le-mul-left K (lt-mul-div-succ x h), k))
 
--- the greatest K for which closed lanes leave a finer study's capacities within 32 bits
+-- the greatest K for which a finer study's capacities under closed lanes stay within 32 bits
 abbrev pub mostFiner : ℕ
 mostFiner = 4294
 
--- what open lanes leave of K times a capacity
+-- the capacity that open lanes leave of K times a capacity
 module _ (K c built usable : ℕ) (k : 0 < K) (m : K ≤ mostFiner) (l : openCapacity c built usable ≤ mostRate) where
   quotients : (some : ℕ) → ones built ≡ some
       → (K * min (c * ones usable / some) mostNumber ≤ min (K * c * ones usable / some) mostNumber)
@@ -140,12 +140,12 @@ finer-closed K r built usable k m sized ok =
       most = λ i l. rw (there i l, finer i l) (both i l .1);
     }
 
--- the roads of every step of a study and of the finer one, with all lanes open
+-- the roads of every step of a study and of the finer study, with all lanes open
 pub roads-open : (K : ℕ) (a : Study) → 0 < K → length (a .lanes) ≡ 0 → (j : ℕ) → FinerRoad K (roadAt a j) (roadAt (scaled K a) j)
 unfolding roadAt
 roads-open K a k e j = rw (eq-eqb (length (a .lanes)) 0 e) (finer-open K (a .road) k)
 
--- and with any table of lanes, for K up to 4,294
+-- the same with any table of lanes, for K up to 4,294
 pub roads-closed : (K : ℕ) (a : Study) → 0 < K → K ≤ mostFiner → a .road .n ≤ length (a .road .capacity) → StudyOk a
     → (j : ℕ) → FinerRoad K (roadAt a j) (roadAt (scaled K a) j)
 unfolding roadAt

@@ -1,4 +1,4 @@
--- What a rule makes of numbers that are off: K times a number beside the number that a study counted K times finer has in its place.
+-- How a rule changes an error: K times a number of a study, compared with the same number of the study counted K times finer.
 -- Laws over numbers, one per rule. Assumes nothing.
 use mathlib.Core.Path.{_≡_, ap}
 use mathlib.Core.Logic.{_⊎_, ⊎-elim}
@@ -8,11 +8,11 @@ use native.Mathlib.Omega.{arith}
 use Rattle.numbers.specs.Tests.{order}
 use Rattle.model.specs.Flow.{whole, thousandthsOf, onwardOf}
 
--- a mean of two numbers, of weights c and s in thousandths, is off by no more than each of them
+-- the error of a mean of two numbers, with weights c and s in thousandths, is at most the larger of theirs
 mean : (c s P Q R S X : ℕ) → c + s ≡ whole → P ≤ Q + X → R ≤ S + X → c * P + s * R ≤ c * Q + s * S + whole * X
 mean c s P Q R S X e h k = omega (arith, mul-le-mul-left c h, mul-le-mul-left s k, ap (λ (z : ℕ). z * X) e)
 
--- s thousandths of x, rounded down: what is at most it and what is above it
+-- s thousandths of x, rounded down: bounds from below and from above
 thousandths-floor : (s x : ℕ) → whole * thousandthsOf s x ≤ s * x
 unfolding thousandthsOf
 thousandths-floor s x = omega arith
@@ -56,7 +56,7 @@ module _ (K W s x x′ A A′ B B′ : ℕ) (share : s ≤ whole) (k : 0 < K) (w
         mul-lt-mul-of-pos-right (thousandths-above s x′) w,
       ))
 
--- a capacity in place of both, where it decides; closed lanes may leave the finer study less than K more
+-- the capacity decides instead; closed lanes may leave the finer study up to K more
 pub capped-most : (K W X A A′ c c′ d d′ : ℕ) → 0 < W → c′ < K * c + K → A′ * W ≤ K * A * W + X
     → (A′ + d′) * W < K * (A + d) * W + X + K * W → (A′ + min c′ d′) * W < K * (A + min c d) * W + X + K * W
 capped-most K W X A A′ c c′ d d′ w cap h l = ⊎-elim
@@ -83,7 +83,7 @@ capped-least K W X A A′ c c′ d d′ w cap h l = ⊎-elim
     omega (arith, ap (λ (z : ℕ). z * W) e, mul-le-mul-right W (mul-le-mul-left K m)))
     (order c′ d′)
 
--- an onward total, rounded down
+-- an onward total, rounded down, with its bounds
 pub onward-floor : (b F : ℕ) → whole * onwardOf b F ≤ b * F
 unfolding onwardOf
 onward-floor b F = thousandths-floor b F
@@ -92,7 +92,7 @@ pub onward-above : (b F : ℕ) → b * F < whole * onwardOf b F + whole
 unfolding onwardOf
 onward-above b F = thousandths-above b F
 
--- from a cumulative outflow to its onward total, and back; T is the thousands of W's shares
+-- from a cumulative outflow to its onward total, and back; T is the thousands of the shares in W
 module _ (K b W T Z F F′ : ℕ) (some : W ≤ T) where
   pub share-most : F′ * (b * W) ≤ K * F * (b * W) + Z * (whole * T) → onwardOf b F′ * W ≤ K * onwardOf b F * W + (Z + K) * T
   share-most h =
@@ -132,8 +132,8 @@ module _ (K b W T Z F F′ : ℕ) (some : W ≤ T) where
         mul-le-mul-left K some,
       )
 
--- the step of a place: G is F with the demand and M the onward total with the room, as far as N, F after the step, can go. On the side that is to
--- keep up, N is at one of the two
+-- the step of one place. G is F plus the demand, M is the onward total plus the room: N, the F after the step, is limited by both.
+-- On the side that must keep up, N reaches one of the two
 module _ (K b W T Z G G′ M M′ N N′ : ℕ) (k : 0 < K) (some : W ≤ T) where
   pub place-most : G′ * (b * W) ≤ K * G * (b * W) + Z * (whole * T) → M′ * W ≤ K * M * W + Z * T
       → N′ ≤ G′ → onwardOf b N′ ≤ M′ → (N ≡ G) ⊎ (onwardOf b N ≡ M)

@@ -1,5 +1,5 @@
--- Theorem: going on after k steps is the whole. Of two studies that share road, rows and lanes, one of which begins where the other is after k steps,
--- each state, fault, end and row of outflows is that of the other, k steps later. Assumes nothing.
+-- Theorem: going on after k steps is the whole. Two studies have the same road, rows and lanes, and one begins where the other is after k steps.
+-- Then each state, fault, end and row of outflows is that of the other, k steps later. Assumes nothing.
 use mathlib.Core.Path.{_≡_, refl, sym, ap, _∙_}
 use mathlib.Core.List.{List, _++_, append-assoc, append-nil}
 use Prim.Native.Nat.{ℕ, zero, suc, _+_, _-_, _≤_, _<_}
@@ -22,14 +22,14 @@ use Rattle.theory.specs.StepLaws.{number-of}
 use Rattle.theory.specs.SchedulesLaws.{step-within, step-before, end-all, end-fault, end-made, end-state, end-road}
 use Rattle.theory.specs.TableLaws.{flowsOf}
 
--- b is what is left of a after k steps
+-- b is the rest of a after k steps
 pub record Rest (a b : Study) (k : ℕ) : Type 0 where
   pub road : b .road ≡ a .road
   pub steps : k + b .steps ≡ a .steps
   pub roads : (j : ℕ) → j < b .steps → roadAt b j ≡ roadAt a (k + j)
   pub rows : (j : ℕ) → j < b .steps → b .rows j ≡ a .rows (k + j)
 
--- the whole ends as what is left of it does; steps are counted from the whole's start
+-- the whole ends as its rest does; steps are counted from the start of the whole
 pub record EndsAs (a b : Study) (k : ℕ) (e f : EndAnswer) : Type 0 where
   pub number : e .number ≡ f .number
   pub made : stepsMade a e ≡ k + stepsMade b f
@@ -37,7 +37,7 @@ pub record EndsAs (a b : Study) (k : ℕ) (e f : EndAnswer) : Type 0 where
   pub road : e .road ≡ f .road
   pub state : e .state ≡ f .state
 
--- after k steps without a fault: by what is said of each step, and by the states
+-- after k steps without a fault: from the faults of each step, and from the states
 module _ {a b : Study} {k : ℕ} (h : Rest a b k) (says tells : ℕ → FaultAnswer) (after then : ℕ → State)
     (none : (j : ℕ) → j < k → says j .number ≡ 0) (same : (j : ℕ) → j < b .steps → tells j ≡ says (k + j))
     (states : (j : ℕ) → j ≤ b .steps → then j ≡ after (k + j)) where
@@ -101,7 +101,7 @@ module _ {a b : Study} {k : ℕ} (h : Rest a b k) where
   schedule-rest ys zs s same (suc j) l =
       rw (schedule-rest ys zs s same j (omega arith), h .roads j l, h .rows j l, same j l, add-suc k j)
 
-  -- what the wishes of filling go by
+  -- what the wishes of filling are computed from
   pub metered-rest : (laws : List Law) (m p : Metered) → p ≡ meteredFrom laws a m k
       → (j : ℕ) → j ≤ b .steps → meteredFrom laws b p j ≡ meteredFrom laws a m (k + j)
   unfolding meteredFrom
@@ -125,7 +125,7 @@ module _ {a b : Study} {k : ℕ} (h : Rest a b k) where
     pub outflows-rest : (j : ℕ) → j < b .steps → outflowsAt b j ≡ outflowsAt a (k + j)
     outflows-rest j l = rw (engine-rest j (omega arith), h .roads j l, h .rows j l)
 
-    -- the rows of outflows of the whole are those of both, one after the other
+    -- the rows of outflows of the whole are those of both parts, one after the other
     pub flows-rest : (j : ℕ) → j ≤ b .steps → flowsOf a (k + j) ≡ flowsOf a k ++ flowsOf b j
     unfolding concatOf
     flows-rest zero l = ap (flowsOf a) (add-zero k) ∙ sym (append-nil (flowsOf a k))
@@ -135,11 +135,11 @@ module _ {a b : Study} {k : ℕ} (h : Rest a b k) where
         ∙ ap (λ (x : List ℕ). (flowsOf a k ++ flowsOf b j) ++ x) (sym (outflows-rest j l))
         ∙ append-assoc (flowsOf a k) (flowsOf b j) (outflowsAt b j)
 
-    -- where the first k steps have no fault, the whole run ends as the rest does
+    -- if the first k steps have no fault, the whole run ends as the rest does
     pub run-rest : ((j : ℕ) → j < k → runSays a j .number ≡ 0) → EndsAs a b k (runEnd a) (runEnd b)
     run-rest none = end-rest h (runSays a) (runSays b) (engineAfter a) (engineAfter b) none says-rest engine-rest
 
-  -- and so does judging of a schedule whose first k rows have no fault; the rest of it begins with its own state after them
+  -- so does judging a schedule whose first k rows have no fault; the rest begins with its own state after them
   pub judge-rest : (ys zs : List ℕ) → b .start ≡ scheduledAt a ys k → ((j : ℕ) → j < b .steps → proposedAt b zs j ≡ proposedAt a ys (k + j))
       → ((j : ℕ) → j < k → judgeSays a ys j .number ≡ 0) → EndsAs a b k (judgeEnd a ys) (judgeEnd b zs)
   judge-rest ys zs s same none =

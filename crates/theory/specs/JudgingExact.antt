@@ -32,13 +32,13 @@ module _ (bytes lanes zs : List ℕ) (taken : Taken bytes lanes) (right : length
   answer : judgingOf bytes lanes zs ≡ judgeEnd (studyOf bytes lanes) zs
   answer = judges-ends bytes lanes taken zs right
 
-  -- accepted: the schedule obeys the rules in all T steps
+  -- an accepted schedule obeys the rules in all T steps
   pub accepted-obeys : judgingOf bytes lanes zs .number ≡ 0 → Reaches (studyOf bytes lanes) zs (studyOf bytes lanes .steps)
   accepted-obeys h =
       let f : J ≡ a .steps = end-number a (judgeSays a zs) (scheduledAt a zs) (sym (ap (λ (e : EndAnswer). e .number) answer) ∙ h) in
       record { within = le-refl (a .steps); obeys = λ j l. faults-obeys a ok zs j (omega (arith, f)) }
 
-  -- and one that does is accepted, with the final state
+  -- a schedule that obeys them is accepted, with the final state
   pub obeys-accepted : Reaches (studyOf bytes lanes) zs (studyOf bytes lanes .steps)
       → judgingOf bytes lanes zs ≡ ended 0 0 0 (studyOf bytes lanes .road) (scheduledAt (studyOf bytes lanes) zs (studyOf bytes lanes .steps))
   obeys-accepted h =
@@ -57,14 +57,14 @@ module _ (bytes lanes zs : List ℕ) (taken : Taken bytes lanes) (right : length
       let g = end-fault a (judgeSays a zs) (scheduledAt a zs) (omega arith) in
       answer ∙ rw f at g
 
--- a schedule of another length is refused by 12
+-- a schedule of another length is refused with 12
 pub refused-length : (bytes lanes zs : List ℕ) → Taken bytes lanes → (length zs ≡ tableSize (studyOf bytes lanes) → ⊥)
     → (judgingOf bytes lanes zs .number ≡ 12) × (judgingOf bytes lanes zs .place ≡ 0)
 refused-length bytes lanes zs taken n =
     let e = judges-length bytes lanes taken zs n in
     (ap (λ (a : EndAnswer). a .number) e, ap (λ (a : EndAnswer). a .place) e)
 
--- judging's answer does
+-- judging's answer accepts exactly the schedules that obey
 pub accepts-exactly : (bytes lanes zs : List ℕ) {e : EndAnswer} → e ≡ judgingOf bytes lanes zs → AcceptsExactly bytes lanes zs e
 accepts-exactly bytes lanes zs {e} ee = record { accepted = λ z. opened (sym number ∙ z); obeys = λ o. number ∙ all o }
   where

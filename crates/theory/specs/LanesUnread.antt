@@ -1,4 +1,4 @@
--- Lanes past cell n are not looked at: steps with the same lanes up to it are the same. Assumes nothing.
+-- Lanes past cell n are not read: steps with the same lanes up to cell n are the same. Assumes nothing.
 use mathlib.Core.Path.{_≡_, ap, _∙_}
 use mathlib.Core.List.{List}
 use Prim.Native.Nat.{ℕ, _+_, _<_}
@@ -30,11 +30,11 @@ module _ (r : Road) {built built′ usable usable′ : List ℕ} (b : SameTo (r 
       (fill-same (λ i. openCapacity (at (r .capacity) i) (at built i) (at usable i)) (λ i. openCapacity (at (r .capacity) i) (at built′ i) (at usable′ i))
       (r .n) (r .capacity) (λ i l. rw (b .cell i l, u .cell i l)))
 
-  -- a step by the lowest cell that 18 could name, and by the road of the step
+  -- a step, from the lowest cell that 18 could name and from the step's road
   abbrev by : State → List ℕ → ℕ → Road → Answer
   by s row p q = unless (inputOk r s row) (answer (fault 7 0) s) (unless (eqb p (r .n)) (answer (fault 18 (p + 1)) s) (stepOn q s row))
 
-  -- and so is the answer
+  -- the answer is the same
   pub lanes-unread : (s : State) (row : List ℕ) → steppingOf r s row built usable ≡ steppingOf r s row built′ usable′
   unfolding steppingOf
   lanes-unread s row =

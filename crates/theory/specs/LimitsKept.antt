@@ -1,4 +1,4 @@
--- The limits of 7 are kept by every step that obeys the rules, so a run is never refused with 7, nor with 8 before step 1,440. Assumes nothing.
+-- Every step that obeys the rules keeps the limits of 7, so a run is never refused with 7, nor with 8 before step 1,440. Assumes nothing.
 use mathlib.Core.Path.{_≡_}
 use mathlib.Core.Bool.{true}
 use mathlib.Core.List.{List}
@@ -27,7 +27,7 @@ module _ (r : Road) (s : State) (row y : List ℕ) (ok : InputOk r s row) (z : S
   abbrev T : State
   T = nextOf r s row y
 
-  -- what enters a cell and its release leave it within its jam count
+  -- with what enters and with its release a cell stays within its jam count
   held-kept : (i : ℕ) → i < r .n → at (T .held) i ≤ at (r .jam) i
   held-kept i l =
       omega (
@@ -52,7 +52,7 @@ module _ (r : Road) (s : State) (row y : List ℕ) (ok : InputOk r s row) (z : S
   gate-queue-kept = omega (arith, next-gate-queue r s row y, ok .state .gateQueue, ok .row .gate)
 
   module _ (d : s .done < mostSteps) where
-    -- present of a full road is within the total's growth
+    -- present on a full road is within the growth of the total's limit
     pub present-bound : presentOf r T ≤ mostPresent
     present-bound =
         let w = next-sized r s row y z in
@@ -78,7 +78,7 @@ module _ (r : Road) (s : State) (row y : List ℕ) (ok : InputOk r s row) (z : S
       cumulative = rw (next-done r s row y) (λ i l. cumulative-kept (suc i) l (ok .state .cumulative i l));
     }
 
--- after a step on its road q that is not refused, the next one is not refused with 7 if its row is within the limits, nor with 8 before step 1,440
+-- after a step on its road q that is not refused, the next step is not refused with 7 if its row is within the limits, nor with 8 before step 1,440
 module _ (r q : Road) (h : StepRoad r q) (s : State) (row : List ℕ) (z : Sized q s) (in-limits : inputOk r s row ≡ true) (d : s .done < mostSteps)
     (ok : Released q s row) where
   abbrev N : State

@@ -1,4 +1,4 @@
--- The model's sentences about a step, place by place, for a step by any row of outflows. Assumes nothing.
+-- The page's sentences about a step, place by place, for a step with any row of outflows. Assumes nothing.
 use mathlib.Core.Path.{_≡_, refl, _∙_}
 use mathlib.Core.List.{List}
 use Prim.Native.Nat.{ℕ, zero, suc, _+_, _-_, _≤_, _<_}
@@ -34,11 +34,11 @@ module _ (r : Road) (s : State) (row y : List ℕ) where
   unfolding countedOf movedTo
   next-ramp-time = refl
 
-  -- and so the total by present
+  -- so the total grows by present
   pub next-total : totalOf (nextOf r s row y) ≡ totalOf s + presentOf r (nextOf r s row y)
   next-total = omega (arith, next-gate-time, next-road-time, next-ramp-time)
 
-  -- the gate's queue grows by arrivals less outflow
+  -- the gate's queue becomes queue + arrivals − outflow
   pub next-gate-queue : nextOf r s row y .«gate_queue» ≡ s .«gate_queue» + gateArrivals row - at y 0
   unfolding countedOf movedTo
   next-gate-queue = refl
@@ -57,13 +57,13 @@ module _ (r : Road) (s : State) (row y : List ℕ) where
   next-cumulative-past i l = fill-past (cumulativeOf s y) (r .n) (s .cumulative) i l
 
   module _ (z : Sized r s) where
-    -- next held equals held + entering + release − outflow
+    -- held becomes held + entering + release − outflow
     pub next-held : (i : ℕ) → i < r .n
         → at (nextOf r s row y .held) i ≡ at (s .held) i + enteringAt r s y i + releaseAt row i - at y (suc i)
     unfolding countedOf movedTo
     next-held i l = fill-at (heldOf r s row y) (r .n) (s .held) i l (z .held) ∙ rw add-one
 
-    -- a ramp's queue grows by arrivals less release
+    -- a ramp's queue becomes queue + arrivals − release
     pub next-queue : (i : ℕ) → i < r .n → at (nextOf r s row y .queue) i ≡ at (s .queue) i + arrivalsAt row i - releaseAt row i
     unfolding countedOf movedTo
     next-queue i l = fill-at (queueOf s row) (r .n) (s .queue) i l (z .queue)
@@ -86,12 +86,12 @@ module _ (r : Road) (s : State) (row y : List ℕ) where
       cumulative = omega (arith, length-fill (cumulativeOf s y) (r .n) (s .cumulative), z .cumulative);
     }
 
--- counting a step changes neither what is present nor where it is
+-- counting a step does not change present
 pub counted-present : (r : Road) (s : State) → presentOf r (countedOf r s) ≡ presentOf r s
 unfolding countedOf
 counted-present r s = refl
 
--- a step counted, from the parts of present as they are found
+-- counting a step, with the parts of present given by equations
 pub counted-is : (r : Road) (s : State) {gate held queues : ℕ} → gate ≡ s .«gate_queue» → held ≡ heldSum r s → queues ≡ queueSum r s
     → _≡_ {A = State} (record {
       done = s .done + 1;
@@ -108,7 +108,7 @@ pub counted-is : (r : Road) (s : State) {gate held queues : ℕ} → gate ≡ s 
 unfolding countedOf
 counted-is r s g h q = rw (g, h, q)
 
--- one more cell moved, as a loop over the cells does it
+-- one more cell moved, as in a loop over the cells
 pub moved-more : (r : Road) (s : State) (row y : List ℕ) (i : ℕ) (t : State) (enter : ℕ)
     → t ≡ movedTo r s row y i → enter ≡ enteringAt r s y i
     → _≡_ {A = State} (record {

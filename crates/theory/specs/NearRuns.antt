@@ -1,4 +1,4 @@
--- Whole runs of a study and of the finer one: after every step that both reach. Assumes nothing.
+-- Whole runs of a study and of the finer study, after every step that both reach. Assumes nothing.
 use mathlib.Core.Path.{_≡_, ap, subst}
 use mathlib.Core.List.{List}
 use Prim.Native.Nat.{ℕ, zero, suc, _+_, _*_, _≤_, _<_}
@@ -21,11 +21,11 @@ use Rattle.theory.specs.StepRules.{Decided, greatest-decided}
 use Rattle.theory.specs.WholeShares.{AllOn, all-on-alike, whole-most, whole-least}
 use Rattle.theory.specs.AnyShares.{Most, Least, most-alike, least-alike, most-step, least-step}
 
--- demand or room decides at each place of a schedule in its first k steps, as in the papers' rules
+-- demand or room decides at each place in the first k steps of a schedule, as in the papers' rules
 abbrev pub Deciding : Study → (ℕ → List ℕ) → ℕ → Type 0
 Deciding a ys k = (j : ℕ) → j < k → Decided (roadAt a j) (scheduleAfter a ys j) (a .rows j) (ys j)
 
--- what the theorems require of a study and of K
+-- what the theorems require from a study and from K
 pub record Countable (K : ℕ) (a : Study) : Type 0 where
   pub some : 0 < K
   pub ok : StudyOk a
@@ -49,7 +49,7 @@ module _ {K : ℕ} {a : Study} (h : Countable K a) where
   step-off : (j : ℕ) → Alike (roadAt a j) (a .road)
   step-off j = alike-back (a .road) (roadAt a j) (step-on j)
 
-  -- the engine's runs decide so, in the study and in the finer one
+  -- in the engine's runs demand or room decides, in the study and in the finer study
   pub engine-decides : (k : ℕ) → Fitting a k → Deciding a (outflowsAt a) k
   engine-decides k fits j l =
       subst (λ (u : State). Decided (roadAt a j) u (a .rows j) (outflowsAt a j)) (engine-schedule a j)
@@ -68,7 +68,7 @@ module _ {K : ℕ} {a : Study} (h : Countable K a) where
       (greatest-decided q′ (engineAfter (scaled K a) j) (scaled K a .rows j) (outflowsAt (scaled K a) j) shares
       (outflows-greatest q′ (engineAfter (scaled K a) j) (scaled K a .rows j) (fits j l)))
 
-  -- any rows that obey the rules: ys in the study, zs in the finer one
+  -- any rows that obey the rules: ys in the study, zs in the finer study
   module _ (ys zs : ℕ → List ℕ) where
     abbrev S : ℕ → State
     S = scheduleAfter a ys
@@ -85,7 +85,7 @@ module _ {K : ℕ} {a : Study} (h : Countable K a) where
         (coupled-step K (roadAt a k) (roadAt (scaled K a) k) (S k) (T k) (a .rows k) (ys k) (zs k) (h .ok .roads k .ok) (h .roads k)
         (own k (le-refl (suc k))) (fine k (le-refl (suc k))) (coupled-on K (h .ok .roads k) (S k) (T k) before))
 
-    -- interior shares 1,000: no more than k × K beyond, and never short
+    -- shares 1,000 before the last: the finer F is at most k × K above K times F, and never below
     pub whole-most-after : AllOn (a .road) → (k : ℕ) → Obeying a ys k → Obeying (scaled K a) zs k → Deciding a ys k
         → (p : ℕ) → p ≤ a .road .n → cumulativeAt (scheduleAfter (scaled K a) zs k) p ≤ K * cumulativeAt (scheduleAfter a ys k) p + k * K
     unfolding scheduleAfter

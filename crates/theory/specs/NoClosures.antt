@@ -1,4 +1,4 @@
--- Without closures nothing changes: with the empty table running and judging are those over one road, and so they are with a table that opens all
+-- Without closures nothing changes: with the empty table running and judging use one road, and so they do with a table that opens all
 -- built lanes in every row. Assumes nothing.
 use mathlib.Core.Path.{_≡_, refl, sym, ap, _∙_}
 use mathlib.Core.List.{List, []}
@@ -38,7 +38,7 @@ unfoldable pub plainScheduled : Road → State → (ℕ → List ℕ) → (ℕ �
 plainScheduled r s rows ys zero = s
 plainScheduled r s rows ys (suc k) = nextOf r (plainScheduled r s rows ys k) (rows k) (ys k)
 
--- how running and judging end, and the rows that running writes
+-- the ends of running and judging, and the rows that running writes
 abbrev pub plainRun : Study → EndAnswer
 plainRun a = endOf a (λ k. releasesOf (a .road) (plainAfter (a .road) (a .start) (a .rows) k) (a .rows k)) (plainAfter (a .road) (a .start) (a .rows))
 
@@ -51,7 +51,7 @@ plainJudge a zs =
 abbrev pub plainOutflows : Study → ℕ → List ℕ
 plainOutflows a k = outflowsOf (a .road) (plainAfter (a .road) (a .start) (a .rows) k) (a .rows k)
 
--- running and judging of a record without closures: the refusals of reading, 11 or 12, then step by step
+-- running and judging a record without closures: the refusals of reading, 11 or 12, then step by step
 unfoldable pub plainRunning : List ℕ → List ℕ → EndAnswer
 plainRunning bytes list =
     unless (eqb (readingOf bytes .number) 0) (noState (readingOf bytes .number) (readingOf bytes .place))
@@ -95,7 +95,7 @@ module _ (a : Study) (one : (k : ℕ) → k < a .steps → roadAt a k ≡ a .roa
   table-plain list k l =
       front-same (outflowsAt a) (plainOutflows a) (places a) list k (λ i m. rw (one i (omega arith), after-plain i (omega arith)) refl)
 
--- the empty table: one road
+-- with the empty table there is one road
 module _ (bytes : List ℕ) where
   pub empty-one : (k : ℕ) → k < studyOf bytes [] .steps → roadAt (studyOf bytes []) k ≡ studyOf bytes [] .road
   empty-one k l = sym (same-road (studyOf bytes []) refl k)
@@ -108,7 +108,7 @@ module _ (bytes : List ℕ) where
   unfolding judgingOf plainJudging
   empty-judges zs = rw (opening-empty bytes, judge-plain (studyOf bytes []) empty-one zs) refl
 
-  -- no more steps than T are made
+  -- at most T steps are made
   abbrev Within : EndAnswer → Type 0
   Within x = stepsMade (studyOf bytes []) x ≤ studyOf bytes [] .steps
 
@@ -132,7 +132,7 @@ pub record AllOpen (table : List ℕ) (n T : ℕ) : Type 0 where
   pub some : (i : ℕ) → i < n → 0 < at (builtIn table n) i
   pub all : (k : ℕ) → k < T → openIn table n k ≡ builtIn table n
 
--- is the empty one
+-- such a table gives the same as the empty one
 module _ (bytes table : List ℕ) (reads : readingOf bytes .number ≡ 0) (h : AllOpen table (readingOf bytes .road .n) (readingOf bytes .steps)) where
   abbrev a : Study
   a = studyOf bytes table

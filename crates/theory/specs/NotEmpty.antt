@@ -1,5 +1,5 @@
--- Demand 3 is not empty: on the printed run the all-zero schedule reaches all three steps, with total 40500 against 33098; and so it does where works
--- close a lane, against 34431. Assumes nothing.
+-- Demand 3 is not empty: on the printed run the all-zero schedule reaches all three steps, with total 40500 against 33098; with a lane closed
+-- by works it does too, against 34431. Assumes nothing.
 use mathlib.Core.Path.{_≡_}
 use mathlib.Core.List.{[]}
 use native.Mathlib.Omega.{arith}
@@ -18,11 +18,11 @@ still-reaches =
     let right : length still ≡ tableSize (studyOf sample []) = both .right in
     rw (both .judged) at (promised sample [] (both .taken) still .grounds .reached still right)
 
--- and there the written rows are ahead of it
+-- the written rows are ahead of it
 pub ahead-of-still : Ahead (studyOf sample [] .road) (scheduledAt (studyOf sample []) (listAfter sample [] still) 3) (scheduledAt (studyOf sample []) still 3)
 ahead-of-still = promised sample [] (both .taken) still .demand .ahead still 3 (omega (arith, both .run)) still-reaches
 
--- so the schedule reaches all three steps there too, and the written rows are ahead of it
+-- with works the schedule reaches all three steps too, and the written rows are ahead of it
 pub still-reaches-closed : Reaches (studyOf sample works) still 3
 still-reaches-closed =
     let right : length still ≡ tableSize (studyOf sample works) = both .right in

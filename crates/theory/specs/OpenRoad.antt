@@ -1,4 +1,4 @@
--- The road of a step: the study's road with what the open lanes leave of its capacities. Assumes nothing.
+-- The road of a step: the study's road with the capacities that the open lanes leave. Assumes nothing.
 use mathlib.Core.Path.{_≡_, refl, ap, _∙_}
 use mathlib.Core.Bool.{Bool, true, false, cond}
 use mathlib.Core.Logic.{_⊎_, ⊎-elim}
@@ -26,7 +26,7 @@ module _ (r : Road) (built usable : List ℕ) where
       → at (openRoad r built usable .capacity) i ≡ openCapacity (at (r .capacity) i) (at built i) (at usable i)
   open-at lr i l = fill-at (λ j. openCapacity (at (r .capacity) j) (at built j) (at usable j)) (r .n) (r .capacity) i l lr
 
-  -- where every open lane is built no capacity is larger, and so every limit holds
+  -- if every open lane is built, no capacity is larger, so every limit holds
   pub opened : RoadOk r → r .n ≤ length (r .capacity) → ((i : ℕ) → i < r .n → bitAnd (at usable i) (at built i) ≡ at usable i)
       → StepRoad r (openRoad r built usable)
   opened ok lr within = record {
@@ -48,7 +48,7 @@ module _ (r : Road) (built usable : List ℕ) where
     };
   }
 
-  -- with all lanes open it is the road
+  -- with all lanes open it is the road itself
   pub opened-all : RoadOk r → ((i : ℕ) → i < r .n → (0 < at built i) × (at usable i ≡ at built i)) → openRoad r built usable ≡ r
   opened-all ok all =
       ap (withCapacity r)
@@ -56,7 +56,7 @@ module _ (r : Road) (built usable : List ℕ) where
       (λ i l. rw (all i l .1) (open-all (at (r .capacity) i) (at built i) (all i l .0) (omega (arith, ok .capacity i l))))
       ∙ fill-own (r .capacity) (r .n))
 
--- roads are compared under the same lanes as they are without
+-- a road that is nowhere worse is nowhere worse under the same lanes
 pub opened-wider : (a b : Road) (built usable : List ℕ) → a .n ≤ length (a .capacity) → b .n ≤ length (b .capacity) → Wider a b
     → Wider (openRoad a built usable) (openRoad b built usable)
 unfolding capacityAt
@@ -80,7 +80,7 @@ module _ (a : Study) where
   abbrev pub stepRoad : ℕ → Road
   stepRoad k = openRoad (a .road) (builtIn (a .lanes) (a .road .n)) (openIn (a .lanes) (a .road .n) k)
 
-  -- an empty table: one road for all steps
+  -- an empty table means one road for all steps
   pub same-road : length (a .lanes) ≡ 0 → (k : ℕ) → a .road ≡ roadAt a k
   unfolding roadAt
   same-road e k = rw (eq-eqb (length (a .lanes)) 0 e) refl
@@ -102,12 +102,12 @@ module _ (a : Study) where
           opened (a .road) (builtIn (a .lanes) (a .road .n)) (openIn (a .lanes) (a .road .n) k) ok lr
           (table-within (a .lanes) (a .road .n) (a .steps) (t .right some) (t .cells some) k)
 
-  -- what a loop over the steps keeps of its road q: the study's with other capacities, and with an empty table the study's
+  -- the invariant of a loop over the steps for its road q: the study's road with other capacities, and with an empty table the study's road
   pub record OnRoad (q : Road) : Type 0 where
     pub other : withCapacity q (a .road .capacity) ≡ a .road
     pub same : length (a .lanes) ≡ 0 → q ≡ a .road
 
--- what a turn of it makes of q: the road with the capacities of step k, or with an empty table q itself
+-- what a turn of the loop makes of q: the road with the capacities of step k, or q itself with an empty table
 pub record Turned (a : Study) (q : Road) (k : ℕ) (v : Road) : Type 0 where
   pub before : OnRoad a q
   pub came : ((length (a .lanes) ≡ 0 → ⊥) × (v ≡ withCapacity q (stepRoad a k .capacity))) ⊎ ((length (a .lanes) ≡ 0) × (v ≡ q))
@@ -117,7 +117,7 @@ module _ {a : Study} where
   on-road = record { other = refl; same = λ e. refl }
 
   module _ {q : Road} {k : ℕ} {v : Road} (h : Turned a q k v) where
-    -- it is the road of step k
+    -- the result is the road of step k
     pub turned-road : v ≡ roadAt a k
     turned-road = ⊎-elim
         (λ (o : (length (a .lanes) ≡ 0 → ⊥) × (v ≡ withCapacity q (stepRoad a k .capacity))).
@@ -125,7 +125,7 @@ module _ {a : Study} where
         (λ (o : (length (a .lanes) ≡ 0) × (v ≡ q)). o .1 ∙ h .before .same (o .0) ∙ same-road a (o .0) k)
         (h .came)
 
-    -- and the loop goes on with it
+    -- and it keeps the loop's invariant
     pub turned-on : OnRoad a v
     turned-on = ⊎-elim
         (λ (o : (length (a .lanes) ≡ 0 → ⊥) × (v ≡ withCapacity q (stepRoad a k .capacity))). record {

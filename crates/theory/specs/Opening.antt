@@ -12,12 +12,12 @@ use Rattle.model.specs.Running.{lanesFault, openingOf}
 use Rattle.theory.specs.Readable.{Readable, readable}
 
 module _ (bytes lanes : List ℕ) where
-  -- as reading refuses it
+  -- opening refuses what reading refuses
   pub opening-refused : (readingOf bytes .number ≡ 0 → ⊥) → openingOf bytes lanes ≡ readingOf bytes
   unfolding openingOf
   opening-refused h = rw (ne-eqb (readingOf bytes .number) 0 h) refl
 
-  -- 17 or 18
+  -- opening reports 17 or 18
   pub opening-closed : readingOf bytes .number ≡ 0 → (lanesFault (studyOf bytes lanes) .number ≡ 0 → ⊥)
       → openingOf bytes lanes ≡ refusedOf (lanesFault (studyOf bytes lanes) .number) (lanesFault (studyOf bytes lanes) .place)
   unfolding openingOf
@@ -33,19 +33,19 @@ module _ (bytes lanes : List ℕ) where
   pub opening-taken : Taken bytes lanes → openingOf bytes lanes ≡ readingOf bytes
   opening-taken t = opening-same (t .opens)
 
-  -- and without a refusal neither does
+  -- if opening has no refusal, neither reading nor the table has one
   pub opening-opens : openingOf bytes lanes .number ≡ 0 → Taken bytes lanes
   opening-opens h =
       fault-elim (readingOf bytes .number) (λ n. absurd (n (rw (opening-refused n) at h))) (λ reads.
       fault-elim (lanesFault (studyOf bytes lanes) .number) (λ n. absurd (n (rw (opening-closed reads n) at h))) (λ opens.
       record { reads = reads; opens = opens }))
 
--- x is what opening gave without a refusal
+-- x is the answer of opening without a refusal
 module _ (bytes lanes : List ℕ) {x : ReadAnswer} (e : x ≡ openingOf bytes lanes) (h : x .number ≡ 0) where
   pub opened-taken : Taken bytes lanes
   opened-taken = opening-opens bytes lanes (rw e at h)
 
-  -- it is what reading gives
+  -- x is reading's answer
   pub opened-reads : x ≡ readingOf bytes
   opened-reads = e ∙ opening-taken bytes lanes opened-taken
 

@@ -1,4 +1,4 @@
--- Interior shares 1,000: present and the three times of a study and of the finer one. Assumes nothing.
+-- Shares 1,000 before the last: present and the three times of a study and of the finer study. Assumes nothing.
 use mathlib.Core.Path.{_≡_, refl, ap}
 use mathlib.Core.List.{List}
 use Prim.Native.Nat.{ℕ, zero, suc, _+_, _*_, _≤_}
@@ -21,7 +21,7 @@ use Rattle.theory.specs.Coupling.{Coupling}
 use Rattle.theory.specs.WholeShares.{AllOn, onward-all}
 use Rattle.theory.specs.NearRuns.{Deciding, Countable, coupled, whole-most-after, whole-least-after}
 
--- ramp queues are K times as long, whatever the shares
+-- ramp queues are K times as long, with any shares
 pub queues-finer : (K : ℕ) (r : Road) (s t : State) → Coupling K r s t → (k : ℕ) → k ≤ r .n → sumOf (take k (t .queue)) ≡ K * sumOf (take k (s .queue))
 queues-finer K r s t c zero l = omega (arith, sum-start (t .queue), ap (λ (x : ℕ). K * x) (sum-start (s .queue)))
 queues-finer K r s t c (suc k) l =
@@ -34,7 +34,7 @@ queues-finer K r s t c (suc k) l =
     )
 
 module _ (K : ℕ) (r : Road) (on : AllOn r) (s t : State) (c : Coupling K r s t) where
-  -- the gate and the first k cells, with what has left the last of them
+  -- the gate and the first k cells, plus what has left the last of them
   prefix : (k : ℕ) → k ≤ r .n
       → t .«gate_queue» + sumOf (take k (t .held)) + cumulativeAt t k ≡ K * (s .«gate_queue» + sumOf (take k (s .held)) + cumulativeAt s k)
   prefix zero l = omega (arith, c .gate, sum-start (t .held), ap (λ (x : ℕ). K * x) (sum-start (s .held)))
@@ -49,17 +49,17 @@ module _ (K : ℕ) (r : Road) (on : AllOn r) (s t : State) (c : Coupling K r s t
         ap (λ (x : ℕ). K * x) (sum-more k (s .held) (omega (arith, c .sizedS .held))),
       )
 
-  -- present and what has left the road are K times as much
+  -- present plus what has left the road is K times as much
   present-account : presentOf r t + cumulativeAt t (r .n) ≡ K * (presentOf r s + cumulativeAt s (r .n))
   present-account = omega (arith, prefix (r .n) (le-refl (r .n)), queues-finer K r s t c (r .n) (le-refl (r .n)))
 
--- what is present and what it has waited: of the study by k parts at most more than of a finer schedule, each part K finer ones
+-- present, total and gate time of the study exceed those of a finer schedule by at most this much after k steps; one part is K finer parts
 pub record Sooner (K k : ℕ) (r : Road) (s t : State) : Type 0 where
   pub present : K * presentOf r s ≤ presentOf r t + k * K
   pub total : 2 * (K * totalOf s) ≤ 2 * totalOf t + k * (k + 1) * K
   pub gateTime : 2 * (K * s .«gate_time») ≤ 2 * t .«gate_time» + k * (k + 1) * K
 
--- and never less
+-- and they are never less
 pub record Later (K : ℕ) (r : Road) (s t : State) : Type 0 where
   pub present : presentOf r t ≤ K * presentOf r s
   pub total : totalOf t ≤ K * totalOf s
@@ -78,7 +78,7 @@ module _ {K : ℕ} {a : Study} (h : Countable K a) (ys zs : ℕ → List ℕ) wh
   abbrev T : ℕ → State
   T = scheduleAfter (scaled K a) zs
 
-  -- the roads of a step have the study's cells and shares
+  -- the road of a step has the study's cells and shares
   own-road : (j : ℕ) → Alike (a .road) (roadAt a j)
   own-road j = step-alike (h .ok .roads j)
 
@@ -107,7 +107,7 @@ module _ {K : ℕ} {a : Study} (h : Countable K a) (ys zs : ℕ → List ℕ) wh
   unfolding scheduleAfter
   start-times = (refl, (refl, omega arith))
 
-  -- ramp time is K times as long, whatever the shares
+  -- ramp time is K times as long, with any shares
   pub ramp-time-finer : (k : ℕ) → Obeying a ys k → Obeying (scaled K a) zs k
       → scheduleAfter (scaled K a) zs k .«ramp_time» ≡ K * scheduleAfter a ys k .«ramp_time»
   unfolding scheduleAfter

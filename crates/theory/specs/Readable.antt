@@ -52,7 +52,7 @@ readable bytes lanes x e h f =
       seconds = read-seconds bytes x e h;
     }
 
--- with the empty table
+-- the same with the empty table
 pub readable-open : (bytes : List ℕ) (x : ReadAnswer) → x ≡ readingOf bytes → x .number ≡ 0 → Readable bytes (studyBy bytes [] (x .road) (x .state) (x .steps))
 readable-open bytes x e h = readable bytes [] x e h (number-of (table-empty [] (x .road .n) (x .steps) refl))
 

@@ -13,13 +13,13 @@ use Rattle.theory.specs.DemandWhole.{promised}
 use Rattle.theory.specs.Accounts.{Accounts, accounts}
 
 module _ (bytes lanes : List ℕ) (taken : Taken bytes lanes) where
-  -- of the rows that running writes; where the run began, their last state is the one returned (Grounds, ownState)
+  -- for the rows that running writes; if the run began, their last state is the one returned (`ownState` of `Grounds`)
   pub run-accounts : (list : List ℕ) → Accounts (studyOf bytes lanes) (listAfter bytes lanes list) (stepsMade (studyOf bytes lanes) (runningOf bytes lanes list))
   run-accounts list =
       let k = stepsMade (studyOf bytes lanes) (runningOf bytes lanes list) in
       accounts bytes lanes (listAfter bytes lanes list) taken k (promised bytes lanes taken list .grounds .own k (le-refl k))
 
-  -- of a schedule of the right length, up to the state that judging returns (Grounds, judgedState)
+  -- for a schedule of the right length, up to the state that judging returns (`judgedState` of `Grounds`)
   pub judge-accounts : (zs : List ℕ) → length zs ≡ tableSize (studyOf bytes lanes)
       → Accounts (studyOf bytes lanes) zs (stepsMade (studyOf bytes lanes) (judgingOf bytes lanes zs))
   judge-accounts zs right =

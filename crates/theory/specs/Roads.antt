@@ -1,4 +1,4 @@
--- Two roads compared: of the same cells and shares, and where one is nowhere worse than the other. Assumes nothing.
+-- Two roads compared: roads with the same cells and shares, and a road that is nowhere worse than another. Assumes nothing.
 use mathlib.Core.Path.{_≡_, refl, sym, ap, _∙_}
 use mathlib.Core.List.{List}
 use Prim.Native.Nat.{ℕ, zero, suc, _≤_, _<_}
@@ -28,7 +28,7 @@ pub record Wider (a b : Road) : Type 0 where
   pub jam : (i : ℕ) → i < a .n → at (a .jam) i ≤ at (b .jam) i
   pub capacity : (i : ℕ) → i < a .n → capacityAt a i ≤ capacityAt b i
 
--- the roads of one step: the rival's a and the engine's b, nowhere worse, both within the limits and both with r's cells and shares
+-- the roads of one step: the rival's a and the engine's b, which is nowhere worse; both within the limits, both with r's cells and shares
 pub record Compared (r a b : Road) : Type 0 where
   pub alike : Alike r a
   pub wider : Wider a b
@@ -54,7 +54,7 @@ wider-self r = record {
   capacity = λ i l. le-refl (capacityAt r i);
 }
 
--- one road for both
+-- the same road on both sides
 pub compared-self : (r : Road) → RoadOk r → Compared r r r
 compared-self r ok = record { alike = alike-self r; wider = wider-self r; rival = ok; engine = ok }
 
@@ -73,7 +73,7 @@ module _ {r q : Road} (h : StepRoad r q) where
   pub step-alike : Alike r q
   step-alike = record { n = h .n; share = λ i l. ap (λ (x : List ℕ). at x i) (h .share) }
 
-  -- other capacities move no limit of a state or a row
+  -- other capacities change no limit of a state or a row
   pub step-state : (s : State) → StateOk r s → StateOk q s
   step-state s k = record {
     done = k .done;
@@ -118,7 +118,7 @@ module _ {r q : Road} (h : StepRoad r q) where
     noRelease = λ i l e. k .noRelease i (omega (arith, h .n)) (rw (h .ramp) e);
   }
 
--- what is alike on alike roads
+-- what agrees on roads with the same cells and shares
 module _ (a b : Road) (h : Alike a b) where
   pub share-alike : (p : ℕ) → p ≤ a .n → shareAt b p ≡ shareAt a p
   unfolding shareAt

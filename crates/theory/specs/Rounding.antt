@@ -1,5 +1,5 @@
--- What rounding costs: after every step that both reach, how far a study's whole numbers are from those of the same study counted K times finer,
--- however large K is, and from the papers' real numbers. Assumes nothing.
+-- What rounding costs: how far a study's numbers are from those of the same study counted K times finer, and from the papers' real numbers,
+-- after every step that both reach, for every K. Assumes nothing.
 use mathlib.Core.Path.{_≡_, refl, ap, subst⁻¹}
 use mathlib.Core.Logic.{_⊎_, ⊎-elim}
 use mathlib.Core.List.{List}
@@ -23,12 +23,12 @@ use Rattle.theory.specs.AnyShares.{Most}
 use Rattle.theory.specs.NearRuns.{Deciding, Countable, engine-decides, finer-decides, coupled, whole-most-after, whole-least-after, most-after, least-after}
 use Rattle.theory.specs.Present.{Sooner, Later, sooner, later, ramp-time-finer}
 
--- after k steps, s of the study and t of the finer one. For place p let R be the product of the shares from p on, m their number: no F is off by more
--- than 2 k parts (each K finer ones) divided by the share of its traffic that reaches the end, R ÷ 1,000^m
+-- states after k steps: s of the study, t of the finer one. For place p let R be the product of the shares from p on and m their number: no F
+-- differs by more than 2 k parts (each K finer parts), divided by R ÷ 1,000^m, the part of its outflow that reaches the end
 pub record Near (K k : ℕ) (r : Road) (s t : State) : Type 0 where
   pub most : (p : ℕ) → p ≤ r .n → cumulativeAt t p * reachOf r p ≤ K * cumulativeAt s p * reachOf r p + 2 * k * K * thousandsOf r p
   pub least : (p : ℕ) → p ≤ r .n → K * cumulativeAt s p * reachOf r p ≤ cumulativeAt t p * reachOf r p + k * (K + 1) * thousandsOf r p
-  -- the gate's queue is off by as much, a held count by what has come in and what has left; ramp queues and ramp time are exact
+  -- the gate's queue differs by as much; a held count by what has entered and what has left; ramp queues and ramp time are exact
   pub queueMost : t .«gate_queue» * reachOf r 0 ≤ K * s .«gate_queue» * reachOf r 0 + k * (K + 1) * thousandsOf r 0
   pub queueLeast : K * s .«gate_queue» * reachOf r 0 ≤ t .«gate_queue» * reachOf r 0 + 2 * k * K * thousandsOf r 0
   pub heldMost : (i : ℕ) → i < r .n
@@ -38,19 +38,19 @@ pub record Near (K k : ℕ) (r : Road) (s t : State) : Type 0 where
   pub rampQueue : (i : ℕ) → i < r .n → at (t .queue) i ≡ K * at (s .queue) i
   pub rampTime : t .«ramp_time» ≡ K * s .«ramp_time»
 
--- the same where all that leaves a cell enters the next one: no F of the finer study is smaller, and none is larger by more than k parts; what is
--- present is smaller, by k parts at most, and the total by k (k + 1) ÷ 2
+-- the same if all that leaves a cell enters the next one: no F of the finer study is smaller, and none is larger by more than k parts.
+-- Present is smaller by at most k parts, and the total by at most k (k + 1) ÷ 2
 pub record NearWhole (K k : ℕ) (r : Road) (s t : State) : Type 0 where
   pub least : (p : ℕ) → p ≤ r .n → K * cumulativeAt s p ≤ cumulativeAt t p
   pub most : (p : ℕ) → p ≤ r .n → cumulativeAt t p ≤ K * cumulativeAt s p + k * K
   pub later : Later K r s t
   pub sooner : Sooner K k r s t
-  -- road time is the rest of the total
+  -- road time is the total less gate and ramp time
   pub roadMost : 2 * t .«road_time» ≤ 2 * (K * s .«road_time») + k * (k + 1) * K
   pub roadLeast : 2 * (K * s .«road_time») ≤ 2 * t .«road_time» + k * (k + 1) * K
 
 module _ {K : ℕ} {a : Study} (h : Countable K a) (k : ℕ) where
-  -- a schedule ys of the study and a schedule zs of the finer one, in both of which demand or room decides
+  -- a schedule ys of the study and a schedule zs of the finer study; in both, demand or room decides
   module _ (ys zs : ℕ → List ℕ) (own : Obeying a ys k) (fine : Obeying (scaled K a) zs k) (decide : Deciding a ys k)
       (finer : Deciding (scaled K a) zs k) where
     pub schedules-near : Near K k (a .road) (scheduleAfter a ys k) (scheduleAfter (scaled K a) zs k)
@@ -86,8 +86,8 @@ module _ {K : ℕ} {a : Study} (h : Countable K a) (k : ℕ) where
         }
 
   module _ (fits : Fitting a k) where
-    -- against every schedule zs of the finer study that obeys the rules and in which demand or room decides: the papers' model is one, where its numbers
-    -- are whole in finer parts (`Exact`)
+    -- against every schedule zs of the finer study that obeys the rules and in which demand or room decides. The papers' model gives such a
+    -- schedule if its numbers are whole in finer parts (`Exact`)
     pub papers-near : (zs : ℕ → List ℕ) → Obeying (scaled K a) zs k → Deciding (scaled K a) zs k
         → Near K k (a .road) (engineAfter a k) (scheduleAfter (scaled K a) zs k)
     papers-near zs fine finer =
@@ -111,7 +111,7 @@ module _ {K : ℕ} {a : Study} (h : Countable K a) (k : ℕ) where
         subst⁻¹ (λ (u : State). NearWhole K k (a .road) (engineAfter a k) u) (engine-schedule (scaled K a) k)
         (papers-near-whole on (outflowsAt (scaled K a)) (engine-obeys (scaled K a) k fine) (finer-decides h k fine))
 
-    -- demand 3 within the bound: no schedule that anyone draws for the finer study is further ahead
+    -- demand 3 within the bound: no schedule of the finer study is further ahead
     pub finer-schedules : (zs : List ℕ) → Reaches (scaled K a) zs k → Most K (2 * k * K) (a .road) (engineAfter a k) (scheduledAt (scaled K a) zs k)
     finer-schedules zs reaches =
         subst⁻¹ (λ (u : State). Most K (2 * k * K) (a .road) u (scheduledAt (scaled K a) zs k)) (engine-schedule a k)
@@ -123,7 +123,7 @@ module _ {K : ℕ} {a : Study} (h : Countable K a) (k : ℕ) where
         subst⁻¹ (λ (u : State). Sooner K k (a .road) u (scheduledAt (scaled K a) zs k)) (engine-schedule a k)
         (sooner h (outflowsAt a) (proposedAt (scaled K a) zs) on k (engine-obeys a k fits) (reaches .obeys) (engine-decides h k fits))
 
--- every record that is taken can be counted K times finer, with all lanes open for every K, under a table of lanes for K up to 4,294
+-- every record without a refusal can be counted K times finer: for every K with all lanes open, for K up to 4,294 under a table of lanes
 abbrev pub Within : List ℕ → ℕ → Type 0
 Within lanes K = (length lanes ≡ 0) ⊎ (K ≤ mostFiner)
 

@@ -1,4 +1,4 @@
--- Laws of the rules: the engine's row is the greatest that obeys them. Assumes nothing.
+-- Laws of the rules: the engine's row obeys them and is the greatest. Assumes nothing.
 use Prim.Native.Nat.{ℕ, _≤_, zero, suc, _+_, _<_}
 use lib.ListN.{length, length-append, List·getD-append}
 use mathlib.Core.Path.{_≡_, refl, sym, _∙_}
@@ -29,12 +29,12 @@ pub record Sized (r : Road) (s : State) : Type 0 where
   pub queue : r .n ≤ length (s .queue)
   pub cumulative : r .n ≤ length (s .cumulative)
 
--- what a release may be at most is there, with this step's arrivals
+-- a release is at most the ramp's queue plus this step's arrivals
 pub release-there : (s : State) (row : List ℕ) (i : ℕ) → mostReleaseAt s row i ≤ at (s .queue) i + arrivalsAt row i
 unfolding mostReleaseAt
 release-there s row i = omega arith
 
--- without a queue and without arrivals nothing is released
+-- without a queue and arrivals nothing may be released
 pub release-none : (s : State) (row : List ℕ) (i : ℕ) → at (s .queue) i ≡ 0 → arrivalsAt row i ≡ 0 → mostReleaseAt s row i ≡ 0
 release-none s row i a b = omega (arith, release-there s row i)
 
@@ -59,7 +59,7 @@ pub entering-cell : (r : Road) (s : State) (y : List ℕ) (i : ℕ)
     → enteringAt r s y (i + 1) ≡ enteringOf (at (r .share) i) (at (s .cumulative) i) (at y (i + 1))
 entering-cell r s y i = rw (share-cell r i, cumulative-cell s i)
 
--- what leaves a place is there
+-- a place sends no more than it holds
 pub demand-at-gate : (r : Road) (s : State) → demandAt r s 0 ≤ s .«gate_queue»
 unfolding demandAt
 demand-at-gate r s = gate-demand-queue (r .«gate_capacity») (s .«gate_queue»)

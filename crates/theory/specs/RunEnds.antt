@@ -1,4 +1,4 @@
--- How running and judging end, case by case. Assumes nothing.
+-- The ends of running and judging, case by case. Assumes nothing.
 use mathlib.Core.Path.{_≡_, ap, _∙_}
 use mathlib.Core.Bool.{Bool, true}
 use mathlib.Core.List.{List}
@@ -16,7 +16,7 @@ use Rattle.theory.specs.SchedulesLaws.{runTable, end-made}
 use Rattle.theory.specs.Opening.{opening-refused, opening-closed, opening-taken}
 use Rattle.theory.specs.TableLaws.{table-none}
 
--- a record that isn't opened is refused so by both, and nothing is written
+-- both refuse a record that isn't opened in the same way, and nothing is written
 module _ (bytes lanes : List ℕ) (h : openingOf bytes lanes .number ≡ 0 → ⊥) where
   pub runs-unopened : (list : List ℕ) → runningOf bytes lanes list ≡ noState (openingOf bytes lanes .number) (openingOf bytes lanes .place)
   unfolding runningOf
@@ -30,7 +30,7 @@ module _ (bytes lanes : List ℕ) (h : openingOf bytes lanes .number ≡ 0 → �
   unfolding listAfter
   writes-unopened list = rw (runs-unopened list, ne-eqb (openingOf bytes lanes .number) 0 h) (table-none (studyOf bytes lanes) list)
 
--- so a record that reading refuses
+-- the same for a record that reading refuses
 module _ (bytes lanes : List ℕ) (h : readingOf bytes .number ≡ 0 → ⊥) where
   refused : openingOf bytes lanes ≡ readingOf bytes
   refused = opening-refused bytes lanes h
@@ -41,7 +41,7 @@ module _ (bytes lanes : List ℕ) (h : readingOf bytes .number ≡ 0 → ⊥) wh
   pub writes-refused : (list : List ℕ) → listAfter bytes lanes list ≡ list
   writes-refused list = writes-unopened bytes lanes (rw refused h) list
 
--- and one whose table of lanes has a fault
+-- and for one whose table of lanes has a fault
 module _ (bytes lanes : List ℕ) (h : readingOf bytes .number ≡ 0) (n : lanesFault (studyOf bytes lanes) .number ≡ 0 → ⊥) where
   closed : openingOf bytes lanes ≡ refusedOf (lanesFault (studyOf bytes lanes) .number) (lanesFault (studyOf bytes lanes) .place)
   closed = opening-closed bytes lanes h n

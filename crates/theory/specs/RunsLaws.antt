@@ -28,7 +28,7 @@ unfoldable pub arrivalsTo : Study → ℕ → ℕ
 arrivalsTo a zero = 0
 arrivalsTo a (suc k) = arrivalsTo a k + arrivalsOf (a .road) (a .rows k)
 
--- the limits of a study: of its road in every step, of its start, which may have steps done, and of its T rows
+-- the limits of a study: for its road in every step, for its start, which may have steps done, and for its T rows
 pub record StudyOk (a : Study) : Type 0 where
   pub road : RoadOk (a .road)
   pub roads : (k : ℕ) → StepRoad (a .road) (roadAt a k)
@@ -43,7 +43,7 @@ pub record Reached (a : Study) (u : State) (k : ℕ) : Type 0 where
   pub sized : Sized (a .road) u
   pub done : u .done ≡ a .start .done + k
 
--- one step of a study: q is its road, u the state before it and row its numbers
+-- one step of a study: q is its road, u the state before it and `row` its numbers
 pub record StepOf (a : Study) (q : Road) (u : State) (row : List ℕ) (k : ℕ) : Type 0 where
   pub ok : StudyOk a
   pub left : k < a .steps
@@ -52,7 +52,7 @@ pub record StepOf (a : Study) (q : Road) (u : State) (row : List ℕ) (k : ℕ) 
   pub reached : Reached a u k
 
 module _ {a : Study} {q : Road} {u : State} {row : List ℕ} {k : ℕ} (t : StepOf a q u row k) where
-  -- it is the study's road with other capacities, and all is within the limits
+  -- q is the study's road with other capacities, and everything is within the limits
   pub step-road : StepRoad (a .road) q
   step-road = rw (t .road) (t .ok .roads k)
 
@@ -79,7 +79,7 @@ schedule-sized a ys ok (suc k) =
     (next-sized (roadAt a k) (scheduleAfter a ys k) (a .rows k) (ys k)
     (sized-alike (a .road) (roadAt a k) e (scheduleAfter a ys k) (schedule-sized a ys ok k)))
 
--- over the rows of any study within the limits
+-- for the rows of any study within the limits
 module _ (a : Study) (ys : ℕ → List ℕ) (ok : StudyOk a) where
   sized-at : (k : ℕ) → Sized (roadAt a k) (scheduleAfter a ys k)
   sized-at k = sized-alike (a .road) (roadAt a k) (step-alike (ok .roads k)) (scheduleAfter a ys k) (schedule-sized a ys ok k)
@@ -141,7 +141,7 @@ module _ (a : Study) where
   engine-reached ok k l fits =
       subst⁻¹ (λ (u : State). Reached a u k) (engine-schedule k) (reached a (outflowsAt a) ok k l (engine-obeys k fits))
 
--- two studies that share start, roads and rows in their first k steps
+-- two studies with the same start, roads and rows in their first k steps
 pub record Shared (a b : Study) (k : ℕ) : Type 0 where
   pub start : a .start ≡ b .start
   pub roads : (j : ℕ) → j < k → roadAt a j ≡ roadAt b j
@@ -150,7 +150,7 @@ pub record Shared (a b : Study) (k : ℕ) : Type 0 where
 pub shared-less : {a b : Study} {k : ℕ} → Shared a b k → (j : ℕ) → j ≤ k → Shared a b j
 shared-less h j l = record { start = h .start; roads = λ i m. h .roads i (omega arith); rows = λ i m. h .rows i (omega arith) }
 
--- the engine's state after k steps depends on those steps alone, and so do its outflows in a step
+-- the engine's state after k steps depends only on these steps, and so do its outflows in a step
 pub engine-shared : {a b : Study} (k : ℕ) → Shared a b k → engineAfter a k ≡ engineAfter b k
 unfolding engineAfter
 engine-shared zero h = h .start
@@ -161,18 +161,18 @@ pub outflows-shared : {a b : Study} (k : ℕ) → Shared a b (suc k) → outflow
 outflows-shared k h =
     rw (engine-shared k (shared-less h k (omega arith)), h .roads k (le-refl (suc k)), h .rows k (le-refl (suc k)))
 
--- two studies with the same start and rows, one for the rival and one, nowhere worse, for the engine
+-- two studies with the same start and rows: one for the rival, and one, nowhere worse, for the engine
 pub record Rivals (rival engine : Study) (k : ℕ) : Type 0 where
   pub sized : Sized (rival .road) (rival .start)
   pub start : engine .start ≡ rival .start
   pub rows : (j : ℕ) → j < k → engine .rows j ≡ rival .rows j
   pub roads : (j : ℕ) → j < k → Compared (rival .road) (roadAt rival j) (roadAt engine j)
 
--- and so up to fewer steps
+-- the same for fewer steps
 pub rivals-less : {rival engine : Study} {k : ℕ} → Rivals rival engine k → (j : ℕ) → j ≤ k → Rivals rival engine j
 rivals-less h j l = record { sized = h .sized; start = h .start; rows = λ i m. h .rows i (omega arith); roads = λ i m. h .roads i (omega arith) }
 
--- one study for both
+-- the same study for both
 pub rivals-self : (a : Study) → StudyOk a → (k : ℕ) → Rivals a a k
 rivals-self a ok k = record {
   sized = ok .sized;
@@ -201,7 +201,7 @@ run-behind a b ys (suc k) h fits ok =
     (step-behind (a .road) (roadAt a k) (roadAt b k) s (scheduleAfter a ys k) (a .rows k) y (ys k)
     (h .roads k l) (outflows-obey (roadAt b k) s (a .rows k) f) (outflows-greatest (roadAt b k) s (a .rows k) f) (ok k l) before)
 
--- nor with weights: where no place weighs more than the one before it, its weighted total is not smaller
+-- the same with weights: if no place weighs more than the one before it, the schedule's weighted total is not smaller
 pub run-weighted : (a b : Study) (ys : ℕ → List ℕ) (k : ℕ) → Rivals a b k → Fitting b k → Obeying a ys k → RoadOk (a .road)
     → (w u : ℕ → ℕ) → Falling w (a .road .n)
     → weightedTotal w u (a .road .n) (engineAfter b) k ≤ weightedTotal w u (a .road .n) (scheduleAfter a ys) k

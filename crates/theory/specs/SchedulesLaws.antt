@@ -1,4 +1,4 @@
--- Laws of running and judging: where they end, and that the limits hold in every state they reach. Assumes nothing.
+-- Laws of running and judging: their ends, and the limits in every state that they reach. Assumes nothing.
 use mathlib.Core.List.{List}
 use Prim.Native.Nat.{ℕ, _≤_, _<_}
 use mathlib.Core.Path.{_≡_, refl, sym, ap, _∙_}
@@ -18,7 +18,7 @@ use Rattle.theory.specs.StepLaws.{number-of, releases-fit, releases-clas
 use Rattle.theory.specs.VerdictLaws.{verdict-obeys, obeys-verdict, verdict-class}
 use Rattle.model.specs.Judging.{judgeSays, judgeEnd}
 
--- the lent list after a run step by step: the rows before its end
+-- the lent list after a run: the rows before its end are written
 abbrev pub runTable : Study → List ℕ → List ℕ
 runTable a list = tableOf a list (firstStep (runSays a) (a .steps))
 
@@ -49,7 +49,7 @@ module _ (a : Study) (says : ℕ → FaultAnswer) (after : ℕ → State) where
   unfolding endOf
   end-fault l = rw (ne-eqb K (a .steps) (λ e. omega arith)) refl
 
-  -- as a loop over the steps finds it
+  -- the end, as a loop over the steps finds it
   module _ {k : ℕ} {u : State} (h : Faultless (λ j. says j .number) (a .steps) k) (eu : u ≡ after k) where
     pub ends-all : a .steps ≤ k → ended 0 0 0 (a .road) u ≡ endOf a says after
     ends-all l =
@@ -86,7 +86,7 @@ module _ (a : Study) (says : ℕ → FaultAnswer) (after : ℕ → State) where
   pub end-number : endOf a says after .number ≡ 0 → K ≡ a .steps
   end-number = ends (λ (e : EndAnswer). e .number ≡ 0 → K ≡ a .steps) (λ q z. q) (λ l z. absurd (step-there says (a .steps) l z))
 
-  -- and every answer that a step gave is one that began
+  -- if each step's fault comes with a state, so does the answer
   pub end-began : ((k : ℕ) → began (says k .number) ≡ true) → began (endOf a says after .number) ≡ true
   unfolding began oneOf
   end-began h = ends (λ (e : EndAnswer). began (e .number) ≡ true) (λ q. refl) (λ l. h K)
@@ -106,7 +106,7 @@ end-same a says tells after then hs ha =
     (λ q. ap (λ (k : ℕ). ended 0 0 0 (a .road) (after k)) (sym q) ∙ ends-all a tells then h (ha K (le-refl K) (h .within)) (omega (arith, q)))
     (λ l. ends-at a tells then h (ha K (le-refl K) (h .within)) l (hs K (le-refl K) l) (step-there says T l))
 
--- running and judging begin where they go step by step
+-- running and judging that go step by step have begun
 pub run-began : (a : Study) → began (runEnd a .number) ≡ true
 run-began a = end-began a (runSays a) (engineAfter a) (λ k. releases-class (roadAt a k) (engineAfter a k) (a .rows k))
 
@@ -114,7 +114,7 @@ pub judge-began : (a : Study) (zs : List ℕ) → began (judgeEnd a zs .number) 
 judge-began a zs =
     end-began a (judgeSays a zs) (scheduledAt a zs) (λ k. verdict-class (roadAt a k) (scheduledAt a zs k) (a .rows k) (proposedAt a zs k))
 
--- where running has found no fault each release fits, and where judging has found none the schedule obeys
+-- if running has found no fault, each release fits; if judging has found none, the schedule obeys
 pub run-fits : (a : Study) (k : ℕ) → ((j : ℕ) → j < k → runSays a j .number ≡ 0) → Fitting a k
 run-fits a k h j l = releases-fit (roadAt a j) (engineAfter a j) (a .rows j) (h j l)
 
@@ -135,6 +135,6 @@ module _ (a : Study) (ok : StudyOk a) where
     before = λ j m. number-of (obeys-verdict (roadAt a j) (scheduledAt a zs j) (a .rows j) (proposedAt a zs j) (h j m));
   })
 
-  -- and the other way round
+  -- the converse
   pub faults-obeys : (zs : List ℕ) → Obeying a (proposedAt a zs) (firstStep (judgeSays a zs) (a .steps))
   faults-obeys zs = judge-obeys a zs (firstStep (judgeSays a zs) (a .steps)) (step-before (judgeSays a zs) (a .steps))

@@ -1,4 +1,4 @@
--- A record gone on with from a state: where 7 and 8 do not apply its study is within the limits, and how running and judging then end. Assumes nothing.
+-- A record that goes on from a state: if 7 and 8 do not apply, its study is within the limits; and the ends of running and judging. Assumes nothing.
 use mathlib.Core.Path.{_≡_, refl, sym, ap, subst⁻¹, _∙_}
 use mathlib.Core.List.{List}
 use Prim.Native.Nat.{ℕ, _+_, _≤_}
@@ -20,11 +20,11 @@ use Rattle.theory.specs.RulesLaws.{Sized}
 use Rattle.theory.specs.Readable.{Readable, readable}
 use Rattle.theory.specs.Opening.{opening-opens}
 
--- a study from another start
+-- the study with another start
 abbrev pub startedAt : Study → State → Study
 startedAt a s = study (a .road) s (a .steps) (a .rows) (a .lanes)
 
--- the roads of its steps stay
+-- the roads of its steps are the same
 pub same-roads : (a : Study) (s : State) (k : ℕ) → roadAt a k ≡ roadAt (startedAt a s) k
 unfolding roadAt
 same-roads a s k = refl
@@ -40,7 +40,7 @@ begins a = unless-elim (λ (x : ℕ). x ≡ 0 → Begins a) (stateOk (a .road) (
     unless-elim (λ (x : ℕ). x ≡ 0 → Begins a) (leb (a .start .done + a .steps) mostSteps) (λ _ z. absurd (omega arith)) (λ l z.
     record { state = state-facts (a .road) (a .start) s; steps = leb-true _ _ l }))
 
--- so the study is within the limits where it was from the record's own start
+-- so the study is within the limits if it was from the record's own start
 pub readable-from : {bytes : List ℕ} {a : Study} (s : State) → Readable bytes a → Sized (a .road) s → Begins (startedAt a s) → Readable bytes (startedAt a s)
 readable-from {a = a} s h sized b = record {
   ok = record {
@@ -69,12 +69,12 @@ module _ (bytes lanes : List ℕ) (s : State) where
   abbrev a : Study
   a = studyFrom bytes lanes s
 
-  -- as opening refuses it
+  -- starting refuses what opening refuses
   pub starting-unopened : (openingOf bytes lanes .number ≡ 0 → ⊥) → startingOf bytes lanes s ≡ openingOf bytes lanes
   unfolding startingOf
   starting-unopened h = rw (ne-eqb (openingOf bytes lanes .number) 0 h) refl
 
-  -- 7 or 8
+  -- starting reports 7 or 8
   pub starting-refused : openingOf bytes lanes .number ≡ 0 → (stateFault (studyFrom bytes lanes s) ≡ 0 → ⊥)
       → startingOf bytes lanes s ≡ refusedOf (stateFault (studyFrom bytes lanes s)) 0
   unfolding startingOf
@@ -85,7 +85,7 @@ module _ (bytes lanes : List ℕ) (s : State) where
   unfolding startingOf
   starting-starts z h = rw (eq-eqb (openingOf bytes lanes .number) 0 z, eq-eqb (stateFault a) 0 h) refl
 
-  -- what is refused so is refused so by running, judging and history
+  -- running, judging and history have the same refusals
   pub refuses : (e : EndAnswer) → (startingOf bytes lanes s .number ≡ 0 → ⊥)
       → unlessStarted bytes lanes s e ≡ noState (startingOf bytes lanes s .number) (startingOf bytes lanes s .place)
   refuses e n = fault-elim (openingOf bytes lanes .number)
@@ -118,7 +118,7 @@ module _ (bytes lanes : List ℕ) (s : State) where
         let h = readable bytes lanes (readingOf bytes) refl (t .reads) (t .opens) in
         readable-from s h (sized (h .ok .road .cells)) (begins a unfaulted)
 
--- the same of what the code found
+-- the same for the code's answer
 module _ (bytes lanes : List ℕ) (s : State) {x : ReadAnswer} (ex : x ≡ startingOf bytes lanes s) where
   pub found-refuses : (e : EndAnswer) → (x .number ≡ 0 → ⊥) → noState (x .number) (x .place) ≡ unlessStarted bytes lanes s e
   found-refuses e n = rw ex (sym (refuses bytes lanes s e (rw ex at n)))

@@ -1,4 +1,4 @@
--- `step` and `run` agree: a record that is read and stepped row by row with its lanes goes through the run's states, and ends as the run does: after
+-- `step` and `run` agree: a record that is read and stepped row by row with its lanes has the run's states and ends as the run does, after
 -- all T rows, or with the same 9 or 10 at the same step and cell. Assumes nothing.
 use mathlib.Core.Path.{_≡_, refl, sym, ap, _∙_}
 use mathlib.Core.Bool.{Bool, true, false}
@@ -34,13 +34,13 @@ use Rattle.model.specs.Demand.{Taken}
 use Rattle.theory.specs.DemandLaws.{own-state}
 use Rattle.theory.specs.Readable.{Readable, readable}
 
--- the lanes that `step` takes for step k: the table's, up to cell n; with the empty table any that are built, all of them open
+-- the lanes given to `step` in step k: the table's, up to cell n; with the empty table any lanes built, all of them open
 pub record LanesOf (a : Study) (built usable : List ℕ) (k : ℕ) : Type 0 where
   pub tableBuilt : (length (a .lanes) ≡ 0 → ⊥) → SameTo (a .road .n) built (builtIn (a .lanes) (a .road .n))
   pub tableOpen : (length (a .lanes) ≡ 0 → ⊥) → SameTo (a .road .n) usable (openIn (a .lanes) (a .road .n) k)
   pub allOpen : length (a .lanes) ≡ 0 → (i : ℕ) → i < a .road .n → (0 < at built i) × (at usable i ≡ at built i)
 
--- a study stepped row by row: what `step` answers in step k, from the state that it returned in the step before
+-- a study stepped row by row: the answer of `step` in step k, from the state that it returned in the step before
 unfoldable pub steppedAfter : Study → List ℕ → (ℕ → List ℕ) → ℕ → State
 steppedAfter a built usable zero = a .start
 steppedAfter a built usable (suc k) = steppingOf (a .road) (steppedAfter a built usable k) (a .rows k) built (usable k) .state
@@ -59,7 +59,7 @@ pub record Stepped (bytes lanes list built : List ℕ) (usable : ℕ → List �
       → steppedAfter (studyOf bytes lanes) built usable k ≡ scheduledAt (studyOf bytes lanes) (listAfter bytes lanes list) k
   pub ends : steppedEnd (studyOf bytes lanes) built usable ≡ runningOf bytes lanes list
 
--- one step, from a state that the run reaches: on the road of the step
+-- one step, from a state that the run reaches, on the step's road
 module _ (a : Study) (ok : StudyOk a) (t : TableOk (a .lanes) (a .road .n) (a .steps)) {built usable : List ℕ} {k : ℕ} (l : k < a .steps)
     (given : LanesOf a built usable k) where
   step-on : (u : State) → Reached a u k → steppingOf (a .road) u (a .rows k) built usable ≡ stepOn (roadAt a k) u (a .rows k)
@@ -103,7 +103,7 @@ module _ {bytes : List ℕ} {a : Study} (h : Readable bytes a) {built : List ℕ
   left : (k : ℕ) → k ≤ K → k < a .steps → engineAfter a k .done ≡ mostSteps → ⊥
   left k l m e = omega (arith, reached k l .done, h .ok .steps)
 
-  -- where stepping has come to the run's state, it makes the run's next step
+  -- from a state of the run, stepping makes the run's next step
   module _ (k : ℕ) (l : k ≤ K) (m : k < a .steps) (e : steppedAfter a built usable k ≡ engineAfter a k) where
     same-step : steppedIn a built usable k ≡ stepOn (roadAt a k) (engineAfter a k) (a .rows k)
     same-step = rw e (step-on a (h .ok) (h .table) m (given k m) (engineAfter a k) (reached k l))
@@ -132,7 +132,7 @@ module _ {bytes : List ℕ} {a : Study} (h : Readable bytes a) {built : List ℕ
       sym (end-same a (runSays a) says (engineAfter a) (steppedAfter a built usable) (λ k l m. same-fault k l m (stepped-runs k l))
       (λ k l _. sym (stepped-runs k l)))
 
--- of a record and a table that are taken, with a list for all T rows
+-- for a record and a table without a refusal, with a list for all T rows
 module _ (bytes lanes list : List ℕ) (taken : Taken bytes lanes) (long : tableSize (studyOf bytes lanes) ≤ length list) (built : List ℕ)
     (usable : ℕ → List ℕ) (given : (k : ℕ) → k < studyOf bytes lanes .steps → LanesOf (studyOf bytes lanes) built (usable k) k) where
   abbrev a : Study

@@ -21,7 +21,7 @@ use Rattle.model.specs.Move.{nextOf}
 use Rattle.model.specs.Stepping.{lowestOf, releaseFaultAt, releasesOf, answer, stepOn, steppingOf, tableFault}
 use borrow.Author.Tests.{eqb-true, eqb-false, eq-eqb, ne-eqb}
 
--- two cells, a lane built in each, two steps: cell 2 is wrong in step 0 and cell 1 in step 1, and cell 1 is named
+-- two cells, a lane built in each, two steps: cell 2 has a fault in step 0 and cell 1 in step 1, and cell 1 is named
 pub lowest-over-rows : tableFault (1 ∷ 1 ∷ 1 ∷ 2 ∷ 2 ∷ 1 ∷ []) 2 2 ≡ fault 18 1
 unfolding tableFault firstOf firstFrom lanesOk rowAt
 lowest-over-rows = refl
@@ -36,7 +36,7 @@ module _ (f : ℕ → ℕ) (n base : ℕ) where
   unfolding lowestOf
   lowest-none h = rw (eq-eqb (firstFault f n) n (fault-none f n h))
 
-  -- as a loop over the numbers finds it
+  -- the lowest fault, as a loop finds it
   module _ {i : ℕ} (h : Faultless f n i) where
     pub lowest-stop : {m : ℕ} → i < n → m ≡ f i → (m ≡ 0 → ⊥) → fault m (i + base) ≡ lowestOf f n base
     unfolding lowestOf
@@ -54,7 +54,7 @@ module _ (f : ℕ → ℕ) (n base : ℕ) where
       go true e z i l = fault-before f n i (omega (arith, eqb-true (firstFault f n) n e))
       go false e z i l = absurd (fault-there f n (omega (arith, fault-within f n, eqb-false (firstFault f n) n e)) z)
 
-  -- and its number is one of theirs, or 0
+  -- its number is one of the faults', or 0
   pub lowest-one : (P : ℕ → Type 0) → P 0 → ((i : ℕ) → P (f i)) → P (lowestOf f n base .number)
   unfolding lowestOf
   lowest-one P z h = go (eqb (firstFault f n) n)
@@ -64,7 +64,7 @@ module _ (f : ℕ → ℕ) (n base : ℕ) where
       go false = h (firstFault f n)
 
 module _ (r : Road) (s : State) (row : List ℕ) where
-  -- no fault of a release: each release fits
+  -- without a fault of a release each release fits
   pub releases-fit : releasesOf r s row .number ≡ 0 → Released r s row
   releases-fit h = record { queue = λ i l. at-cell i l .0; supply = λ i l. at-cell i l .1 }
     where
@@ -84,12 +84,12 @@ module _ (r : Road) (s : State) (row : List ℕ) where
       two true false = refl
       two false u = refl
 
-  -- each release fits: no fault
+  -- if each release fits, there is no fault
   pub fit-releases : Released r s row → releasesOf r s row ≡ fault 0 0
   fit-releases ok = lowest-none (releaseFaultAt r s row) (r .n) 1
       (λ i l. two-pass (releaseAt row i) (mostReleaseAt s row i) (releaseAt row i) (supplyAt r s i) 9 10 (ok .queue i l) (ok .supply i l))
 
-  -- from 8 on, on the step's road
+  -- the tests from 8 on, on the step's road
   pub on-done : s .done ≡ mostSteps → stepOn r s row ≡ answer (fault 8 0) s
   on-done e = rw (eq-eqb (s .done) mostSteps e)
 
@@ -151,7 +151,7 @@ module _ (table : List ℕ) (n T : ℕ) where
       table-passes h =
           rw (ne-eqb (length table) 0 some, eq-eqb (length table) (tableBytes n T) right, eq-eqb (firstOf (tableAt table n T) n) n h)
 
--- what a table without a fault is
+-- the facts about a table without a fault
 pub record TableOk (table : List ℕ) (n T : ℕ) : Type 0 where
   pub right : (length table ≡ 0 → ⊥) → length table ≡ tableBytes n T
   pub cells : (length table ≡ 0 → ⊥) → allOf (tableAt table n T) n ≡ true

@@ -1,5 +1,5 @@
--- Demand and room of a place, in a study and in the finer one: with F and onward totals off by X at most, what they allow is off by little more.
--- Assumes nothing.
+-- Demand and room of a place, in a study and in the finer study: if F and onward totals differ by at most X, what they allow differs by little
+-- more. Assumes nothing.
 use mathlib.Core.Path.{_≡_, refl, sym, ap, _∙_}
 use mathlib.Core.Logic.{_⊎_, inl, inr, ⊎-elim}
 use mathlib.Core.List.{List}
@@ -21,19 +21,19 @@ use Rattle.theory.specs.FinerRules.{thousandths-most, thousandths-least,
 use Rattle.theory.specs.FinerLaws.{FinerRoad, finer-speed, finer-wave, finer-jam, times-at}
 use Rattle.theory.specs.Coupling.{Coupling}
 
--- as in the papers' rules: at each place the demand decides, or exactly the room enters; where nothing goes on, the demand
+-- as in the papers' rules: at each place the outflow is the demand, or exactly the room enters; where nothing goes on, it is the demand
 pub record Decided (r : Road) (s : State) (row y : List ℕ) : Type 0 where
   pub exit : (p : ℕ) → p ≤ r .n → shareAt r p ≡ 0 → at y p ≡ demandAt r s p
   pub place : (p : ℕ) → p < r .n → (at y p ≡ demandAt r s p) ⊎ (enteringAt r s y p ≡ roomAt r s row p)
 
--- one part more lets at most one part more in
+-- one more part of outflow lets at most one more part in
 entering-more : (b F y : ℕ) → b ≤ whole → enteringOf b F (suc y) ≤ enteringOf b F y + 1
 entering-more b F y h =
     let e : F + suc y ≡ F + y + 1 = omega arith in
     let same : onwardOf b (F + suc y) ≡ onwardOf b (F + y + 1) = ap (λ (x : ℕ). onwardOf b x) e in
     omega (arith, onward-entering b F (suc y), onward-entering b F y, onward-step b (F + y) 1 h)
 
--- the engine's outflows are such
+-- the engine's outflows have this property
 pub greatest-decided : (r : Road) (s : State) (row y : List ℕ) → ((p : ℕ) → p ≤ r .n → shareAt r p ≤ whole) → Greatest r s row y → Decided r s row y
 greatest-decided r s row y shares g = record {
   exit = λ p l e. ⊎-elim
@@ -54,7 +54,7 @@ greatest-decided r s row y shares g = record {
 }
 
 module _ (K W X : ℕ) (q q′ : Road) (s t : State) (k : 0 < K) (w : 0 < W) (road : RoadOk q) (f : FinerRoad K q q′) (c : Coupling K q s t) where
-  -- what is left in a cell, on both sides
+  -- the space in a cell, in both studies
   space : (i : ℕ) → i < q .n
       → K * at (q .jam) i - at (t .held) i + onwardAt q t i + K * cumulativeAt s (suc i)
       ≡ K * (at (q .jam) i - at (s .held) i) + K * onwardAt q s i + cumulativeAt t (suc i)
@@ -62,7 +62,7 @@ module _ (K W X : ℕ) (q q′ : Road) (s t : State) (k : 0 < K) (w : 0 < W) (ro
       let e : at (q .jam) i - at (s .held) i + at (s .held) i ≡ at (q .jam) i = omega (arith, c .heldS i l) in
       omega (arith, ap (λ (x : ℕ). K * x) e, c .cells i l, c .heldT i l)
 
-  -- no more
+  -- the finer study's is not larger by more
   pub demand-most : (p : ℕ) → p ≤ q .n → cumulativeAt t p * W ≤ K * cumulativeAt s p * W + X
       → ((i : ℕ) → suc i ≡ p → onwardAt q t i * W ≤ K * onwardAt q s i * W + X)
       → (cumulativeAt t p + demandAt q′ t p) * W < K * (cumulativeAt s p + demandAt q s p) * W + X + K * W
@@ -89,7 +89,7 @@ module _ (K W X : ℕ) (q q′ : Road) (s t : State) (k : 0 < K) (w : 0 < W) (ro
       (thousandths-most K W (at (q .wave) i) (at (q .jam) i - at (s .held) i) (K * at (q .jam) i - at (t .held) i) (onwardAt q s i) (onwardAt q t i)
       (cumulativeAt s (suc i)) (cumulativeAt t (suc i)) (road .wave i l) k w (space i l) X o h))
 
-  -- no less
+  -- the finer study's is not smaller by more
   pub demand-least : (p : ℕ) → p ≤ q .n → K * cumulativeAt s p * W ≤ cumulativeAt t p * W + X
       → ((i : ℕ) → suc i ≡ p → K * onwardAt q s i * W ≤ onwardAt q t i * W + X)
       → K * (cumulativeAt s p + demandAt q s p) * W < (cumulativeAt t p + demandAt q′ t p) * W + X + W
@@ -116,7 +116,7 @@ module _ (K W X : ℕ) (q q′ : Road) (s t : State) (k : 0 < K) (w : 0 < W) (ro
       (thousandths-least K W (at (q .wave) i) (at (q .jam) i - at (s .held) i) (K * at (q .jam) i - at (t .held) i) (onwardAt q s i) (onwardAt q t i)
       (cumulativeAt s (suc i)) (cumulativeAt t (suc i)) (road .wave i l) k w (space i l) X o h))
 
-  -- less the release, which fits on both sides and is K times as large in the finer
+  -- the room: supply less the release, which fits in both studies and is K times as large in the finer one
   module _ (row : List ℕ) (own : Released q s row) (fine : Released q′ t (timesOf K row)) (i : ℕ) (l : i < q .n) where
     abbrev room : ℕ
     room = roomAt q s row i

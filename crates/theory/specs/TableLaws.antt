@@ -1,4 +1,4 @@
--- Laws of the table that running writes: those of rows in front of a list, of the engine's rows. Assumes nothing.
+-- Laws of the table that running writes: the laws of rows in front of a list, for the engine's rows. Assumes nothing.
 use mathlib.Core.Path.{_≡_, ap, _∙_}
 use mathlib.Core.List.{List, _++_}
 use Prim.Native.Nat.{ℕ, suc, _+_, _-_, _*_, _≤_, _<_}
@@ -13,7 +13,7 @@ use Rattle.theory.specs.RulesLaws.{length-outflows}
 use Rattle.theory.specs.RunsLaws.{StudyOk, Shared, shared-less, outflows-shared}
 use Rattle.model.specs.Running.{tableOf}
 
--- the engine's rows of the first k steps alone
+-- the engine's rows of the first k steps by themselves
 abbrev pub flowsOf : Study → ℕ → List ℕ
 flowsOf a k = concatOf (outflowsAt a) k
 
@@ -24,11 +24,11 @@ module _ (a : Study) (ok : StudyOk a) where
   pub length-flows : (k : ℕ) → length (flowsOf a k) ≡ k * places a
   length-flows k = length-concat (outflowsAt a) (places a) length-row k
 
-  -- row j of the rows alone
+  -- row j of these rows
   pub flows-row : (k j : ℕ) → j < k → proposedAt a (flowsOf a k) j ≡ outflowsAt a j
   flows-row k j l = concat-row (outflowsAt a) (places a) length-row k j l
 
-  -- the length stays
+  -- the list keeps its length
   pub length-table : (list : List ℕ) (k : ℕ) → k ≤ a .steps → tableSize a ≤ length list → length (tableOf a list k) ≡ length list
   length-table list k h l =
       length-front (outflowsAt a) (places a) length-row list k (omega (arith, mul-le-mul-right {m = k} {n = a .steps} (places a) h))
@@ -37,23 +37,23 @@ module _ (a : Study) (ok : StudyOk a) where
   pub table-row : (list : List ℕ) (k j : ℕ) → j < k → proposedAt a (tableOf a list k) j ≡ outflowsAt a j
   table-row list k j l = front-row (outflowsAt a) (places a) length-row list k j l
 
-  -- numbers beyond the written rows are untouched
+  -- numbers beyond the written rows are unchanged
   pub table-past : (list : List ℕ) (k : ℕ) → drop (k * places a) (tableOf a list k) ≡ drop (k * places a) list
   table-past list k = front-past (outflowsAt a) (places a) length-row list k
 
   pub table-front : (list : List ℕ) (k : ℕ) → take (k * places a) (tableOf a list k) ≡ flowsOf a k
   table-front list k = front-rows (outflowsAt a) (places a) length-row list k
 
-  -- one more row, as a loan of the part of the list leaves it
+  -- one more row, as the code's write to a part of the list leaves it
   pub table-more : (list : List ℕ) (k : ℕ) (out part : List ℕ) (to : ℕ) → out ≡ tableOf a list k → part ≡ outflowsAt a k → to ≡ k * places a
       → take to out ++ (part ++ drop (to + places a - to) (drop to out)) ≡ tableOf a list (k + 1)
   table-more list k = front-more (outflowsAt a) (places a) length-row list k
 
--- no row written: the list as lent
+-- without a written row the list is unchanged
 pub table-none : (a : Study) (list : List ℕ) → tableOf a list 0 ≡ list
 table-none a list = front-none (outflowsAt a) (places a) list
 
--- the rows written depend on the steps written alone
+-- the rows written depend only on the steps written
 module _ {a b : Study} (cells : a .road .n ≡ b .road .n) where
   pub table-shared : (list : List ℕ) (k : ℕ) → Shared a b k → tableOf a list k ≡ tableOf b list k
   table-shared list k h =

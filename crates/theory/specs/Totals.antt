@@ -1,4 +1,4 @@
--- Any shares but 0 before the last: present and the total of a study and of the finer one, by the product of all shares. Assumes nothing.
+-- No share 0 before the last: present and the total of a study and of the finer study, by the product of all shares. Assumes nothing.
 use mathlib.Core.Path.{_≡_, ap, subst⁻¹}
 use mathlib.Core.List.{List}
 use Prim.Native.Nat.{ℕ, zero, suc, _+_, _-_, _*_, _≤_, _<_}
@@ -30,7 +30,7 @@ use Rattle.theory.specs.Present.{queues-finer, own-total, fine-total, ow
 abbrev pub SomeOn : Road → Type 0
 SomeOn r = (p : ℕ) → p < r .n → shareAt r p ≡ 0 → ⊥
 
--- what has left by an off-ramp, F less its onward total, is off by little more than F; W is the product of shares and D their thousands
+-- what has left by an off-ramp, F less its onward total, differs by little more than F; W is the product of the shares and D their thousands
 module _ (K b W D Z F F′ : ℕ) (share : b ≤ whole) (some : W ≤ D) where
   abbrev c : ℕ
   c = whole - b
@@ -68,7 +68,7 @@ module _ (K b W D Z F F′ : ℕ) (share : b ≤ whole) (some : W ≤ D) where
       ))
       (omega arith)
 
--- one cell more: A and A′ hold what is before it, h and h′ what is in it, B and B′ both, G and G′ its F
+-- one more cell: A and A′ are what the places before it hold, h and h′ what it holds, B and B′ both together, G and G′ its F
 module _ (K W A A′ B B′ F F′ Y Y′ h h′ G G′ j v : ℕ) (a : B ≡ A + h) (a′ : B′ ≡ A′ + h′) (cell : h′ + G′ + K * Y ≡ K * h + K * G + Y′) where
   prefix-more-least : K * (A + F) * W ≤ (A′ + F′) * W + j * v → (F′ + K * Y) * W ≤ (K * F + Y′) * W + v
       → K * (B + G) * W ≤ (B′ + G′) * W + suc j * v
@@ -86,7 +86,7 @@ module _ (K W D n Z v A A′ F F′ Q Q′ : ℕ) (ramps : Q′ ≡ K * Q) (more
   all-most : (A′ + F′) * W ≤ K * (A + F) * W + n * (v * D) → K * F * W ≤ F′ * W + Z * D → (A′ + Q′) * W ≤ K * (A + Q) * W + suc n * (v * D)
   all-most x y = omega (arith, ap (λ (z : ℕ). z * W) ramps, mul-le-mul-right D more)
 
--- a step more of the totals A of the finer study and B of the study, with P and Q present
+-- one more step of the totals A of the finer study and B of the study, with P and Q present
 module _ (K W D n A A′ B B′ P Q u v w : ℕ) (a : A′ ≡ A + P) (b : B′ ≡ B + Q) (sum : u + v ≡ w) where
   total-more-least : K * B * W ≤ A * W + n * (u * D) → K * Q * W ≤ P * W + n * (v * D) → K * B′ * W ≤ A′ * W + n * (w * D)
   total-more-least h l =
@@ -98,7 +98,7 @@ module _ (K W D n A A′ B B′ P Q u v w : ℕ) (a : A′ ≡ A + P) (b : B′ 
   total-more-most h l =
       omega (arith, ap (λ (z : ℕ). z * W) a, ap (λ (z : ℕ). K * z * W) b, ap (λ (z : ℕ). n * (z * D)) sum)
 
--- the gate's queue q is short by what its F is beyond, and the other way round
+-- the gate's queue q is smaller by as much as its F is larger, and the converse
 module _ (K W D Z q q′ F F′ : ℕ) (gate : q′ + F′ ≡ K * (q + F)) where
   queue-least : F′ * W ≤ K * F * W + Z * D → K * q * W ≤ q′ * W + 1 * (Z * D)
   queue-least h = omega (arith, ap (λ (z : ℕ). z * W) gate)
@@ -106,7 +106,7 @@ module _ (K W D Z q q′ F F′ : ℕ) (gate : q′ + F′ ≡ K * (q + F)) wher
   queue-most : K * F * W ≤ F′ * W + Z * D → q′ * W ≤ K * q * W + 1 * (Z * D)
   queue-most h = omega (arith, ap (λ (z : ℕ). z * W) gate)
 
--- road time x is what the total leaves of gate time g and ramp time q
+-- road time x is the total less gate time g and ramp time q
 module _ (K W D n k g g′ x x′ q q′ : ℕ) (ramps : q′ ≡ K * q) where
   road-least : K * (g + x + q) * W ≤ (g′ + x′ + q′) * W + suc n * ((k * (k + 1) * K + k) * D)
       → 2 * (g′ * W) ≤ 2 * (K * g * W) + k * (k + 1) * (K + 1) * D
@@ -118,7 +118,7 @@ module _ (K W D n k g g′ x x′ q q′ : ℕ) (ramps : q′ ≡ K * q) where
       → 2 * (x′ * W) ≤ 2 * (K * x * W) + suc n * ((k * (k + 1) * (3 * K + 1) + 2 * k * K) * D)
   road-most h l = omega (arith, ap (λ (z : ℕ). z * W) ramps)
 
--- a bound by the shares from a place on is one by all shares
+-- a bound with the shares from a place on gives one with all shares
 module _ (r : Road) (ok : RoadOk r) (on : SomeOn r) (x y u : ℕ) where
   before : (p : ℕ) → p < r .n → x * reachOf r (suc p) ≤ y * reachOf r (suc p) + u * thousandsOf r (suc p)
       → x * reachOf r p ≤ y * reachOf r p + u * thousandsOf r p
@@ -157,7 +157,7 @@ module _ (K Z : ℕ) (r : Road) (s t : State) (ok : RoadOk r) (on : SomeOn r) (c
   fine-more : (j : ℕ) → j < r .n → t .«gate_queue» + sumOf (take (suc j) (t .held)) ≡ t .«gate_queue» + sumOf (take j (t .held)) + at (t .held) j
   fine-more j l = omega (arith, sum-more j (t .held) (omega (arith, c .sizedT .held)))
 
-  -- with F of the last of them
+  -- the same plus F of the last of them
   gate-all : fine 0 + cumulativeAt t 0 ≡ K * (own 0 + cumulativeAt s 0)
   gate-all = omega (arith, c .gate, sum-start (t .held), ap (λ (z : ℕ). K * z) (sum-start (s .held)))
 
@@ -197,13 +197,13 @@ module _ (K Z : ℕ) (r : Road) (s t : State) (ok : RoadOk r) (on : SomeOn r) (c
         (prefix-most (r .n) (le-refl (r .n)))
         (from-gate r ok on (K * cumulativeAt s (r .n)) (cumulativeAt t (r .n)) Z (r .n) (le-refl (r .n)) (m .outflow (r .n) (le-refl (r .n))))
 
--- after k steps, by the product of all shares: what the n + 1 places of the study hold beyond a finer schedule, and have held
+-- after k steps, by the product of all shares: how far the study's present, total and gate time may exceed those of a finer schedule
 pub record SoonerOn (K k : ℕ) (r : Road) (s t : State) : Type 0 where
   pub present : K * presentOf r s * reachOf r 0 ≤ presentOf r t * reachOf r 0 + suc (r .n) * ((2 * k * K + 1) * thousandsOf r 0)
   pub total : K * totalOf s * reachOf r 0 ≤ totalOf t * reachOf r 0 + suc (r .n) * ((k * (k + 1) * K + k) * thousandsOf r 0)
   pub gateTime : K * s .«gate_time» * reachOf r 0 ≤ t .«gate_time» * reachOf r 0 + k * (k + 1) * K * thousandsOf r 0
 
--- and what a finer schedule in which demand or room decides holds beyond the study
+-- and how far those of a finer schedule in which demand or room decides may exceed the study's
 pub record LaterOn (K k : ℕ) (r : Road) (s t : State) : Type 0 where
   pub present : presentOf r t * reachOf r 0 ≤ K * presentOf r s * reachOf r 0 + suc (r .n) * ((k * (K + 1) + K) * thousandsOf r 0)
   pub total : 2 * (totalOf t * reachOf r 0)
@@ -290,11 +290,11 @@ module _ {K : ℕ} {a : Study} (h : Countable K a) (on : SomeOn (a .road)) (ys z
             );
       }
 
--- of the runs of both
+-- both bounds, for the two runs
 pub record NearTotal (K k : ℕ) (r : Road) (s t : State) : Type 0 where
   pub sooner : SoonerOn K k r s t
   pub later : LaterOn K k r s t
-  -- road time is the rest of the total
+  -- road time is the total less gate and ramp time
   pub roadMost : 2 * (t .«road_time» * reachOf r 0)
       ≤ 2 * (K * s .«road_time» * reachOf r 0) + suc (r .n) * ((k * (k + 1) * (3 * K + 1) + 2 * k * K) * thousandsOf r 0)
   pub roadLeast : 2 * (K * s .«road_time» * reachOf r 0)
@@ -320,7 +320,7 @@ module _ {K : ℕ} {a : Study} (h : Countable K a) (on : SomeOn (a .road)) (k : 
       (sooner-on h on (outflowsAt a) (outflowsAt (scaled K a)) k (engine-obeys a k fits) (engine-obeys (scaled K a) k fine) (engine-decides h k fits))
       (later-on h on (outflowsAt a) (outflowsAt (scaled K a)) k (engine-obeys a k fits) (engine-obeys (scaled K a) k fine) (finer-decides h k fine))))
 
-  -- demand 3 within the bound: no schedule that anyone draws for the finer study has less present, or a smaller total, by more
+  -- demand 3 within the bound: no schedule of the finer study has less present, or a smaller total, by more than this
   pub finer-schedules-total : (zs : List ℕ) → Reaches (scaled K a) zs k → SoonerOn K k (a .road) (engineAfter a k) (scheduledAt (scaled K a) zs k)
   finer-schedules-total zs reaches =
       subst⁻¹ (λ (u : State). SoonerOn K k (a .road) u (scheduledAt (scaled K a) zs k)) (engine-schedule a k)

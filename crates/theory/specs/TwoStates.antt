@@ -1,5 +1,5 @@
--- Two states after the same arrivals and releases, one ahead of the other at every place: what is ahead has no more present.
--- Of the road only its cells and shares matter. Assumes nothing.
+-- Two states after the same arrivals and releases, one ahead of the other at every place: the one ahead has no more present.
+-- Only the road's cells and shares matter. Assumes nothing.
 use mathlib.Core.Path.{_≡_, refl, ap, subst}
 use Prim.Native.Nat.{ℕ, zero, suc, _+_, _-_, _*_, _≤_, _<_}
 use native.Mathlib.Nat.{le-refl, mul-le-mul-left}
@@ -19,7 +19,7 @@ use Rattle.model.specs.Weights.{weightedSum, weightedPresent, weightedTotal, Fa
 use Rattle.theory.specs.WeightsLaws.{ones, weighted-ones}
 use Rattle.theory.specs.Roads.{Alike, onward-alike, sized-alike}
 
--- what has reached each place is all accounted for on both sides, ramp queues are equal, and no F of t is larger
+-- at each place what came in is held or has left, equally in s and t; ramp queues are equal, and no F of t is larger than that of s
 pub record Level (r : Road) (s t : State) : Type 0 where
   pub sizedS : Sized r s
   pub sizedT : Sized r t
@@ -56,18 +56,18 @@ level-alike a b s t e h = record {
   cumulatives = λ p l. h .cumulatives p (omega (arith, e .n));
 }
 
--- a larger weight on the larger number
+-- the larger weight goes with the larger number
 weight-swap : (v w x y : ℕ) → v ≤ w → x ≤ y → w * x + v * y ≤ w * y + v * x
 weight-swap v w x y l k =
     let e : v + (w - v) ≡ w = omega arith in
     subst (λ (m : ℕ). m * x + v * y ≤ m * y + v * x) e (omega (arith, mul-le-mul-left (w - v) k))
 
--- where all is accounted for, what is behind has no less present
+-- if s and t are level, the one behind has no less present
 module _ (r : Road) (s t : State) (road : RoadOk r) (h : Level r s t) where
   pub onward-le : (p : ℕ) → p ≤ r .n → onwardAt r t p ≤ onwardAt r s p
   onward-le p l = onward-mono (shareAt r p) (cumulativeAt s p) (cumulativeAt t p) (h .cumulatives p l)
 
-  -- F of s ahead of F of t by k lets at most k more go on
+  -- if F of s is k ahead of F of t, at most k more has gone on
   onward-ahead : (p : ℕ) → p ≤ r .n → onwardAt r s p + cumulativeAt t p ≤ onwardAt r t p + cumulativeAt s p
   onward-ahead p l =
       let e : cumulativeAt t p + (cumulativeAt s p - cumulativeAt t p) ≡ cumulativeAt s p = omega (arith, h .cumulatives p l) in
@@ -75,14 +75,14 @@ module _ (r : Road) (s t : State) (road : RoadOk r) (h : Level r s t) where
       rw e at (onward-step (shareAt r p) (cumulativeAt t p) (cumulativeAt s p - cumulativeAt t p) (share-le r road p l)) in
       omega (arith, h .cumulatives p l)
 
-  -- a cell holds more than on the other side only by what has come into it and has not gone on
+  -- a cell holds more than in the other state only by what has entered it and has not gone on
   cell-ahead : (i : ℕ) → i < r .n
       → at (s .held) i + onwardAt r s (suc i) + onwardAt r t i ≤ at (t .held) i + onwardAt r t (suc i) + onwardAt r s i
   cell-ahead i l = omega (arith, h .cells i l, onward-ahead (suc i) l)
 
-  -- with weights of which none is above the one before it
+  -- with weights that fall from place to place
   module _ (w u : ℕ → ℕ) (falling : Falling w (r .n)) where
-    -- the gate and the first k cells, with what has gone on from them at the weight of the last
+    -- the gate and the first k cells, plus what has gone on from them, with the weight of the last
     prefix : (k : ℕ) → k ≤ r .n
         → w 0 * s .«gate_queue» + weightedSum (λ i. w (suc i)) (at (s .held)) k + w k * onwardAt r s k
         ≤ w 0 * t .«gate_queue» + weightedSum (λ i. w (suc i)) (at (t .held)) k + w k * onwardAt r t k
@@ -104,7 +104,7 @@ module _ (r : Road) (s t : State) (road : RoadOk r) (h : Level r s t) where
           sum-list-more (λ i. w (suc i) * at (t .held) i) k,
         )
 
-    -- ramp queues are equal, so their weights may be any
+    -- ramp queues are equal, so their weights don't matter
     same-ramps : weightedSum u (at (s .queue)) (r .n) ≡ weightedSum u (at (t .queue)) (r .n)
     same-ramps = sum-list-same (λ i. u i * at (s .queue) i) (λ i. u i * at (t .queue) i) (r .n) (λ i l. ap (λ (x : ℕ). u i * x) (h .queues i l))
 
@@ -114,7 +114,7 @@ module _ (r : Road) (s t : State) (road : RoadOk r) (h : Level r s t) where
         let e : (x : State) → w (r .n) * onwardAt r x (r .n) ≡ 0 = λ x. rw (onward-last r road x) (omega arith) in
         omega (arith, prefix (r .n) (le-refl (r .n)), same-ramps, e s, e t)
 
-  -- the first k ramp queues together are equal
+  -- the sums of the first k ramp queues are equal
   same-queues : (k : ℕ) → k ≤ r .n → sumOf (take k (s .queue)) ≡ sumOf (take k (t .queue))
   same-queues zero l = omega (arith, sum-start (s .queue), sum-start (t .queue))
   same-queues (suc k) l =
@@ -129,7 +129,7 @@ module _ (r : Road) (s t : State) (road : RoadOk r) (h : Level r s t) where
   pub queue-same : queueSum r s ≡ queueSum r t
   queue-same = same-queues (r .n) (le-refl (r .n))
 
--- present is the case of all weights 1
+-- present is the case with all weights 1
 pub present-le : (r : Road) (s t : State) → RoadOk r → Level r s t → presentOf r s ≤ presentOf r t
 present-le r s t road h =
     omega (
@@ -139,7 +139,7 @@ present-le r s t road h =
       weighted-ones r t (h .sizedT),
     )
 
--- over the steps of two runs that are level after each
+-- the same for the totals of two runs that are level after each step
 pub weighted-total-le : (w u : ℕ → ℕ) (r : Road) (f g : ℕ → State) (k : ℕ) → RoadOk r → Falling w (r .n)
     → ((j : ℕ) → j < k → Level r (f (suc j)) (g (suc j))) → weightedTotal w u (r .n) f k ≤ weightedTotal w u (r .n) g k
 unfolding weightedTotal

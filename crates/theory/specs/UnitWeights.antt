@@ -1,4 +1,4 @@
--- What a weighted total is where all weights are 1: the total; where the gate's alone is: gate time; the cells': road time; the ramps': ramp time.
+-- Weighted totals with weight 1: everywhere, the total; only at the gate, gate time; only at the cells, road time; only at the ramps, ramp time.
 -- Assumes nothing.
 use mathlib.Core.Path.{_≡_, refl, sym, _∙_}
 use mathlib.Core.List.{List}
@@ -18,7 +18,7 @@ use Rattle.theory.specs.Readable.{readable}
 use Rattle.model.specs.Demand.{Reaches, Taken}
 use Rattle.theory.specs.Accounts.{accounts}
 
--- of every schedule, after every step that it reaches; of the run too, whose rows are one
+-- for every schedule, after every step that it reaches; the rows of the run are such a schedule
 module _ (bytes lanes zs : List ℕ) (taken : Taken bytes lanes) (k : ℕ) (reach : Reaches (studyOf bytes lanes) zs k) where
   abbrev a : Study
   a = studyOf bytes lanes

@@ -1,4 +1,4 @@
--- Laws of judging one row: no fault exactly where the row obeys the rules. Assumes nothing.
+-- Laws of judging one row: there is no fault exactly if the row obeys the rules. Assumes nothing.
 use mathlib.Core.Path.{_≡_, refl, sym, ap, _∙_}
 use mathlib.Core.Bool.{Bool, true, false, cond}
 use mathlib.Core.Logic.{_⊎_, ⊎-elim}
@@ -20,7 +20,7 @@ use Rattle.model.specs.Judging.{outflowFault, lastFault, outflowFaultAt, outflo
 use Rattle.theory.specs.StepLaws.{number-of, lowest-none, lowest-zero, lowest-one, releases-fit, releases-class, fit-releases}
 
 module _ (r : Road) (s : State) (row y : List ℕ) where
-  -- the verdict is the releases' fault, or else the outflows'
+  -- the verdict is the fault of the releases, or else that of the outflows
   pub verdict-releases : (releasesOf r s row .number ≡ 0 → ⊥) → verdictOf r s row y ≡ releasesOf r s row
   unfolding verdictOf
   verdict-releases h = ap (λ (b : Bool). unless b (releasesOf r s row) (outflowsFaultOf r s row y)) (ne-eqb (releasesOf r s row .number) 0 h)
@@ -50,7 +50,7 @@ module _ (r : Road) (s : State) (row y : List ℕ) where
   unfolding outflowFaultAt
   fault-last = rw (le-ltb (r .n) (r .n) (omega arith))
 
-  -- no fault: the row obeys the rules
+  -- without a fault the row obeys the rules
   pub verdict-obeys : verdictOf r s row y .number ≡ 0 → Obeys r s row y
   verdict-obeys h = record {
     released = releases-fit r s row (parts h .0);
@@ -69,7 +69,7 @@ module _ (r : Road) (s : State) (row y : List ℕ) where
       last : at y (r .n) ≤ demandAt r s (r .n)
       last = one-zero (at y (r .n)) (demandAt r s (r .n)) 13 (λ z. omega arith) (sym fault-last ∙ none (r .n) (omega arith))
 
-  -- the last place has no fault but 13
+  -- the last place can only have fault 13
   pub last-passes : at y (r .n) ≤ demandAt r s (r .n) → outflowFaultAt r s row y (r .n) ≡ 0
   last-passes h = fault-last ∙ one-pass (at y (r .n)) (demandAt r s (r .n)) 13 h
 

@@ -1,4 +1,4 @@
--- Theorem: no step, run or schedule looks at its road's version or seconds. Assumes nothing.
+-- Theorem: no step, run or schedule depends on its road's version or seconds. Assumes nothing.
 use mathlib.Core.Path.{_≡_, refl, ap, _∙_}
 use mathlib.Core.Bool.{Bool, true, false, cond}
 use mathlib.Core.List.{List}
@@ -37,7 +37,7 @@ stamped version seconds r = record {
   capacity = r .capacity;
 }
 
--- b is the study a but for the version and the seconds of its road
+-- b is the study a, except for the version and the seconds of its road
 pub record Restamped (a b : Study) : Type 0 where
   pub road : b .road ≡ stamped (b .road .version) (b .road .seconds) (a .road)
   pub start : b .start ≡ a .start
@@ -45,7 +45,7 @@ pub record Restamped (a b : Study) : Type 0 where
   pub rows : (k : ℕ) → k < a .steps → b .rows k ≡ a .rows k
   pub lanes : b .lanes ≡ a .lanes
 
--- faults that agree at each of n places have the same lowest
+-- faults that agree at each of n places have the same lowest fault
 lowest-same : (f g : ℕ → ℕ) (n base : ℕ) → ((i : ℕ) → i < n → f i ≡ g i) → lowestOf f n base ≡ lowestOf g n base
 unfolding lowestOf
 lowest-same f g n base h = rw (fault-same f g n h) (go (eqb (firstFault g n) n) refl)
@@ -97,7 +97,7 @@ module _ (version seconds : ℕ) (r : Road) where
   unfolding exitsOf
   exits-stamped s = refl
 
-  -- what judging says of a row
+  -- judging's fault of a row
   fault-stamped : (s : State) (row y : List ℕ) (p : ℕ) → outflowFaultAt (stamped version seconds r) s row y p ≡ outflowFaultAt r s row y p
   unfolding outflowFaultAt capacityAt
   fault-stamped s row y p = rw (share-stamped p, demand-stamped s p)
@@ -107,7 +107,7 @@ module _ (version seconds : ℕ) (r : Road) where
   verdict-stamped s row y =
       rw (lowest-same (outflowFaultAt (stamped version seconds r) s row y) (outflowFaultAt r s row y) (r .n + 1) 0 (λ p l. fault-stamped s row y p))
 
-  -- and 7
+  -- the test of 7
   place-stamped : (s : State) (p : ℕ) → placeOk (stamped version seconds r) s p ≡ placeOk r s p
   unfolding placeOk
   place-stamped s zero = refl
@@ -131,7 +131,7 @@ stepping-stamped version seconds r s row built usable =
       next-stamped version seconds q s row (outflowsOf q s row),
     )
 
--- the road of step k by a road and a table of lanes
+-- the road of step k, from a road and a table of lanes
 abbrev roadWith : Road → List ℕ → ℕ → Road
 roadWith r lanes k = cond (eqb (length lanes) 0) r (openRoad r (builtIn lanes (r .n)) (openIn lanes (r .n) k))
 
@@ -204,7 +204,7 @@ module _ {a b : Study} (h : Restamped a b) where
       ∙ ap (λ (r : Road). exitsOf r (engineAfter a k)) (h .road)
       ∙ exits-stamped version seconds (a .road) (engineAfter a k)
 
-  -- of any schedule: the same states, and the same verdict on each of its rows
+  -- for any schedule: the same states, and the same verdict on each of its rows
   pub same-schedule : (ys : ℕ → List ℕ) (k : ℕ) → k ≤ a .steps → scheduleAfter b ys k ≡ scheduleAfter a ys k
   unfolding scheduleAfter
   same-schedule ys zero l = h .start

@@ -1,4 +1,4 @@
--- Theorem: records that differ in the version and the seconds alone are run and judged alike. Assumes nothing.
+-- Theorem: records that differ only in the version and the seconds are run and judged alike. Assumes nothing.
 use mathlib.Core.Path.{_≡_, refl, sym, ap, _∙_}
 use mathlib.Core.Bool.{Bool, true, false}
 use mathlib.Core.Logic.{⊎-elim}
@@ -25,7 +25,7 @@ use Rattle.model.specs.Running.{runSays, firstStep, EndAnswer, endOf, runEnd, t
 use Rattle.theory.specs.SchedulesLaws.{runTable, step-within, end-all, end-fault}
 use Rattle.theory.specs.RunEnds.{runs-short, runs-long, writes-short, writes-long, judges-length, judges-ends}
 
--- answers that differ in their roads alone: the same refusal, step and place, and the same state, with its times and cumulative outflows
+-- answers that differ only in their roads: the same refusal, step and place, and the same state, with its times and cumulative outflows
 pub record EndsAlike (d e : EndAnswer) : Type 0 where
   pub number : e .number ≡ d .number
   pub step : e .step ≡ d .step
@@ -35,7 +35,7 @@ pub record EndsAlike (d e : EndAnswer) : Type 0 where
 alike-self : (d : EndAnswer) → EndsAlike d d
 alike-self d = record { number = refl; step = refl; place = refl; state = refl }
 
--- two ends over the steps of studies that differ so, with the same faults and the same states
+-- two studies that differ only in this way, with the same faults and the same states
 module _ {a b : Study} (h : Restamped a b) (f g : ℕ → FaultAnswer) (x y : ℕ → State)
     (says : (k : ℕ) → k < a .steps → g k ≡ f k) (states : (k : ℕ) → k ≤ a .steps → y k ≡ x k) where
   abbrev T : ℕ
@@ -44,11 +44,11 @@ module _ {a b : Study} (h : Restamped a b) (f g : ℕ → FaultAnswer) (x y : �
   abbrev K : ℕ
   K = firstStep f (a .steps)
 
-  -- have the same first fault
+  -- they have the same first fault
   pub same-first : firstStep g (b .steps) ≡ firstStep f (a .steps)
   same-first = ap (firstStep g) (h .steps) ∙ fault-same (λ k. g k .number) (λ k. f k .number) T (λ k l. number-of (says k l))
 
-  -- and end alike
+  -- they end alike
   pub same-end : EndsAlike (endOf a f x) (endOf b g y)
   same-end = go (eqb K T) refl
     where
@@ -97,7 +97,7 @@ module _ {a b : Study} (h : Restamped a b) where
       ∙ front-same (outflowsAt b) (outflowsAt a) (places b) list k (λ i m. same-outflows h i (omega arith))
       ∙ ap (λ (p : ℕ). frontOf (outflowsAt a) p list k) same-places
 
--- of two records that are taken with one table of lanes: running and judging answer alike, and running leaves the same list
+-- for two records without a refusal under one table of lanes: running and judging answer alike, and running leaves the same list
 module _ (s t lanes : List ℕ) (first : Taken s lanes) (other : Taken t lanes) (h : Restamped (studyOf s lanes) (studyOf t lanes)) (list : List ℕ) where
   pub runs-alike : EndsAlike (runningOf s lanes list) (runningOf t lanes list)
   runs-alike =

@@ -1,4 +1,4 @@
--- Laws of weights: what they give where all weigh 1, or one kind of place alone, and how a weighted total grows. Assumes nothing.
+-- Laws of weights: the totals with weight 1 everywhere or only at one kind of place, and how a weighted total grows. Assumes nothing.
 use mathlib.Core.Path.{_≡_, ap}
 use Prim.Native.Nat.{ℕ, zero, suc, _+_, _*_, min, _≤_, _<_}
 use native.Mathlib.Omega.{arith}
@@ -10,7 +10,7 @@ use Rattle.model.specs.Move.{heldSum, queueSum, presentOf}
 use Rattle.theory.specs.RulesLaws.{Sized}
 use Rattle.model.specs.Weights.{weightedSum, weightedPresent, weightedTotal}
 
--- weight 1 everywhere and nowhere; of places at the gate alone, and at the cells alone
+-- weight 1 everywhere, and nowhere; weight 1 only at the gate, and only at the cells
 abbrev pub ones : ℕ → ℕ
 ones p = 1
 
@@ -43,7 +43,7 @@ module _ (r : Road) (s : State) (z : Sized r s) where
   unfolding weightedPresent
   weighted-ones = omega (arith, weighs-held, weighs-queues)
 
-  -- the gate alone gives the gate queue, the cells alone all held counts, the ramps alone all ramp queues
+  -- weight 1 only at the gate gives the gate queue, only at the cells all held counts, only at the ramps all ramp queues
   pub weighted-gate : weightedPresent gateAlone none (r .n) s ≡ s .«gate_queue»
   unfolding weightedPresent gateAlone
   weighted-gate =
@@ -60,7 +60,7 @@ module _ (r : Road) (s : State) (z : Sized r s) where
   unfolding weightedPresent
   weighted-ramps = omega (arith, weighs-none (at (s .held)) (r .n), weighs-queues)
 
--- of the states only those after the k steps matter; one step more adds the weighted present after it
+-- only the states after the k steps matter; one more step adds the weighted present after it
 module _ (w u : ℕ → ℕ) (n : ℕ) where
   pub weighted-total-same : (f g : ℕ → State) (k : ℕ) → ((j : ℕ) → j < k → f (suc j) ≡ g (suc j)) → weightedTotal w u n f k ≡ weightedTotal w u n g k
   unfolding weightedTotal
@@ -75,7 +75,7 @@ module _ (w u : ℕ → ℕ) (n : ℕ) where
   unfolding weightedTotal
   weighted-total-more f k = sum-list-more (λ j. weightedPresent w u n (f (suc j))) k
 
--- weights past cell n are not looked at
+-- weights past cell n are not read
 module _ (w v u x : ℕ → ℕ) (n : ℕ) (places : (p : ℕ) → p ≤ n → w p ≡ v p) (ramps : (i : ℕ) → i < n → u i ≡ x i) where
   pub weights-unread : (s : State) → weightedPresent w u n s ≡ weightedPresent v x n s
   unfolding weightedPresent

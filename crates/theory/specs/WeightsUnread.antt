@@ -1,4 +1,4 @@
--- Weights past cell n are not read: two lists of weights that agree up to it give the same weighted totals, of a run and of every schedule.
+-- Weights past cell n are not read: weights that agree up to cell n give the same weighted totals of a run and of every schedule.
 -- Assumes nothing.
 use mathlib.Core.Path.{_≡_}
 use mathlib.Core.List.{List}

@@ -1,4 +1,4 @@
--- Interior shares 1,000, all that leaves a cell entering the next one: one step of a study and of the finer one. Assumes nothing.
+-- Shares 1,000 before the last, so that all that leaves a cell enters the next one: one step of a study and of the finer study. Assumes nothing.
 use mathlib.Core.Path.{_≡_, sym, ap, _∙_}
 use mathlib.Core.Logic.{⊎-elim}
 use mathlib.Core.List.{List}
@@ -49,7 +49,7 @@ module _ (K U : ℕ) (q q′ : Road) (s t : State) (row y z : List ℕ) (k : 0 <
   fine-next : (p : ℕ) → p ≤ q .n → cumulativeAt T′ p ≡ cumulativeAt t p + at z p
   fine-next p l = next-cumulative q′ t (timesOf K row) z (sized-finer K q q′ s t row y z road f own fine c) p (omega (arith, f .n))
 
-  -- all of it is let in
+  -- all of it enters the next cell
   own-in : (p : ℕ) → p < q .n → cumulativeAt S′ p ≡ onwardAt q s p + enteringAt q s y p
   own-in p l = omega (arith, onward-all q on S′ p l, next-onward q s row y (c .sizedS) p (omega arith))
 

@@ -1,5 +1,5 @@
--- Worked numbers of the finer study, by evaluation: the road of the printed run counted ten times finer, the shares from each of its places on, and a
--- corridor on which rounding each step's share by itself breaks the bound. Assumes nothing.
+-- The finer study worked out in numbers: the printed run's road counted ten times finer, the shares from each of its places on, and a
+-- corridor on which the bound fails if each step's share is rounded by itself. Assumes nothing.
 use mathlib.Core.Path.{_≡_, refl}
 use mathlib.Core.Bool.{true, false}
 use mathlib.Core.List.{[], _∷_}
@@ -46,7 +46,7 @@ abbrev printed : Study
 printed = study road start 3 (λ k. 1000 ∷ 0 ∷ 0 ∷ 500 ∷ 300 ∷ []) []
 
 pub record Worked : Type 0 where
-  -- counts are ten times as large; speeds, waves and shares stay
+  -- counts are ten times as large; speeds, waves and shares do not change
   jam : scaled 10 printed .road .jam ≡ 80000 ∷ 80000 ∷ []
   capacity : scaled 10 printed .road .capacity ≡ 20000 ∷ 10000 ∷ []
   gate : scaled 10 printed .road .«gate_capacity» ≡ 20000
@@ -57,7 +57,7 @@ pub record Worked : Type 0 where
   gateQueue : scaled 10 printed .start .«gate_queue» ≡ 30000
   row : scaled 10 printed .rows 0 ≡ 10000 ∷ 0 ∷ 0 ∷ 5000 ∷ 3000 ∷ []
   steps : scaled 10 printed .steps ≡ 3
-  -- of what passes the gate, 1,000 × 750 millionths reach the end; of what leaves cell 1, 750 thousandths; of what leaves cell 2, all
+  -- of the gate's outflow 1,000 × 750 millionths reach the end, of cell 1's 750 thousandths, and of cell 2's all
   fromGate : reachOf road 0 ≡ 750000
   fromGateThousands : thousandsOf road 0 ≡ 1000000
   fromFirst : reachOf road 1 ≡ 750
@@ -86,19 +86,19 @@ worked = record {
   fromLastThousands = refl;
 }
 
--- a free corridor, speeds 1,000 and shares 999, whose gate sends 4 parts a step: what has left cell i + 1 after i + 1 steps and n more. All that a
--- cell holds leaves it in the next step, so that it is the onward total of the cell before, one step earlier
+-- a corridor in free flow, with speeds 1,000, shares 999 and 4 parts per step at its gate: F of cell i + 1 after i + 1 steps and n more. All that
+-- a cell holds leaves it in the next step, so this F is the onward total of the cell before, one step earlier
 unfoldable pub corridor : ℕ → ℕ → ℕ → ℕ
 corridor K n zero = 4 * K * n
 corridor K n (suc i) = onwardOf 999 (corridor K n i)
 
--- cell 6 after 13 steps, counted 1,000 times finer, is within 2 × 13 parts of the whole numbers; with each step's share rounded by itself nothing of
--- the 4 parts a step would reach it
+-- cell 6 after 13 steps, counted 1,000 times finer, is within 2 × 13 parts of the study's number. If each step's share were rounded by itself,
+-- nothing of the 4 parts per step would reach it
 pub corridor-within : leb (corridor 1000 7 5) (1000 * corridor 1 7 5 + 2 * 13 * 1000) ≡ true
 unfolding corridor onwardOf thousandthsOf
 corridor-within = refl
 
--- it is off by more than 2 parts, so that the bound must grow with the steps
+-- they differ by more than 2 parts, so the bound must grow with the steps
 pub corridor-beyond : leb (corridor 1000 7 5) (1000 * corridor 1 7 5 + 2 * 1000) ≡ false
 unfolding corridor onwardOf thousandthsOf
 corridor-beyond = refl
@@ -137,7 +137,7 @@ unfolding corridor thousandthsOf demandOf gateDemandOf supplyOf roomOf onwardOf 
     capacityAt demandAt shareAt cumulativeAt movedTo countedOf outflowsOf roadAt engineAfter
 corridor-runs = (refl, (refl, refl))
 
--- step 0 of the printed run: 934 parts leave cell 1 and, counted ten times finer, 9,334, which is 0.6 parts less
+-- step 0 of the printed run: 934 parts leave cell 1; counted ten times finer it is 9,334, which is 0.6 parts less
 pub first-step : (at (engineAfter printed 1 .cumulative) 0 ≡ 934) × (at (engineAfter (scaled 10 printed) 1 .cumulative) 0 ≡ 9334)
 unfolding timesOf thousandthsOf demandOf gateDemandOf supplyOf roomOf onwardOf enteringOf greatestOf outflowOf sumOf fillOf listOf
     capacityAt demandAt shareAt cumulativeAt movedTo countedOf outflowsOf roadAt engineAfter

@@ -1,1 +1,1 @@
-// What holds of the model, of a step, of whole tables and of demand 3: theorems, nothing to run.
+// Theorems about the model, about a step, about whole tables and about demand 3: nothing to run.
