@@ -1,4 +1,4 @@
--- Laws of arrivals put into a record: only their own bytes change, and it doesn't matter which arrivals were there before. Assumes nothing.
+-- Laws of arrivals put into a record: only their own bytes change, and the arrivals that were there before don't matter. Assumes nothing.
 use mathlib.Core.Path.{_≡_, refl, sym, ap, _∙_}
 use mathlib.Core.Logic.{⊎-elim, inl, inr}
 use mathlib.Core.List.{List}
@@ -18,7 +18,7 @@ use Rattle.model.specs.Filling.{Outside}
 use Rattle.put.specs.Bytes.{compare, apart-outside, placed-other, placed-at, byte-other, number-apart}
 use Rattle.model.specs.Many.{arrivalNumber, putArrivals, putArrivalRows}
 
--- where the arrivals of place p stand in the row of step t
+-- where the arrivals of place p are in the row of step t
 abbrev pub arrivalStart : ℕ → ℕ → ℕ → ℕ → ℕ
 arrivalStart version n t p = entryStart version n t (arrivalNumber p)
 
@@ -29,7 +29,7 @@ OutsideRow version n t c b = (p : ℕ) → p < c → Outside b (arrivalStart ver
 abbrev pub OutsideRows : ℕ → ℕ → ℕ → ℕ → Type 0
 OutsideRows version n k b = (t p : ℕ) → t < k → p < n + 1 → Outside b (arrivalStart version n t p) numberSize
 
--- one number put: its place, and what stays
+-- one number put: where it is, and what does not change
 module _ (s : List ℕ) (n t p x : ℕ) (l : p < n + 1) (held : HoldsRow s n t) where
   room : arrivalStart (versionOf s) n t p + numberSize ≤ length s
   room = omega (arith, held .row)
@@ -84,7 +84,7 @@ rows-put s n f (suc k) h =
     let held = holds-on (q .size) (q .version) (h k (le-refl (suc k))) in
     rows-more q (row-put (putArrivalRows s n f k) n k (f k) (n + 1) (le-refl (n + 1)) held)
 
--- the same text placed into two lists of one length, which agree at b where b is outside the text: so do the results
+-- the same text placed into two lists of equal length: the results agree at b if the lists agree there whenever b is outside the text
 one-merged : (s u : List ℕ) (i : ℕ) (text : List ℕ) (b : ℕ) → i + length text ≤ length s → length u ≡ length s
     → (Outside b i (length text) → at u b ≡ at s b) → at (placed u i text) b ≡ at (placed s i text) b
 one-merged s u i text b room size h =
@@ -102,7 +102,7 @@ one-merged s u i text b room size h =
     (λ (l : b < i). other (inl l))
     (order i b)
 
--- so too of the arrivals of a row
+-- the same for the arrivals of a row
 row-merged : (s u : List ℕ) (n t : ℕ) (f : ℕ → ℕ) (c b : ℕ) → length u ≡ length s → versionOf u ≡ versionOf s → c ≤ n + 1 → HoldsRow s n t
     → (OutsideRow (versionOf s) n t c b → at u b ≡ at s b) → at (putArrivals u n t f c) b ≡ at (putArrivals s n t f c) b
 unfolding putArrivals
@@ -125,7 +125,7 @@ row-merged s u n t f (suc c) b size version l h k =
     ∙ one-merged x y start text b wide (q .size ∙ size ∙ sym (p .size)) before
     ∙ ap (λ (v : ℕ). at (placed x (arrivalStart v n t c) text) b) (sym (p .version))
 
--- and of all rows
+-- the same for all rows
 pub rows-merged : (s u : List ℕ) (n : ℕ) (f : ℕ → ℕ → ℕ) (k b : ℕ) → length u ≡ length s → versionOf u ≡ versionOf s
     → ((t : ℕ) → t < k → HoldsRow s n t) → (OutsideRows (versionOf s) n k b → at u b ≡ at s b) → at (putArrivalRows u n f k) b ≡ at (putArrivalRows s n f k) b
 unfolding putArrivalRows
@@ -141,7 +141,7 @@ rows-merged s u n f (suc k) b size version h g =
     (λ (a : t < k). outs t i a m)
     (eq-or-lt-of-le (le-of-suc-le-suc l)))))
 
--- so arrivals that are put over others are put as into the record without them
+-- so putting arrivals over others gives the same record as putting them without the others
 pub arrived-again : (s : List ℕ) (n : ℕ) (f g : ℕ → ℕ → ℕ) (T : ℕ) → ((t : ℕ) → t < T → HoldsRow s n t)
     → putArrivalRows (putArrivalRows s n f T) n g T ≡ putArrivalRows s n g T
 arrived-again s n f g T h =
@@ -151,7 +151,7 @@ arrived-again s n f g T h =
     ext-getD 0 (putArrivalRows u n g T) (putArrivalRows s n g T) (rows-put u n g T held .size ∙ p .size ∙ sym (rows-put s n g T h .size))
     (λ b l. rows-merged s u n g T b (p .size) (p .version) h (p .byte b))
 
--- the releases are as they were
+-- the releases are unchanged
 module _ (version n t i q p : ℕ) (l : i < n) (m : p < n + 1) where
   releases-apart : (k : ℕ) → k < numberSize → Outside (entryStart version n t (releaseNumber i) + k) (arrivalStart version n q p) numberSize
   releases-apart k h = ⊎-elim
@@ -170,11 +170,11 @@ releases-kept {s} {u} {n} p t i l =
     ap (λ (v : ℕ). entryStart v n t (releaseNumber i)) (p .version) in
     rw e (number-same u s _ _ numberSize (λ k m. p .byte _ (λ q j a c. releases-apart (versionOf s) n t i q j l c k m)))
 
--- and so are the bytes before the rows
+-- the bytes before the rows are unchanged
 pub head-kept : {s u : List ℕ} {n T : ℕ} → ArrivedRows s u n T → (b : ℕ) → b < rowStart (versionOf s) n 0 → at u b ≡ at s b
 head-kept {n = n} p b l = p .byte b (λ t i a c. inl (omega arith))
 
--- the arrivals are those put, whatever record they are put into
+-- the arrivals are those put, whatever the record was
 pub arrivals-same : (s u : List ℕ) (n : ℕ) (f : ℕ → ℕ → ℕ) (T : ℕ) → length u ≡ length s → versionOf u ≡ versionOf s
     → ((t : ℕ) → t < T → HoldsRow s n t) → (t p : ℕ) → t < T → p < n + 1
     → entryOf (putArrivalRows u n f T) n t (arrivalNumber p) ≡ entryOf (putArrivalRows s n f T) n t (arrivalNumber p)

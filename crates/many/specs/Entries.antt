@@ -15,24 +15,24 @@ use Rattle.model.specs.Longest.{Queues, queuesOf}
 use Rattle.model.specs.Many.{entrySize, answerEntry}
 use Rattle.many.specs.Studies.{length-entry}
 
--- a list stored number by number over another of its length
+-- a list stored number by number over another of the same length
 fill-whole : (l start : List ℕ) (m : ℕ) → length l ≡ m → length start ≡ m → fillOf (at l) m start ≡ l
 fill-whole l start m h k =
     ext-getD 0 (fillOf (at l) m start) l (length-fill (at l) m start ∙ k ∙ sym h)
     (λ i j. fill-at (at l) m start i (omega (arith, length-fill (at l) m start)) (omega arith))
 
--- the entry of an answer whose ramps are all without a queue, but the first i
+-- an answer's entry with the queues of the first i ramps and 0 for the others
 abbrev firstRamps : EndAnswer → ℕ → ℕ → List ℕ → ℕ → List ℕ
 firstRamps e gate waiting ramps i = answerEntry e (queuesOf gate waiting (fillOf (at ramps) i zeros))
 
--- the numbers before the ramps, as the code stores them
+-- the numbers before those of the ramps, as the code stores them
 pub entry-start : (e : EndAnswer) (gate waiting : ℕ) {number exits : ℕ} → number ≡ e .number → exits ≡ exitsOf (e .road) (e .state)
     → number ∷ e .step ∷ e .place ∷ e .state .«gate_time» ∷ e .state .«road_time» ∷ e .state .«ramp_time» ∷ exits ∷ gate ∷ waiting ∷ zeros
     ≡ answerEntry e (queuesOf gate waiting zeros)
 unfolding answerEntry
 entry-start e gate waiting n x = rw (n, x) refl
 
--- the loop over the ramps: what was an entry without them is one with the first i
+-- the loop over the ramps: an entry without their queues has become one with those of the first i
 pub record RampsPut (ramps start r : List ℕ) (i : ℕ) : Type 0 where
   pub within : i ≤ 64
   pub entry : (e : EndAnswer) (gate waiting : ℕ) → start ≡ answerEntry e (queuesOf gate waiting zeros) → r ≡ firstRamps e gate waiting ramps i
@@ -68,7 +68,7 @@ module _ {ramps start r : List ℕ} {i : ℕ} (h : RampsPut ramps start r i) whe
       ∙ ap (firstRamps e gate waiting ramps) k
       ∙ ap (λ (y : List ℕ). answerEntry e (queuesOf gate waiting y)) (fill-whole ramps zeros 64 m length-zeros)
 
--- the loop over an entry's numbers: the first k are in the part
+-- the loop over an entry's numbers: the first k are in its part of the answers
 pub record EntryPut (entry start part : List ℕ) (k : ℕ) : Type 0 where
   pub within : k ≤ length start
   pub numbers : part ≡ fillOf (at entry) k start

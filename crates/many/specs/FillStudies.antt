@@ -1,4 +1,4 @@
--- Each study as filling finds it: it goes by the record given with the study's arrivals, whatever releases the studies before have left. Assumes nothing.
+-- Each study in filling: the record given with the study's arrivals; the releases that the studies before have left don't matter. Assumes nothing.
 use mathlib.Core.Path.{_≡_, refl, sym, ap, _∙_}
 use mathlib.Core.Logic.{⊎-elim}
 use mathlib.Core.List.{List}
@@ -30,7 +30,7 @@ use Rattle.many.specs.RunStudies.{arrived-is}
 use Rattle.many.specs.KeptRecord.{Kept, kept-none, arrived-kept, kept-reads, kept-alike, filled-kept}
 use Rattle.many.specs.FilledAlike.{fills-alike, queues-alike, lists-alike, room-same, room-queues, room-record}
 
--- a record that the studies before have left, with the arrivals of study k, beside that study
+-- a record that the studies before have left, with the arrivals of study k, compared with that study
 module _ (bytes arrivals : List ℕ) (reads : readingOf bytes .number ≡ 0) {u : List ℕ} (h : Kept bytes u) (k : ℕ) where
   abbrev n : ℕ
   n = readingOf bytes .road .n
@@ -63,7 +63,7 @@ module _ (bytes arrivals : List ℕ) (reads : readingOf bytes .number ≡ 0) {u 
   pub studies-alike : readingOf (withStudyArrivals bytes arrivals k u) ≡ readingOf (studyRecord bytes arrivals k)
   studies-alike = kept-alike bytes reads s v study-kept put-kept gate arrival
 
-  -- the same arrivals, past the last cell too
+  -- the arrivals are the same, past the last cell too
   row-arrivals : (t i : ℕ) → t < readingOf bytes .steps → arrivalsAt (recordRow v n t) i ≡ arrivalsAt (recordRow s n t) i
   row-arrivals t i l = ⊎-elim
       (λ (m : n ≤ i).
@@ -109,7 +109,7 @@ module _ (laws : List Law) {bytes arrivals : List ℕ} {n T count : ℕ} {answer
   abbrev left : ℕ → List ℕ
   left k = recordAfterFillings laws bytes lanes arrivals list k
 
-  -- what k studies leave of the record
+  -- the record that k studies leave
   pub left-kept : (k : ℕ) → Kept bytes (recordAfterFillings laws bytes lanes arrivals list k)
   unfolding recordAfterFillings recordAfter
   left-kept zero = kept-none bytes (asked .reads)

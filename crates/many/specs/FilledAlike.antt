@@ -1,5 +1,5 @@
--- Two records that read alike and have the same arrivals are filled alike, whatever their releases: the same answer, longest queues and list.
--- Assumes nothing.
+-- Two records that read alike and have the same arrivals are filled alike, whatever their releases: answer, longest queues and list are
+-- the same. Assumes nothing.
 use mathlib.Core.Path.{_≡_, refl, sym, ap, _∙_}
 use mathlib.Core.Bool.{cond}
 use mathlib.Core.List.{List}
@@ -27,7 +27,7 @@ use Rattle.model.specs.Longest.{greatestOf, stayedOf, longestOf, filledAfter, l
 use Rattle.model.specs.Filling.{meteredAfter, meteredFrom, filledBytes, fillingOf, recordAfter, filledList}
 use Rattle.filling.specs.FillingAgain.{SameArrivals, metered-same, filled-alike-by, filled-taken-by}
 
--- what filling answers, by what reading gives and the state after all steps
+-- what filling answers, from reading's answer and the state after all steps
 abbrev endBy : List Law → List ℕ → ℕ → ReadAnswer → State → EndAnswer
 endBy laws lanes room x q =
     let f = tableFault lanes (x .road .n) (x .steps) in
@@ -58,7 +58,7 @@ fills-step laws s lanes list =
     unless-elim (λ (e : EndAnswer). e .step ≡ 0) (eqb (f .number) 0) (λ _. refl) (λ _.
     unless-elim (λ (e : EndAnswer). e .step ≡ 0) (leb (x .steps * (x .road .n + 1)) (length list)) (λ _. refl) (λ _. refl))))
 
--- the longest queues go by the states that the steps lead through
+-- the longest queues depend on the states of the steps
 greatest-same : (f g : ℕ → ℕ) (k : ℕ) → ((j : ℕ) → j < k → f j ≡ g j) → greatestOf f k ≡ greatestOf g k
 unfolding greatestOf
 greatest-same f g zero h = refl
@@ -85,7 +85,7 @@ module _ (laws : List Law) (lanes s u : List ℕ) (alike : readingOf u ≡ readi
     opens = ap (λ (x : ReadAnswer). lanesFault (studyBy u lanes (x .road) (x .state) (x .steps)) .number) alike ∙ h .opens;
   }
 
-  -- go through the same states where they are taken
+  -- they have the same states if no refusal applies
   states : Taken s lanes → (k : ℕ) → k ≤ readingOf s .steps → filledAfter laws (studyOf u lanes) k ≡ filledAfter laws (studyOf s lanes) k
   states h k l =
       let ok : StudyOk (studyOf s lanes) = readable s lanes (readingOf s) refl (h .reads) (h .opens) .ok in
@@ -95,7 +95,7 @@ module _ (laws : List Law) (lanes s u : List ℕ) (alike : readingOf u ≡ readi
   last-same h =
       ap (λ (x : ReadAnswer). filledAfter laws (studyOf u lanes) (x .steps)) alike ∙ states h (readingOf s .steps) (le-refl (readingOf s .steps))
 
-  -- so they are answered alike
+  -- so filling answers alike
   pub fills-alike : (list : List ℕ) → fillingOf laws u lanes list ≡ fillingOf laws s lanes list
   fills-alike list =
       let x = readingOf s in
@@ -110,7 +110,7 @@ module _ (laws : List Law) (lanes s u : List ℕ) (alike : readingOf u ≡ readi
       ap (ended 0 0 0 (x .road)) (last-same (record { reads = eqb-true (x .number) 0 r; opens = eqb-true (f .number) 0 o }))))))
       ∙ sym (fills-by laws s lanes list)
 
-  -- with the same longest queues
+  -- the longest queues are the same
   pub queues-alike : (list : List ℕ) → longestFill laws u lanes list ≡ longestFill laws s lanes list
   unfolding longestFill meteredFrom
   queues-alike list =
@@ -133,7 +133,7 @@ module _ (laws : List Law) (lanes s u : List ℕ) (alike : readingOf u ≡ readi
       let all : k ≡ a .steps = rw (eq-eqb (e .number) 0 h) refl in
       states (filled-taken-by laws s lanes list h) j (omega arith)))
 
-  -- and the same list
+  -- the lists are the same
   pub lists-alike : (list : List ℕ) → filledList laws u lanes list ≡ filledList laws s lanes list
   unfolding filledList
   lists-alike list =
@@ -143,7 +143,7 @@ module _ (laws : List Law) (lanes s u : List ℕ) (alike : readingOf u ≡ readi
       (λ h. rw (d, ne-eqb (e .number) 0 h) refl)
       (λ h. let taken = filled-taken-by laws s lanes list h in filled-alike-by laws s u lanes list taken (taken-on taken) (same (taken .reads)) .written)
 
--- filling looks at the length of the list alone
+-- filling depends only on the length of the list
 module _ (laws : List Law) (s lanes list out : List ℕ) (e : length out ≡ length list) where
   pub room-same : fillingOf laws s lanes out ≡ fillingOf laws s lanes list
   room-same = fills-by laws s lanes out ∙ ap (λ (m : ℕ). endBy laws lanes m (readingOf s) (lastOf laws lanes s)) e ∙ sym (fills-by laws s lanes list)

@@ -1,5 +1,5 @@
--- What filling leaves of a record for the study after it: all before the rows, and releases within the limits. With the arrivals of a study
--- it then reads as the record given does with them, a refusal too. Assumes nothing.
+-- The record that filling leaves for the next study: everything before the rows is unchanged, and its releases are within the limits.
+-- With the arrivals of a study it reads as the record given does with them, also if that is a refusal. Assumes nothing.
 use mathlib.Core.Path.{_≡_, refl, sym, ap, _∙_}
 use mathlib.Core.Bool.{Bool, true, _&&_}
 use mathlib.Core.Logic.{inl}
@@ -54,7 +54,7 @@ read-release s reads t i l m =
     ap (λ (x : ℕ). leb x (atRamp mostRate (at (r .ramp) i))) (sym (row-at s (r .n) t (releaseNumber i) (omega arith)))
     ∙ and-true (leb (at row (2 * i + 1)) (atRamp mostRate (at (r .ramp) i))) (leb (at row (2 * i + 2)) (atRamp mostRate (at (r .ramp) i))) one .1
 
--- u has all that is before the rows of the record given, and releases within its limits
+-- u has everything before the rows of the record given, and releases within its limits
 pub record Kept (bytes u : List ℕ) : Type 0 where
   pub size : length u ≡ length bytes
   pub version : versionOf u ≡ versionOf bytes
@@ -82,7 +82,7 @@ module _ (bytes : List ℕ) (reads : readingOf bytes .number ≡ 0) where
   kept-none = record { size = refl; version = refl; head = λ b l. refl; release = read-release bytes reads }
 
   module _ {u : List ℕ} (h : Kept bytes u) where
-    -- the header's n and T, and the ramps' marks, are those of the record given
+    -- n and T in the header, and the ramp marks, are those of the record given
     number : (i w : ℕ) → i + w ≤ 16 → numberOf u i w ≡ numberOf bytes i w
     number i w l = number-same u bytes i i w (λ k m. h .head (i + k) (omega arith))
 
@@ -101,7 +101,7 @@ module _ (bytes : List ℕ) (reads : readingOf bytes .number ≡ 0) where
         ∙ ap (columnOf bytes rampOffset shortSize) (ap (λ (r : Road). r .n) (parts .0))
         ∙ sym (ap (λ (r : Road). r .ramp) (parts .0))
 
-    -- where it reads, with that n and T and these marks
+    -- if it reads, it has this n and T and these marks
     pub kept-reads : readingOf u .number ≡ 0
         → (readingOf u .road .n ≡ readingOf bytes .road .n)
         × ((readingOf u .steps ≡ readingOf bytes .steps) × (readingOf u .road .ramp ≡ readingOf bytes .road .ramp))
@@ -112,7 +112,7 @@ module _ (bytes : List ℕ) (reads : readingOf bytes .number ≡ 0) where
     kept-held : (t : ℕ) → t < readingOf bytes .steps → HoldsRow u (readingOf bytes .road .n) t
     kept-held t l = holds-on (h .size) (h .version) (held t l)
 
-    -- arrivals put into it keep it so
+    -- putting arrivals into it keeps this
     module _ (arrivals : List ℕ) (k : ℕ) where
       abbrev tables : ℕ → ℕ → ℕ
       tables t p = at (rowAt (studyArrivals bytes arrivals k) (n + 1) t) p
@@ -129,7 +129,7 @@ module _ (bytes : List ℕ) (reads : readingOf bytes .number ≡ 0) where
             ap (λ (x : ℕ). leb x (atRamp mostRate (at ramp i))) (releases-kept changed t i m) ∙ h .release t i l m;
       }
 
--- two records that are so, with the same arrivals
+-- two such records with the same arrivals
 module _ (bytes : List ℕ) (reads : readingOf bytes .number ≡ 0) (s u : List ℕ) (hs : Kept bytes s) (hu : Kept bytes u)
     (gate : (t : ℕ) → t < readingOf bytes .steps → entryOf u (readingOf bytes .road .n) t 0 ≡ entryOf s (readingOf bytes .road .n) t 0)
     (arrival : (t i : ℕ) → t < readingOf bytes .steps → i < readingOf bytes .road .n
@@ -140,7 +140,7 @@ module _ (bytes : List ℕ) (reads : readingOf bytes .number ≡ 0) (s u : List 
   abbrev marks : List ℕ
   marks = readingOf bytes .road .ramp
 
-  -- have rows that pass and fail alike
+  -- the same rows of both pass
   rates : (t i : ℕ) → t < readingOf bytes .steps → i < m → ratesAt marks (recordRow u m t) i ≡ ratesAt marks (recordRow s m t) i
   rates t i l j =
       let f : (x : List ℕ) → Kept bytes x → leb (at (recordRow x m t) (2 * i + 2)) (atRamp mostRate (at marks i)) ≡ true =
@@ -163,7 +163,7 @@ module _ (bytes : List ℕ) (reads : readingOf bytes .number ≡ 0) (s u : List 
       ap (λ (c : ℕ). rowOk (roadOf s .ramp) c (recordRow x c t)) (kept-cells bytes reads hs)
       ∙ ap (λ (r : List ℕ). rowOk r m (recordRow x m t)) (kept-ramp bytes reads hs)
 
-  -- and so read alike
+  -- so they read alike
   pub kept-alike : readingOf u ≡ readingOf s
   kept-alike =
       reading-alike s u
@@ -173,7 +173,7 @@ module _ (bytes : List ℕ) (reads : readingOf bytes .number ≡ 0) (s u : List 
       (hu .size ∙ sym (hs .size))
       (λ t l. row-test u t ∙ rows-alike t (omega (arith, kept-steps bytes reads hs)) ∙ sym (row-test s t))
 
--- what filling leaves of such a record is such a record
+-- filling such a record leaves such a record
 pub filled-kept : (bytes : List ℕ) → readingOf bytes .number ≡ 0 → {u after : List ℕ} → Kept bytes u → readingOf u .number ≡ 0 → OnlyReleases u after
     → Kept bytes after
 filled-kept bytes reads {u} {after} h z o =

@@ -28,7 +28,7 @@ pub record PlacesPut (bytes : List ℕ) (version n t : ℕ) (row after : List �
   pub put : after ≡ putArrivals bytes n t (at row) p
 
 module _ {bytes : List ℕ} {v n t : ℕ} {row : List ℕ} (fits : RowFits bytes v n t row) where
-  -- the gate's are put first
+  -- the gate's arrivals are put first
   pub places-first : {after : List ℕ} {start to : ℕ} → start ≡ rowStart v n t → after ≡ placed bytes start (bytesOf numberSize (at row 0))
       → to ≡ start + numberSize → PlacesPut bytes v n t row after to 1
   unfolding putArrivals
@@ -43,7 +43,7 @@ module _ {bytes : List ℕ} {v n t : ℕ} {row : List ℕ} (fits : RowFits bytes
     pub places-size : length after ≡ length bytes
     places-size = kept .size
 
-    -- the next place of the row lies within the bytes, and so does the one after it
+    -- the next place of the row is within the bytes, and so is the one after it
     pub places-room : p < n + 1 → to + ratesSize ≤ length after
     places-room l = omega (arith, h .place, h .some, kept .size, ap (λ (x : ℕ). rowStart x n t) (fits .version), fits .holds .row)
 

@@ -1,4 +1,4 @@
--- Each study as running finds it: the record given with its arrivals, whatever the studies before have left of record and list. Assumes nothing.
+-- Each study in running: the record given with its arrivals; the record and list that the studies before have left don't matter. Assumes nothing.
 use mathlib.Core.Path.{_≡_, refl, ap, _∙_}
 use mathlib.Core.List.{List}
 use Prim.Native.Nat.{ℕ, zero, suc, _+_, _<_}
@@ -19,7 +19,7 @@ use Rattle.model.specs.Many.{entrySize, answerEntry, runEntry, listAfterRuns, r
 use Rattle.many.specs.Arrivals.{ArrivedRows, rows-put, arrived-again}
 use Rattle.many.specs.Studies.{Studies, length-entry}
 
--- running looks at the length of the list alone
+-- running depends only on the length of the list
 module _ (s lanes list out : List ℕ) (e : length out ≡ length list) where
   runs-alike : runningOf s lanes out ≡ runningOf s lanes list
   unfolding runningOf
@@ -39,7 +39,7 @@ run-numbers bytes lanes arrivals list k =
     let s = studyRecord bytes arrivals k in
     length-entry (runningOf s lanes list) (longestRun s lanes list) (longest-ramps s lanes list)
 
--- the entry of a study, of any record and list that are its
+-- the entry of a study, from any record and list that equal its own
 pub run-entry : (bytes lanes arrivals list : List ℕ) (k : ℕ) (out : List ℕ) {s : List ℕ} {e : EndAnswer} {q : Queues} → s ≡ studyRecord bytes arrivals k
     → length out ≡ length list → e ≡ runningOf s lanes out → q ≡ longestRun s lanes out → answerEntry e q ≡ runEntry bytes lanes arrivals list k
 run-entry bytes lanes arrivals list k out {s} {e} {q} es eo ee eq =
@@ -47,7 +47,7 @@ run-entry bytes lanes arrivals list k out {s} {e} {q} es eo ee eq =
     ∙ ap (answerEntry (runningOf s lanes list)) (eq ∙ longest-alike s lanes list out eo)
     ∙ ap (λ (x : List ℕ). answerEntry (runningOf x lanes list) (longestRun x lanes list)) es
 
--- the table of arrivals as the code cuts it, put into any record
+-- the code's slice of the arrivals, put into any record
 pub arrived-is : {bytes arrivals : List ℕ} {n T count : ℕ} {answers : List ℕ} → Studies bytes arrivals n T count answers → (k : ℕ) (s : List ℕ)
     → withArrivals s n T (rowAt arrivals (arrivalsSize n T) k) ≡ withStudyArrivals bytes arrivals k s
 arrived-is {bytes} {arrivals} {n} {T} asked k s =
@@ -68,19 +68,19 @@ module _ (bytes arrivals : List ℕ) (reads : readingOf bytes .number ≡ 0) whe
   held : (t : ℕ) → t < readingOf bytes .steps → HoldsRow bytes (readingOf bytes .road .n) t
   held = read-row bytes (readingOf bytes) refl reads
 
-  -- differs from the record given in its arrivals alone
+  -- it differs from the record given only in its arrivals
   pub ran-kept : (k : ℕ) → ArrivedRows bytes (recordAfterRuns bytes arrivals k) (readingOf bytes .road .n) (readingOf bytes .steps)
   unfolding recordAfterRuns
   ran-kept zero = record { size = refl; version = refl; byte = λ b o. refl }
   ran-kept (suc k) = rows-put bytes n (tables k) T held
 
-  -- so with the arrivals of the next it is the next study
+  -- so with the arrivals of the next study it is that study
   pub ran-next : (k : ℕ) → withStudyArrivals bytes arrivals k (recordAfterRuns bytes arrivals k) ≡ studyRecord bytes arrivals k
   unfolding recordAfterRuns
   ran-next zero = refl
   ran-next (suc k) = arrived-again bytes n (tables k) (tables (suc k)) T held
 
--- the record as the loop has it: of the size and version of the record given, and the next study once the next table is put
+-- the record in the loop: it has the size and version of the record given, and is the next study once the next table is put
 module _ {bytes arrivals : List ℕ} {n T count : ℕ} {answers : List ℕ} (asked : Studies bytes arrivals n T count answers) (k : ℕ) {after : List ℕ}
     (e : after ≡ recordAfterRuns bytes arrivals k) where
   pub ran-size : length after ≡ length bytes
@@ -97,7 +97,7 @@ module _ {bytes arrivals : List ℕ} {n T count : ℕ} {answers : List ℕ} (ask
       ∙ ap (withStudyArrivals bytes arrivals k) e
       ∙ ran-next bytes arrivals (asked .reads) k
 
--- one study more, of the record and of the list
+-- one more study, for the record and for the list
 pub ran-more : (bytes arrivals : List ℕ) (k : ℕ) {s : List ℕ} → s ≡ studyRecord bytes arrivals k → s ≡ recordAfterRuns bytes arrivals (suc k)
 unfolding recordAfterRuns
 ran-more bytes arrivals k e = e

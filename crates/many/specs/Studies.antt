@@ -21,7 +21,7 @@ use Rattle.model.specs.Many.{withArrivals, arrivalsSize, entrySize, answerEntry
 use Rattle.many.specs.Arrivals.{holds-on}
 use Rattle.many.specs.Putting.{TableFits}
 
--- what the loops require: the record reads, the arrivals are as many tables as there are studies, and the answers have room for their entries
+-- what the loops require: the record reads, there is a table of arrivals for each study, and the answers have room for the entries
 pub record Studies (bytes arrivals : List ℕ) (n T count : ℕ) (answers : List ℕ) : Type 0 where
   pub reads : readingOf bytes .number ≡ 0
   pub cells : n ≡ readingOf bytes .road .n
@@ -29,7 +29,7 @@ pub record Studies (bytes arrivals : List ℕ) (n T count : ℕ) (answers : List
   pub whole : length arrivals ≡ count * arrivalsSize n T
   pub room : count * entrySize ≤ length answers
 
--- a table of arrivals is small to a machine
+-- the size of a table of arrivals fits a machine number
 pub table-small : {bytes arrivals : List ℕ} {n T count : ℕ} {answers : List ℕ} → Studies bytes arrivals n T count answers
     → (n + 1 ≤ 65) × (arrivalsSize n T ≤ 93600)
 table-small {bytes} {n = n} {T = T} asked =
@@ -38,7 +38,7 @@ table-small {bytes} {n = n} {T = T} asked =
     let t : T ≤ 1440 = omega (arith, asked .steps, w .steps) in
     (k, omega (arith, mul-le-mul t k))
 
--- an entry has its numbers where the queues have one for each of 64 ramps
+-- an entry has 73 numbers if there is a queue for each of 64 ramps
 pub length-entry : (e : EndAnswer) (q : Queues) → length (q .ramps) ≡ 64 → length (answerEntry e q) ≡ entrySize
 unfolding answerEntry
 length-entry e q h = omega (arith, h)
@@ -76,7 +76,7 @@ module _ (entries records lists : ℕ → List ℕ) {bytes arrivals : List ℕ} 
   }
 
   module _ {after out left : List ℕ} {from to k : ℕ} (h : After after out left from to k) where
-    -- the answers keep their length, and the next entry lies within them
+    -- the answers keep their length, and the next entry is within them
     pub answers-size : length left ≡ length answers
     answers-size =
         ap length (h .answers-are)
@@ -85,7 +85,7 @@ module _ (entries records lists : ℕ → List ℕ) {bytes arrivals : List ℕ} 
     pub entry-fits : k < count → to + entrySize ≤ length left
     entry-fits l = omega (arith, h .entry, asked .room, answers-size)
 
-    -- the next table of arrivals lies within the tables, and is that of study k
+    -- the next table of arrivals is within the tables, and is that of study k
     pub table-fits : k < count → from + arrivalsSize n T ≤ length arrivals
     table-fits l = omega (arith, row-ends k count (arrivalsSize n T) l, h .place, asked .whole)
 
@@ -105,7 +105,7 @@ module _ (entries records lists : ℕ → List ℕ) {bytes arrivals : List ℕ} 
           size = part-length arrivals from (arrivalsSize n T) (table-fits l);
         }
 
-    -- one study more
+    -- one more study
     pub done-more : k < count → {next written part : List ℕ} → next ≡ records (suc k) → written ≡ lists (suc k) → part ≡ entries k
         → After next written (take to left ++ (part ++ drop (to + entrySize - to) (drop to left))) (from + arrivalsSize n T) (to + entrySize) (k + 1)
     done-more l er el ep = record {

@@ -1,4 +1,4 @@
--- The refusals of many studies as a whole, and what is left of the lent lists after each end. Assumes nothing.
+-- The refusals of many studies as a whole, and the lent lists after each case. Assumes nothing.
 use mathlib.Core.Path.{_≡_, refl, sym, ap, _∙_}
 use mathlib.Core.Bool.{Bool}
 use mathlib.Core.List.{List}
@@ -16,7 +16,7 @@ use Rattle.model.specs.Many.{arrivalsSize, recordArrivals, studyCount, entrySiz
 use Rattle.model.specs.Many.{fillEntry, fillAnswers, listAfterFillings, fillLists, recordAfterFillings, fillRecord}
 use Rattle.many.specs.Studies.{Studies}
 
--- by what reading gave
+-- from reading's answer
 module _ (bytes arrivals answers : List ℕ) {x : ReadAnswer} (e : x ≡ readingOf bytes) where
   abbrev size : ℕ
   size = arrivalsSize (x .road .n) (x .steps)
@@ -26,7 +26,7 @@ module _ (bytes arrivals answers : List ℕ) {x : ReadAnswer} (e : x ≡ reading
   many-unread h = rw (← e, ne-eqb (x .number) 0 h)
 
   module _ (z : x .number ≡ 0) where
-    -- a table has a number, and is small to a machine
+    -- a table has at least one number, and its size fits a machine number
     pub size-some : (1 ≤ arrivalsSize (x .road .n) (x .steps)) × ((x .road .n + 1 ≤ 65) × (arrivalsSize (x .road .n) (x .steps) ≤ 93600))
     size-some =
         let w = read-within bytes x e z in
@@ -65,9 +65,9 @@ module _ (bytes arrivals answers : List ℕ) {x : ReadAnswer} (e : x ≡ reading
         pub many-count : length arrivals / arrivalsSize (x .road .n) (x .steps) ≡ studyCount bytes arrivals
         many-count = ap (λ (y : ReadAnswer). length arrivals / arrivalsSize (y .road .n) (y .steps)) e
 
--- what an end says and leaves: a refusal of the whole leaves all unchanged
+-- the answer and the lists afterwards: a refusal of the whole leaves all unchanged
 module _ (bytes lanes arrivals list answers : List ℕ) {q : FaultAnswer} (e : q ≡ manyFault bytes arrivals answers) where
-  -- of running
+  -- running
   abbrev Ran : List ℕ → List ℕ → List ℕ → Type 0
   Ran u out left = (q ≡ manyFault bytes arrivals answers)
       × ((u ≡ runRecord bytes arrivals answers) × ((out ≡ runLists bytes lanes arrivals list answers) × (left ≡ runAnswers bytes lanes arrivals list answers)))
@@ -82,7 +82,7 @@ module _ (bytes lanes arrivals list answers : List ℕ) {q : FaultAnswer} (e : q
   ran-all z ec eu eo ea =
       (e, (rw (← e, eq-eqb (q .number) 0 z, ← ec) eu, (rw (← e, eq-eqb (q .number) 0 z, ← ec) eo, rw (← e, eq-eqb (q .number) 0 z, ← ec) ea)))
 
-  -- of filling
+  -- filling
   module _ (laws : List Law) where
     abbrev Filled : List ℕ → List ℕ → List ℕ → Type 0
     Filled u out left = (q ≡ manyFault bytes arrivals answers)

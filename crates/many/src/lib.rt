@@ -1,4 +1,4 @@
-// Many studies: one record, with the arrivals of each study put into it in turn, run or filled, and an entry of answers a study.
+// Many studies: one record, the arrivals of each study put into it in turn, run or filled, and an entry of answers per study.
 use model::Fault;
 use model::Law;
 use model::Longest;
@@ -17,12 +17,12 @@ ghost use Rattle.model.specs.Many.{fillEntry, fillAnswers, listAfterFillings, f
 ghost use Rattle.many.specs.Putting.{RowFits, TableFits};
 ghost use Rattle.many.specs.Studies.{Studies};
 
-// How many numbers an entry has, and how many of them are before the ramps'.
+// How many numbers an entry has, and how many come before those of the ramps.
 const ENTRY: usize = 73;
 
 const RAMPS: usize = 9;
 
-// Puts the arrivals of a row's places, the gate first.
+// Puts the arrivals of a row's places, gate first.
 fn put_row(bytes: &mut [u8], version: u8, n: usize, t: usize, row: &[u32])
     requires { ⌜ RowFits (now bytes) version n t (now row) ⌝ }
     ensures { λ _. ⌜ now (bytes .exit) ≡ putArrivals (now (bytes .entry)) n t (at (now (row .entry))) (n + 1) ⌝ }
@@ -37,7 +37,7 @@ fn put_row(bytes: &mut [u8], version: u8, n: usize, t: usize, row: &[u32])
     }
 }
 
-// Puts a table of arrivals into the rows of a record, in place of their own.
+// Puts a table of arrivals into the rows of a record, instead of their own.
 fn put_arrivals(bytes: &mut [u8], n: usize, steps: usize, table: &[u32])
     requires { ⌜ TableFits (now bytes) n steps (now table) ⌝ }
     ensures { λ _. ⌜ now (bytes .exit) ≡ withArrivals (now (bytes .entry)) n steps (now (table .entry)) ⌝ }
@@ -54,7 +54,7 @@ fn put_arrivals(bytes: &mut [u8], n: usize, steps: usize, table: &[u32])
     }
 }
 
-// The numbers of an answer's entry.
+// The entry of an answer.
 fn entry(a: Longest) -> [u64; 73]
     ensures { λ r. ⌜ r ≡ answerEntry (endAnswer (a .ended)) (longestQueues a) ⌝ }
 {
@@ -92,7 +92,7 @@ fn put_entry(part: &mut [u64], entry: [u64; 73])
     }
 }
 
-// Runs each study, with the arrivals of its table in the record.
+// Runs each study: the record with the arrivals of its table.
 fn run_studies(
     bytes: &mut [u8],
     table: &[u8],
@@ -126,7 +126,7 @@ fn run_studies(
     }
 }
 
-// Fills each study by the laws of its ramps, with the arrivals of its table in the record.
+// Fills each study by the laws of its ramps: the record with the arrivals of its table.
 fn fill_studies(
     bytes: &mut [u8],
     laws: [Law; 64],
@@ -163,7 +163,7 @@ fn fill_studies(
     }
 }
 
-// Runs a record with each of many tables of arrivals, one after the other: the refusals of reading, then 27; an entry of answers a study.
+// Runs a record with each of many tables of arrivals, one after the other: the refusals of reading, then 27; an entry of answers per study.
 pub fn run_many(
     bytes: &mut [u8],
     table: &[u8],
@@ -209,7 +209,7 @@ pub fn run_many(
     }
 }
 
-// Fills a record with each of many tables of arrivals so: the refusals of reading, then 27; an entry of answers a study.
+// Fills a record with each of many tables of arrivals in the same way: the refusals of reading, then 27; an entry of answers per study.
 pub fn fill_many(
     bytes: &mut [u8],
     laws: [Law; 64],

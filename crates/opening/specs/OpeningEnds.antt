@@ -1,4 +1,4 @@
--- How opening ends, from what its code finds. Assumes nothing.
+-- The answers of opening, from the results of its code. Assumes nothing.
 use mathlib.Core.Path.{_≡_, sym, ap, _∙_}
 use mathlib.Core.List.{List}
 use Prim.Native.Nat.{ℕ}
@@ -12,7 +12,7 @@ module _ (bytes lanes : List ℕ) {x : ReadAnswer} (ex : x ≡ readingOf bytes) 
   pub opened-refused : (x .number ≡ 0 → ⊥) → x ≡ openingOf bytes lanes
   opened-refused h = ex ∙ sym (opening-refused bytes lanes (rw ex at h))
 
-  -- the record reads, and f is what the code says of the table
+  -- the record reads, and f is the code's fault of the table
   module _ {f : FaultAnswer} (ef : f ≡ tableFault lanes (x .road .n) (x .steps)) where
     found : f ≡ lanesFault (studyOf bytes lanes)
     found = rw ex at ef

@@ -1,4 +1,4 @@
--- How opening a record to go on from a state ends, from what its code finds. Assumes nothing.
+-- The answers of opening a record to go on from a state, from the results of its code. Assumes nothing.
 use mathlib.Core.Path.{_≡_, sym, ap, _∙_}
 use mathlib.Core.Bool.{Bool}
 use mathlib.Core.List.{List}
@@ -14,12 +14,12 @@ use Rattle.model.specs.GoingOn.{studyFrom, stateFault}
 use Rattle.theory.specs.Opening.{opened-reads}
 use Rattle.theory.specs.Started.{startingOf, starting-unopened, starting-refused, starting-starts}
 
--- x is what opening gave
+-- x is opening's answer
 module _ (bytes lanes : List ℕ) (s : State) {x : ReadAnswer} (ex : x ≡ openingOf bytes lanes) where
   pub started-unopened : (x .number ≡ 0 → ⊥) → x ≡ startingOf bytes lanes s
   started-unopened h = ex ∙ sym (starting-unopened bytes lanes s (rw ex at h))
 
-  -- the record is opened, and m is what the code says of its start
+  -- the record is opened, and m is the code's refusal of its start
   module _ (z : x .number ≡ 0) {t : Bool} {m : ℕ} (et : t ≡ stateOk (x .road) s) (em : m ≡ unless t 7 (unless (leb (s .done + x .steps) mostSteps) 8 0)) where
     found : m ≡ stateFault (studyFrom bytes lanes s)
     unfolding stateFault

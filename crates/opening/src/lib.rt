@@ -26,7 +26,7 @@ fn made(refusal: Refusal, place: usize) -> Fault
     }
 }
 
-// What is refused of a table for a road of n cells and a run of `steps`: 17, then 18 at the lowest cell over all rows, or none.
+// The refusal of a table for a road of n cells and a run of `steps` steps: 17, then 18 at the lowest cell over all rows, or none.
 pub fn refused(table: &[u8], n: usize, steps: usize) -> Fault
     requires { ⌜ (n ≤ mostCells) × (steps ≤ mostSteps) ⌝ }
     ensures { λ q. ⌜ faultAnswer q ≡ tableFault (now (table .entry)) n steps ⌝ }
@@ -44,7 +44,7 @@ pub fn refused(table: &[u8], n: usize, steps: usize) -> Fault
     made(Refusal::None, 0)
 }
 
-// What reading gives, or a refusal: those of reading, then 17, then 18.
+// Reading's answer, or a refusal: those of reading, then 17, then 18.
 pub fn opened(bytes: &[u8], table: &[u8]) -> Reading
     ensures { λ a. ⌜ readAnswer a ≡ openingOf (now (bytes .entry)) (now (table .entry)) ⌝ }
 {
@@ -62,7 +62,7 @@ pub fn opened(bytes: &[u8], table: &[u8]) -> Reading
     a
 }
 
-// 7 where a start breaks a limit, then 8 where more than 1,440 steps would be done, or none.
+// The refusal of a start: 7 if it breaks a limit, then 8 if more than 1,440 steps would be done, or none.
 pub fn start_refusal(within: bool, done: usize, steps: usize) -> Refusal
     requires { ⌜ (within ≡ true → done ≤ mostSteps) × (steps ≤ mostSteps) ⌝ }
     ensures { λ q. ⌜ refusalNumber q ≡ unless within 7 (unless (leb (done + steps) mostSteps) 8 0) ⌝ }

@@ -1,4 +1,4 @@
--- What a loop over the places carries from one to the next: share, cumulative outflow and demand. Assumes nothing.
+-- What a loop over the places carries from one place to the next: share, cumulative outflow and demand. Assumes nothing.
 use mathlib.Core.Path.{_≡_, refl, sym, _∙_}
 use Prim.Native.Nat.{ℕ, _+_, _≤_, _<_}
 use native.Mathlib.Omega.{arith}
@@ -15,13 +15,13 @@ pub record Carried (r : Road) (s : State) (share cumulative demand i : ℕ) : Ty
   pub cumulatives : cumulative ≡ cumulativeAt s i
   pub demands : demand ≡ demandAt r s i
 
--- at the gate
+-- the values at the gate
 pub carried-gate : (r : Road) (s : State) (demand : ℕ) → demand ≡ gateDemandOf (r .«gate_capacity») (s .«gate_queue»)
     → Carried r s whole (s .«gate_cumulative») demand 0
 unfolding shareAt cumulativeAt demandAt
 carried-gate r s demand e = record { within = omega arith; shares = refl; cumulatives = refl; demands = e }
 
--- past the cell at i
+-- the values after the cell at i
 pub carried-cell : (r : Road) (s : State) (i demand : ℕ) → i < r .n
     → demand ≡ demandOf (at (r .speed) i) (at (r .capacity) i) (at (s .held) i)
     → Carried r s (at (r .share) i) (at (s .cumulative) i) demand (i + 1)

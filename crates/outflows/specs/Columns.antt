@@ -1,11 +1,11 @@
--- A road and a state whose columns are lent: what is not lent is that of any road and any state. Assumes nothing.
+-- A road and a state whose columns are lent: everything else may be that of any road and any state. Assumes nothing.
 use mathlib.Core.List.{List}
 use Prim.Native.Nat.{ℕ}
 use Rattle.model.specs.declared.Road.{Road}
 use Rattle.model.specs.declared.State.{State}
 use Rattle.outflows.specs.declared.Ledger.{Ledger}
 
--- a road with these columns, and otherwise as r
+-- a road with these columns; everything else is r's
 abbrev pub roadOf : Road → ℕ → ℕ → List ℕ → List ℕ → List ℕ → List ℕ → List ℕ → Road
 roadOf r n gate speed wave share jam capacity = record {
   n = n;
@@ -20,15 +20,15 @@ roadOf r n gate speed wave share jam capacity = record {
   capacity = capacity;
 }
 
--- a road with these cells' shares, and otherwise as r
+-- a road with these shares; everything else is r's
 abbrev pub sharing : Road → ℕ → List ℕ → Road
 sharing r n share = roadOf r n (r .«gate_capacity») (r .speed) (r .wave) share (r .jam) (r .capacity)
 
--- a road whose places send by these columns, and otherwise as r
+-- a road with the columns from which places send; everything else is r's
 abbrev pub sending : Road → ℕ → ℕ → List ℕ → List ℕ → List ℕ → Road
 sending r n gate speed share capacity = roadOf r n gate speed (r .wave) share (r .jam) capacity
 
--- a road whose supplies go by these columns, and otherwise as r
+-- a road with the columns of the supplies; everything else is r's
 abbrev pub supplying : Road → ℕ → List ℕ → List ℕ → List ℕ → Road
 supplying r n wave jam capacity = roadOf r n (r .«gate_capacity») (r .speed) wave (r .share) jam capacity
 
@@ -43,7 +43,7 @@ ledgerOf s = record {
   «gate_cumulative» = s .«gate_cumulative»;
 }
 
--- a ledger with this queue and this F of the gate, and otherwise as l
+-- a ledger with this gate queue and this F of the gate; everything else is l's
 abbrev pub gated : Ledger → ℕ → ℕ → Ledger
 gated l queue cumulative = record {
   done = l .done;
@@ -54,7 +54,7 @@ gated l queue cumulative = record {
   «gate_cumulative» = cumulative;
 }
 
--- a state of a ledger and of columns
+-- the state of a ledger and columns
 abbrev pub stateOf : Ledger → List ℕ → List ℕ → List ℕ → State
 stateOf l held queue cumulative = record {
   done = l .done;

@@ -14,7 +14,7 @@ use Rattle.model.specs.Places.{roomAt, demandAt, shareAt, cumulativeAt, outflow
 use Rattle.model.specs.Schedules.{outflowsOf}
 use Rattle.outflows.specs.CarriedValues.{Carried, carried-gate, carried-cell}
 
--- one more place's outflow
+-- the outflow of one more place
 outflows-more : (r : Road) (s : State) (row l : List ℕ) (i : ℕ) (y : List ℕ) (share cumulative demand room z : ℕ)
     → y ≡ fillOf (outflowAt r s row) i l → share ≡ shareAt r i → cumulative ≡ cumulativeAt s i → demand ≡ demandAt r s i
     → room ≡ roomAt r s row i → z ≡ outflowOf share cumulative room demand
@@ -23,7 +23,7 @@ outflows-more r s row l i y share cumulative demand room z ey eb ef ed er ez =
     let e : z ≡ outflowAt r s row i = cc in
     cc (fill-more (outflowAt r s row) i l)
 
--- and the last place's demand
+-- the demand of the last place
 outflows-end : (r : Road) (s : State) (row l : List ℕ) (i : ℕ) (y : List ℕ) (demand : ℕ) → i ≡ r .n → length l ≡ r .n + 1
     → y ≡ fillOf (outflowAt r s row) i l → demand ≡ demandAt r s i → set y (r .n) demand ≡ outflowsOf r s row
 unfolding outflowsOf
@@ -39,7 +39,7 @@ outflows-end r s row l i y demand e long ey ed =
     ∙ ap (λ (x : List ℕ). listOf f n ++ (demand ∷ x)) none
     ∙ ap (λ (x : ℕ). listOf f n ++ (x ∷ [])) (ed ∙ ap (demandAt r s) e)
 
--- what holds when the loop over the places has filled the first i of them
+-- the loop over the places has filled the first i of them
 pub record FilledOutflows (r : Road) (s : State) (row l y : List ℕ) (share cumulative demand i : ℕ) : Type 0 where
   pub carried : Carried r s share cumulative demand i
   pub filled : y ≡ fillOf (outflowAt r s row) i l

@@ -1,4 +1,4 @@
--- The rooms of a step, kept from the look at its releases for its outflows. Assumes nothing.
+-- The rooms of a step, stored while its releases are tested and used for its outflows. Assumes nothing.
 use mathlib.Core.Path.{_≡_, refl, ap, _∙_}
 use mathlib.Core.List.{List}
 use Prim.Native.Nat.{ℕ, _+_, _≤_, _<_}
@@ -15,7 +15,7 @@ use Rattle.model.specs.Places.{capacityAt, releaseAt, roomAt}
 abbrev pub Rooms : Road → State → List ℕ → List ℕ → Type 0
 Rooms r s row room = (i : ℕ) → i < r .n → at room i ≡ roomAt r s row i
 
--- those of the first i cells are, put into l
+-- the rooms of the first i cells are put into l
 pub record Roomed (r : Road) (s : State) (row l room : List ℕ) (i : ℕ) : Type 0 where
   pub filled : room ≡ fillOf (roomAt r s row) i l
 
@@ -24,7 +24,7 @@ module _ {r : Road} {s : State} {row l : List ℕ} where
   unfolding fillOf
   roomed-none = record { filled = refl }
 
-  -- one more, of the supply that the code computes
+  -- one more room, from the supply that the code computes
   pub roomed-more : {room : List ℕ} {i supply x : ℕ} → Roomed r s row l room i
       → supply ≡ supplyOf (at (r .wave) i) (at (r .capacity) i) (at (r .jam) i) (at (s .held) i) → x ≡ roomOf supply (releaseAt row i)
       → Roomed r s row l (set room i x) (i + 1)

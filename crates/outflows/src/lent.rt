@@ -1,5 +1,4 @@
-// The engine's outflows on a road and a state that are lent column by column, so that nothing of them is copied.
-// Releases looked through on a road and a state that are lent column by column, so that a run copies neither.
+// The engine's outflows and the test of the releases, on a road and a state that are lent column by column, so that nothing is copied.
 use model::Fault;
 use model::Refusal;
 use model::Road;
@@ -16,7 +15,7 @@ ghost use Rattle.outflows.specs.Rooms.{Rooms};
 ghost use Rattle.model.specs.Stepping.{releasesOf};
 ghost use Rattle.model.specs.Refusals.{faultAnswer};
 
-// Fills a row with the engine's outflows, gate first, where `room` has the room of each cell.
+// Fills a row with the engine's outflows, gate first; `room` holds the room of each cell.
 pub fn outflows<'a, 'b>(
     n: usize,
     gate_capacity: u32,
@@ -51,7 +50,7 @@ pub fn outflows<'a, 'b>(
     y[n] = demand;
 }
 
-// The lowest cell whose release does not fit, with its refusal. Where all fit, `room` then has the room of each cell.
+// The lowest cell whose release does not fit, with its refusal. If all fit, `room` holds the room of each cell afterwards.
 pub fn releases<'a, 'b>(
     n: usize,
     wave: &'a [u16; 64],

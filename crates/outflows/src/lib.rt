@@ -13,7 +13,7 @@ ghost use Rattle.model.specs.Road.{mostCells};
 ghost use Rattle.model.specs.Refusals.{refusalNumber, faultAnswer};
 ghost use Rattle.model.specs.Stepping.{releaseFault, releasesOf};
 
-// What a state holds beside its columns: the steps done, the three times, the gate's queue and its F.
+// What a state holds besides its columns: the steps done, the three times, the gate's queue and its F.
 pub struct Ledger {
     pub done: usize,
     pub gate_time: u64,
@@ -56,7 +56,7 @@ impl Ledger {
     }
 }
 
-// One cell's release: not above what its ramp may release at most, nor above its supply.
+// The refusal of one cell's release: 9 above `most`, then 10 above the supply.
 pub fn release_refusal(release: u32, most: u64, supply: u32) -> Refusal
     ensures { λ q. ⌜ refusalNumber q ≡ releaseFault release most supply ⌝ }
 {

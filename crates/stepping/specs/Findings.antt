@@ -1,4 +1,4 @@
--- What the code finds, in the definitions' terms. Assumes nothing.
+-- The results of the code's tests, in the terms of the definitions. Assumes nothing.
 use mathlib.Core.Path.{_≡_, sym, ap, subst, subst⁻¹, _∙_}
 use mathlib.Core.Bool.{true, false}
 use mathlib.Core.List.{List}
@@ -26,7 +26,7 @@ use Rattle.theory.specs.OpenRoad.{opened}
 use Rattle.stepping.specs.StepNeeds.{Movable, Steppable}
 use Rattle.model.specs.declared.Fault.{Fault}
 
--- the engine's row may be moved by, and the state after it is the next
+-- the engine's row may be used for a move, and the state after it is the next state
 module _ {r : Road} {s : State} {row y : List ℕ} (ok : Steppable r s row) (e : y ≡ outflowsOf r s row) where
   pub movable : Movable r s row y
   movable = rw e (record { input = ok .input; sized = ok .sized; places = length-outflows r s row; obeys = outflows-obey r s row (ok .released) })
@@ -44,7 +44,7 @@ pub record Stepping (r : Road) (s : State) (row : List ℕ) : Type 0 where
   pub input : InputOk r s row
   pub sized : Sized r s
 
--- 8 does not apply, and the code has looked through the releases: what it found, and its number
+-- 8 does not apply, and the code has tested the releases: the fault that it found, and its number
 pub record ReleaseFinding (r : Road) (s : State) (row : List ℕ) (q : Fault) (m : ℕ) : Type 0 where
   pub input : Stepping r s row
   pub left : s .done ≡ mostSteps → ⊥
@@ -80,7 +80,7 @@ module _ (r : Road) (s : State) (row built usable : List ℕ) where
   pub answer-input : inputOk r s row ≡ false → answer (fault 7 0) s ≡ steppingOf r s row built usable
   answer-input h = sym (stepping-input r s row built usable h)
 
-  -- 18, or none; the code has looked through the lanes and found the cell
+  -- 18 or none: the code has tested the lanes and found the cell
   module _ (input : inputOk r s row ≡ true) {cell : ℕ} (found : cell ≡ firstOf (lanesAt built usable) (r .n)) where
     pub cell-within : cell ≤ r .n
     cell-within = omega (arith, found, first (lanesAt built usable) (r .n) .within)
@@ -89,7 +89,7 @@ module _ (r : Road) (s : State) (row built usable : List ℕ) where
     answer-lanes h =
         ap (λ (i : ℕ). answer (fault 18 (i + 1)) s) found ∙ sym (stepping-lanes r s row built usable input (λ e. h (found ∙ e)))
 
-    -- on the road with what the open lanes leave of its capacities, which is within the limits
+    -- the step is made on the road with the capacities that the open lanes leave, which is within the limits
     module _ (e : cell ≡ r .n) {left : List ℕ} (el : left ≡ openCapacities (r .capacity) built usable (r .n)) where
       pub answer-on : {a : Answer} → a ≡ stepOn (withCapacity r left) s row → a ≡ steppingOf r s row built usable
       answer-on {a} h =

@@ -1,4 +1,4 @@
--- What a step on lent columns requires, and what the loop that moves them knows. Assumes nothing.
+-- What a step on lent columns requires, and the invariant of the loop that moves them. Assumes nothing.
 use mathlib.Core.Path.{_≡_, ap, _∙_}
 use mathlib.Core.List.{List}
 use Prim.Native.Nat.{ℕ, _+_, _-_, _≤_, _<_}
@@ -22,7 +22,7 @@ use Rattle.outflows.specs.declared.Ledger.{Ledger}
 use Rattle.outflows.specs.Columns.{sharing, stateOf}
 use native.Mathlib.Omega.{arith}
 
--- advancing requires that the row may be moved by on some road with these shares, and that steps are left
+-- what `advance` requires: the row may be used for a move on some road with these shares, and a step is left
 pub record Advances (n : ℕ) (share : List ℕ) (l : Ledger) (held queue cumulative row y : List ℕ) : Type 0 where
   pub road : Road
   pub movable : Movable (sharing road n share) (stateOf l held queue cumulative) row y
@@ -33,7 +33,7 @@ abbrev pub engineNext : Road → State → List ℕ → State
 engineNext r s row = nextOf r s row (outflowsOf r s row)
 
 module _ {r : Road} {s : State} {row y : List ℕ} {t : State} {entering i : ℕ} (h : MovedCells r s row y t entering i) where
-  -- the cell at i is not yet moved
+  -- the cell at i is not moved yet
   pub held-there : at (t .held) i ≡ at (s .held) i
   unfolding movedTo
   held-there = ap (λ (x : State). at (x .held) i) (h .moved) ∙ fill-past (heldOf r s row y) i (s .held) i (le-refl i)
@@ -46,7 +46,7 @@ module _ {r : Road} {s : State} {row y : List ℕ} {t : State} {entering i : ℕ
   unfolding movedTo
   cumulative-there = ap (λ (x : State). at (x .cumulative) i) (h .moved) ∙ fill-past (cumulativeOf s y) i (s .cumulative) i (le-refl i)
 
-  -- its columns have an entry for it
+  -- the columns have an entry for it
   pub long-there : Sized r s → i < r .n → (i < length (t .held)) × (i < length (t .queue))
   unfolding movedTo
   long-there z l =
@@ -71,7 +71,7 @@ module _ {r : Road} {s : State} {row y : List ℕ} {t : State} {entering i : ℕ
       let g = rw cumulative-there at e in
       rw (held-there, queue-there, cumulative-there) (moved-cell h l g)
 
-  -- and when all are moved the step is counted
+  -- when all cells are moved, the step is counted
   pub counted-there : {gate road ramp : ℕ} → r .n ≤ i → gate ≡ t .«gate_queue» → Summed (t .held) road i → Summed (t .queue) ramp i
       → record {
         done = t .done + 1;
@@ -89,7 +89,7 @@ module _ {r : Road} {s : State} {row y : List ℕ} {t : State} {entering i : ℕ
       counted-is r t eg (er .is ∙ ap (λ (k : ℕ). sumOf (take k (t .held))) e) (eq .is ∙ ap (λ (k : ℕ). sumOf (take k (t .queue))) e)
       ∙ ap (countedOf r) (moved-end h l)
 
--- counting after a move needs nothing more
+-- after a move, counting has no further precondition
 pub countable : {r : Road} {s : State} {row y : List ℕ} {t : State} → Movable r s row y → s .done < mostSteps → t ≡ movedOf r s row y → Countable r t
 unfolding movedTo
 countable {r} {s} {row} {y} {t} m d e = rw e (record {

@@ -9,7 +9,7 @@ use Rattle.outflows.specs.Columns.{sending}
 use Rattle.outflows.specs.Rooms.{Rooms}
 use Rattle.stepping.specs.StepNeeds.{Steppable}
 
--- that it may be made on some road with these columns, whose rooms are given
+-- the step may be made on some road with these columns, and the rooms are given
 pub record Nexts (n gate : ℕ) (speed share capacity : List ℕ) (s : State) (row room y : List ℕ) : Type 0 where
   pub road : Road
   pub steppable : Steppable (sending road n gate speed share capacity) s row

@@ -19,27 +19,27 @@ use Rattle.theory.specs.MoveLaws.{moved-more}
 use Rattle.model.specs.Schedules.{Released, Obeys}
 use Rattle.theory.specs.RulesLaws.{Sized, entering-cell, release-there, demand-at-gate, demand-at-cell, demand-rate}
 
--- moving: all within the limits, and a row of outflows that obeys the rules
+-- moving requires: everything is within the limits, and the row of outflows obeys the rules
 pub record Movable (r : Road) (s : State) (row y : List ℕ) : Type 0 where
   pub input : InputOk r s row
   pub sized : Sized r s
   pub places : length y ≡ r .n + 1
   pub obeys : Obeys r s row y
 
--- the engine's step: all within the limits, each release fits, and steps are left
+-- the engine's step requires: everything is within the limits, each release fits, and a step is left
 pub record Steppable (r : Road) (s : State) (row : List ℕ) : Type 0 where
   pub input : InputOk r s row
   pub sized : Sized r s
   pub released : Released r s row
   pub left : s .done < mostSteps
 
--- counting: another step and its present fit their numbers
+-- counting requires: another step and its present fit their machine numbers
 pub record Countable (r : Road) (s : State) : Type 0 where
   pub done : s .done < mostSteps
   pub total : totalOf s < 2 ^ 63
   pub present : presentOf r s < 2 ^ 63
 
--- what holds when the loop over the cells has moved the first i of them
+-- the loop over the cells has moved the first i of them
 pub record MovedCells (r : Road) (s : State) (row y : List ℕ) (t : State) (entering i : ℕ) : Type 0 where
   pub within : i ≤ r .n
   pub enters : entering ≡ enteringAt r s y i
@@ -83,7 +83,7 @@ pub moved-end : {r : Road} {s : State} {row y : List ℕ} {t : State} {entering 
     → t ≡ movedOf r s row y
 moved-end {r} {s} {row} {y} {i = i} h l = let e : i ≡ r .n = omega (arith, h .within) in h .moved ∙ ap (movedTo r s row y) e
 
--- what a turn of the loop over the cells knows of its numbers
+-- the facts about the numbers of a turn of that loop
 pub record Turn (r : Road) (s : State) (row y : List ℕ) (i entering : ℕ) : Type 0 where
   pub cells : r .n ≤ mostCells
   pub numbers : length row ≡ 1 + 2 * r .n
@@ -124,7 +124,7 @@ turn {r} {s} {row} {y} {i = i} m h l =
       leaves = leaves;
     }
 
--- what the gate's move knows
+-- the facts about the numbers of the gate's move
 pub record Gate (s : State) (row y : List ℕ) : Type 0 where
   pub there : at y 0 ≤ s .«gate_queue»
   pub queue : s .«gate_queue» ≤ mostQueue mostSteps

@@ -1,5 +1,4 @@
-// The move in place by a row of outflows, and the count, on a road and a state that are lent column by column, so that nothing of them is copied.
-// A step made on a road and a state that are lent column by column, so that a run copies neither.
+// A step in place on a road and a state that are lent column by column, so that nothing is copied: the move by a row of outflows, and the count.
 use model::Road;
 use numbers::wide;
 use outflows::Ledger;
@@ -12,8 +11,8 @@ ghost use Rattle.model.specs.Schedules.{outflowsOf};
 ghost use Rattle.outflows.specs.Rooms.{Rooms};
 ghost use Rattle.stepping.specs.Nexts.{Nexts};
 
-// Moves every place by a row of outflows that obeys the rules, and counts the step: what each cell then holds and what waits at each ramp is
-// added as it is moved.
+// Moves every place by a row of outflows that obeys the rules, and counts the step: held counts and ramp queues are added while the cells
+// are moved.
 pub fn advance(
     n: usize,
     share: &[u16; 64],
@@ -59,7 +58,7 @@ pub fn advance(
     }
 }
 
-// Fills a row with the engine's outflows by the rooms of the cells, moves every place by it and counts the step.
+// Fills a row with the engine's outflows from the rooms of the cells, moves every place by it and counts the step.
 pub fn next<'a>(
     n: usize,
     gate_capacity: u32,

@@ -16,7 +16,7 @@ ghost use Rattle.model.specs.Stepping.{stepOn, steppingOf, stepAnswer};
 ghost use Rattle.stepping.specs.StepNeeds.{Movable, Steppable};
 ghost use Rattle.stepping.specs.Findings.{Stepping};
 
-// The state after a step by a row of outflows that obeys the rules.
+// The state after a step with a row of outflows that obeys the rules.
 pub fn next_by(r: Road, s: State, row: &[u32], y: &[u32]) -> State
     requires { ⌜ (Movable r s (now row) (now y)) × (s .done < mostSteps) ⌝ }
     ensures { λ t. ⌜ t ≡ nextOf r s (now (row .entry)) (now (y .entry)) ⌝ }
@@ -45,7 +45,7 @@ pub fn next_by(r: Road, s: State, row: &[u32], y: &[u32]) -> State
     t.state(held, queue, cumulative)
 }
 
-// Fills a row with the engine's outflows, where the releases fit.
+// Fills a row with the engine's outflows, if the releases fit.
 fn fill_outflows(r: Road, s: State, row: &[u32], y: &mut [u32])
     requires { ⌜ (Steppable r s (now row)) × (length (now y) ≡ r .n + 1) ⌝ }
     ensures { λ _. ⌜ now (y .exit) ≡ outflowsOf r s (now (row .entry)) ⌝ }
@@ -76,7 +76,7 @@ fn fill_outflows(r: Road, s: State, row: &[u32], y: &mut [u32])
     );
 }
 
-// Fills a row with the engine's outflows, and gives the state after the step by them.
+// Fills a row with the engine's outflows, and returns the state after the step.
 pub fn next(r: Road, s: State, row: &[u32], y: &mut [u32]) -> State
     requires { ⌜ (Steppable r s (now row)) × (length (now y) ≡ r .n + 1) ⌝ }
     ensures state { λ t. ⌜ t ≡ nextOf r s (now (row .entry)) (outflowsOf r s (now (row .entry))) ⌝ }
@@ -86,7 +86,7 @@ pub fn next(r: Road, s: State, row: &[u32], y: &mut [u32]) -> State
     next_by(r, s, row, y)
 }
 
-// A refused step gives the old state back.
+// A refused step returns the state given.
 fn refused(refusal: Refusal, place: usize, s: State) -> Stepped
     ensures { λ a. ⌜ a ≡ record { refusal = refusal; step = 0; place = place; state = s } ⌝ }
 {
@@ -98,7 +98,7 @@ fn refused(refusal: Refusal, place: usize, s: State) -> Stepped
     }
 }
 
-// A step on its road, whose input is within the limits: 8, then 9 or 10.
+// A step on its road, with an input within the limits: 8, then 9 or 10.
 fn step_on(r: Road, s: State, row: &[u32]) -> Stepped
     requires { ⌜ Stepping r s (now row) ⌝ }
     ensures { λ a. ⌜ stepAnswer a ≡ stepOn r s (now (row .entry)) ⌝ }
@@ -122,7 +122,7 @@ fn step_on(r: Road, s: State, row: &[u32]) -> Stepped
     }
 }
 
-// One step of a road by the numbers of a row in the record's order, with the lanes built and open of each cell.
+// One step of a road with a row of numbers in the record's order, and the lanes built and open of each cell.
 pub fn step(r: Road, s: State, row: &[u32], built: [u8; 64], usable: [u8; 64]) -> Stepped
     ensures { λ a. ⌜ stepAnswer a ≡ steppingOf r s (now (row .entry)) built usable ⌝ }
 {

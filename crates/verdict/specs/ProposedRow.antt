@@ -1,4 +1,4 @@
--- What judging one row requires, and what its loop finds. Assumes nothing.
+-- What judging one row requires, and the results of its loop. Assumes nothing.
 use mathlib.Core.Path.{_≡_, refl, sym, ap, _∙_}
 use mathlib.Core.List.{List}
 use Prim.Native.Nat.{ℕ, _+_, _*_, _≤_, _<_}
@@ -18,19 +18,19 @@ use Rattle.theory.specs.StepLaws.{number-of, lowest-stop, lowest-end}
 use Rattle.theory.specs.VerdictLaws.{fault-before-last, last-passes, last-above-demand, verdict-releases, verdict-outflows}
 use Rattle.outflows.specs.CarriedValues.{Carried}
 
--- of a road of n cells the row of a step and a row of outflows, gate first
+-- the row of a step and a row of outflows, gate first, for a road of n cells
 pub record Proposed (n : ℕ) (row y : List ℕ) : Type 0 where
   pub cells : n ≤ mostCells
   pub numbers : length row ≡ 1 + 2 * n
   pub places : length y ≡ n + 1
 
--- the loop over the places: what the code computes at one before the last, and the number of the refusal that it finds
+-- the loop over the places: the code's numbers at a place before the last, and the number of the refusal that it finds
 module _ {r : Road} {s : State} (row y : List ℕ) {share cumulative demand i : ℕ} (k : Carried r s share cumulative demand i) where
   pub outflow-found : {room entering m : ℕ} → i < r .n → room ≡ roomAt r s row i → entering ≡ enteringOf share cumulative (at y i)
       → m ≡ outflowFault (at y i) demand entering room → m ≡ outflowFaultAt r s row y i
   outflow-found l er ee e = rw (ee, er, k .shares, k .cumulatives, k .demands) at e ∙ sym (fault-before-last r s row y i l)
 
-  -- at the last only its demand is looked at
+  -- at the last place only the demand is tested
   module _ (h : Faultless (outflowFaultAt r s row y) (r .n + 1) i) (end : r .n ≤ i) where
     at-last : i ≡ r .n
     at-last = omega (arith, k .within)
@@ -49,7 +49,7 @@ module _ {r : Road} {s : State} (row y : List ℕ) {share cumulative demand i : 
         let f = last-passes r s row y (omega (arith, demand-last)) in
         lowest-end _ _ 0 (faultless-more h (omega (arith, at-last)) refl (ap (outflowFaultAt r s row y) at-last ∙ f)) (omega (arith, at-last))
 
--- the code has looked through the releases: what it found, and its number
+-- the code has tested the releases: the fault that it found, and its number
 pub record ReleaseFinding (r : Road) (s : State) (row : List ℕ) (q : FaultAnswer) (m : ℕ) : Type 0 where
   pub found : q ≡ releasesOf r s row
   pub number : m ≡ q .number

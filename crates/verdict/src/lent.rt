@@ -1,4 +1,4 @@
-// What judging says of one row, on a road and a state that are lent column by column, so that judging copies neither.
+// The verdict on one row, on a road and a state that are lent column by column, so that judging copies neither.
 use model::Fault;
 use model::Refusal;
 use model::Road;
@@ -15,8 +15,8 @@ ghost use Rattle.outflows.specs.Rooms.{Rooms};
 ghost use Rattle.model.specs.Refusals.{faultAnswer};
 ghost use Rattle.verdict.specs.ProposedRow.{Proposed};
 
-// The lowest place whose outflow does not obey, with its refusal, where `room` has the room of each cell. No cell follows the last
-// place: only its demand is looked at.
+// The lowest place whose outflow does not obey, with its refusal; `room` holds the room of each cell. At the last place, which no cell
+// follows, only the demand is tested.
 fn outflows_fault<'a, 'b>(
     n: usize,
     gate_capacity: u32,
@@ -68,7 +68,7 @@ fn outflows_fault<'a, 'b>(
     }
 }
 
-// The releases of the row, then the outflows by the rooms that the releases leave, which `room` is lent for.
+// The verdict on a row: its releases, then its outflows. The test of the releases stores the rooms in `room`, which is lent for this.
 pub fn verdict<'a, 'b>(
     n: usize,
     gate_capacity: u32,

@@ -6,7 +6,7 @@ ghost use mathlib.Core.Path.{_≡_};
 ghost use Rattle.model.specs.Refusals.{refusalNumber};
 ghost use Rattle.model.specs.Judging.{outflowFault};
 
-// One place's outflow: not above its demand, nor letting more into the next cell than the room.
+// The refusal of one place's outflow: 13 above its demand, then 14 if more than the room enters the next cell.
 pub fn outflow_refusal(outflow: u32, demand: u32, entering: u64, room: u32) -> Refusal
     ensures { λ q. ⌜ refusalNumber q ≡ outflowFault outflow demand entering room ⌝ }
 {

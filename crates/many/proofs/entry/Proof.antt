@@ -18,7 +18,7 @@ abbrev μ-loop : tie.MeasureT-loop
 loop-holds : tie.Need-loop-holds Inv-loop μ-loop
 loop-holds c = ramps-none
 
--- places of the code: the refusal's number and the exits from the loop's place, and the answer from the number
+-- places of the code: the refusal's number and the exits from the loop, and the answer from the number
 abbrev to-exits : tie.At-loop Inv-loop μ-loop → tie.After-exits Inv-loop μ-loop
 to-exits c = c .before .before .before
 

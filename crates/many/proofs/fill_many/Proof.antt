@@ -25,7 +25,7 @@ to-room c = c .before .before .before .before
 abbrev to-fill : tie.After-slice-known6 → tie.After-fill-studies
 to-fill c = c .before .before .before .before .before .before
 
--- a record that was read, and whole tables of arrivals
+-- the record reads, and the arrivals are whole tables
 reads : (c : tie.Else1) → refusalNumber (to-read c .read .result .refusal) ≡ 0
 reads c = sym (c .before .number .ensures) ∙ c .if1 .left
 

@@ -29,7 +29,7 @@ In c = c .before .before
 abbrev to-put : tie.After-slice-known2 Inv-loop μ-loop → tie.After-put-row Inv-loop μ-loop
 to-put c = c .before .before
 
--- the next row of the table lies within it, and is small to a machine
+-- the next row of the table is within it, and its end fits a machine number
 fits : (c : tie.In-loop Inv-loop μ-loop) →
     let a = A (Began (c .before)) .args in
     c .before .loop .from + (a .n + 1) ≤ length (a .table .now)

@@ -10,7 +10,7 @@ use Rattle.many.proofs.put_row.Statement.{statement}
 use Rattle.many.proofs.put_row.Tie as tie
 use borrow.Author.Needs.{needs}
 
--- of every record into which the gate's arrivals were put before the loop
+-- for every record into which the gate's arrivals were put before the loop
 abbrev Inv-loop : tie.InvT-loop
 Inv-loop bytes₀ version n t row start to₀ p₀ bytes to p =
     (s : List ℕ) → RowFits s version n t row → PlacesPut s version n t row bytes₀ to₀ 1 → PlacesPut s version n t row bytes to p
@@ -18,7 +18,7 @@ Inv-loop bytes₀ version n t row start to₀ p₀ bytes to p =
 abbrev μ-loop : tie.MeasureT-loop
 μ-loop bytes₀ version n t row start to₀ p₀ bytes to p = n + 1 - p
 
--- places of the code: the row's start from the gate's put, the arguments from that, and the loop's place from its turn's test and from the turn's end
+-- places of the code: the row's start from the gate's put, the arguments from it, and the loop from its turn's test and from the turn's end
 abbrev to-start : tie.After-shared-slice-known2 Inv-loop μ-loop → tie.After-row-start Inv-loop μ-loop
 to-start c = c .before .before
 
@@ -37,7 +37,7 @@ In c = c .before .before
 abbrev to-put : tie.After-slice-known3 Inv-loop μ-loop → tie.After-put-number2 Inv-loop μ-loop
 to-put c = c .before .before
 
--- the row's start, in the version that the bytes name
+-- the row's start, computed from the version in the bytes
 start-is : (c : tie.After-row-start Inv-loop μ-loop) →
     let a = A c .args in
     c .row-start .result ≡ rowStart (versionOf (a .bytes .now)) (a .n) (a .t)
@@ -53,7 +53,7 @@ begun c =
     let s = to-start (g .before) in
     places-first (A s .pre) (s .row-start .ensures) (g .put-number .ensures .bytes) (g .put-number .ensures .next)
 
--- so the invariant holds of the record given
+-- so the invariant holds for the record given
 turn : (c : tie.At-loop Inv-loop μ-loop) →
     let a = Args c .args in
     PlacesPut (a .bytes .now) (a .version) (a .n) (a .t) (a .row .now) (c .loop .bytes) (c .loop .to) (c .loop .p)

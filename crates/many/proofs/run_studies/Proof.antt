@@ -1,4 +1,4 @@
--- `many::run_studies` meets its contract. The invariant: k studies are run, their entries are in the answers. Assumes nothing.
+-- `many::run_studies` meets its contract. The invariant: k studies are run, and their entries are in the answers. Assumes nothing.
 use mathlib.Core.Path.{_≡_, refl, _∙_}
 use Prim.Native.Nat.{ℕ, _+_, _-_, _*_, _^_, _≤_, _<_}
 use native.Mathlib.Omega.{arith}
@@ -44,7 +44,7 @@ to-put c = c .before .before
 abbrev to-entry : tie.After-put-entry Inv-loop μ-loop → tie.After-entry Inv-loop μ-loop
 to-entry c = c .before .before
 
--- each entry has its numbers
+-- each entry has 73 numbers
 numbers : (c : tie.At-loop Inv-loop μ-loop) →
     let a = Args c .args in
     (k : ℕ) → length (runEntry (a .bytes .now) (a .table .now) (a .arrivals .now) (a .out .now) k) ≡ entrySize
@@ -59,7 +59,7 @@ done : (c : tie.At-loop Inv-loop μ-loop) →
     (l .bytes) (l .out) (l .answers) (l .from) (l .to) (l .k)
 done c = c .loop .inv .0
 
--- the next table and the next entry lie within their lists
+-- the next table and the next entry are within their lists
 table-within : (c : tie.In-loop Inv-loop μ-loop) →
     let a = Args (c .before) .args in
     c .before .loop .from + arrivalsSize (a .n) (a .steps) ≤ length (a .arrivals .now)
@@ -68,7 +68,7 @@ table-within c = let l = c .before in table-fits _ _ _ (Args l .pre) (numbers l)
 entry-within : (c : tie.In-loop Inv-loop μ-loop) → c .before .loop .to + entrySize ≤ length (c .before .loop .answers)
 entry-within c = let l = c .before in entry-fits _ _ _ (Args l .pre) (numbers l) (done l) (c .loop-test .taken)
 
--- the answers are as many as were lent, which is small to a machine
+-- there are as many answers as were lent, which fits a machine number
 answers-small : (c : tie.After-slice-known3 Inv-loop μ-loop) → length (A c .args .answers .now) * 8 < 2 ^ 64
 answers-small c = omega arith
 
@@ -77,7 +77,7 @@ entry-small c =
     let l = c .before in
     omega (arith, entry-within c, answers-size _ _ _ (Args l .pre) (numbers l) (done l), answers-small (l .before))
 
--- the record that is run is that of the study
+-- the record run is that of the study
 study : (c : tie.After-put-arrivals Inv-loop μ-loop) →
     let l = In (c .before) .before in
     let a = Args l .args in

@@ -17,7 +17,7 @@ to-read c = c .before .before
 abbrev to-passed : tie.After-refused → tie.Else1
 to-passed c = c .before .before
 
--- a record that was read
+-- the record reads
 read-well : (c : tie.Else1) → refusalNumber (to-read c .read .result .refusal) ≡ 0
 read-well c = sym (c .before .number .ensures) ∙ c .if1 .left
 

@@ -10,7 +10,7 @@ use Rattle.opening.proofs.refused.Statement.{statement}
 use Rattle.opening.proofs.refused.Tie as tie
 use borrow.Author.Needs.{needs}
 
--- places of the code: the arguments from the first test and past it, and the size's test from the search
+-- places of the code: the arguments from the first test and from after it, and the test of the size from the search
 abbrev A : tie.Else1 → tie.Start
 A c = c .before .before
 

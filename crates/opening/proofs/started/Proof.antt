@@ -24,7 +24,7 @@ to-passed c = c .before .before
 abbrev to-within : tie.After-start-refusal → tie.After-state-within
 to-within c = c .before
 
--- a record that was opened
+-- the record was opened
 opens : (c : tie.Else1) → refusalNumber (to-opened c .opened .result .refusal) ≡ 0
 opens c = sym (c .before .number .ensures) ∙ c .if1 .left
 

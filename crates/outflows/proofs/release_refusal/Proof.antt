@@ -4,7 +4,7 @@ use native.Mathlib.Omega.{arith}
 use Rattle.outflows.proofs.release_refusal.Statement.{statement}
 use Rattle.outflows.proofs.release_refusal.Tie as tie
 
--- the arguments, past the first test
+-- places of the code: the arguments, from after the first test
 abbrev A : tie.Else1 → tie.Start
 A c = c .before
 

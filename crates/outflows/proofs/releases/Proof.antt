@@ -4,7 +4,7 @@ use Rattle.outflows.proofs.releases.Statement.{statement}
 use Rattle.outflows.proofs.releases.Tie as tie
 use borrow.Author.Needs.{needs}
 
--- the arguments, from what is found
+-- places of the code: the arguments from the result
 abbrev A : tie.After-releases → tie.Start
 A c = c .before .before .before .before .before .before .before .before .before .before
 

@@ -1,4 +1,4 @@
--- `stepping::fill_outflows` meets its contract: the releases fit, so their look leaves the rooms. Assumes nothing.
+-- `stepping::fill_outflows` meets its contract: the releases fit, so their test leaves the rooms. Assumes nothing.
 use mathlib.Core.Path.{ap, _∙_}
 use Rattle.model.specs.Refusals.{FaultAnswer}
 use Rattle.theory.specs.StepLaws.{fit-releases}
@@ -7,7 +7,7 @@ use Rattle.stepping.proofs.fill_outflows.Statement.{statement}
 use Rattle.stepping.proofs.fill_outflows.Tie as tie
 use borrow.Author.Needs.{needs}
 
--- the arguments, from where the rooms are lent; the look at the releases, from the row filled, and where its rooms were lent
+-- places of the code: the arguments from the loan of the rooms; the test of the releases from the row filled; and the loan before that test
 abbrev A : tie.After-room → tie.Start
 A c = let s = c .before .before .before .before .before in s .before .before .before .before .before
 

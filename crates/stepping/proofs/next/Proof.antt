@@ -4,7 +4,7 @@ use Rattle.stepping.proofs.next.Statement.{statement}
 use Rattle.stepping.proofs.next.Tie as tie
 use borrow.Author.Needs.{needs}
 
--- the arguments, from the outflows' call, and the row filled, from where the next state is
+-- places of the code: the arguments from the call for the outflows, and the row filled from the next state
 abbrev A : tie.After-fill-outflows-arg → tie.Start
 A c = c .before .before .before
 

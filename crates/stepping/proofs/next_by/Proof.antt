@@ -4,7 +4,7 @@ use borrow.Author.Needs.{needs}
 use Rattle.stepping.proofs.next_by.Statement.{statement}
 use Rattle.stepping.proofs.next_by.Tie as tie
 
--- places of the code: the columns of the state taken, from where they are lent, and the arguments
+-- places of the code: the state's columns from their loan, and the arguments
 abbrev Taken : tie.After-cumulative2 → tie.After-cumulative
 Taken c = c .before .before .before .before .before
 

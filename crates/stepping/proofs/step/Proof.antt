@@ -15,7 +15,7 @@ use Rattle.stepping.proofs.step.Tie as tie
 use native.Mathlib.Omega.{arith}
 use borrow.Author.Needs.{needs}
 
--- places of the code: the arguments from the input's test, the place past that test from the lanes', and the lanes' from the capacities
+-- places of the code: the arguments from the test of the input, after that test from the test of the lanes, and this from the capacities
 abbrev A : tie.After-input-within → tie.Start
 A c = c .before .before
 
@@ -42,7 +42,7 @@ lanes c =
     let u : length (c .args .t5) ≡ mostCells = search needs in
     (b, u)
 
--- what is known past the input's test
+-- the fact after the test of the input
 input : (c : tie.Else1) → let a = A (c .before) .args in inputOk (a .r) (a .s) (a .row .now) ≡ true
 input c = sym (c .before .input-within .ensures) ∙ not-false _ (c .if1 .left)
 

@@ -10,7 +10,7 @@ use Rattle.stepping.proofs.step_on.Tie as tie
 use native.Mathlib.Omega.{arith}
 use borrow.Author.Needs.{needs}
 
--- places of the code: the arguments from both sides of the steps' test, past that test, and past the releases'
+-- places of the code: the arguments from both sides of the test of the steps, after it, and after the test of the releases
 abbrev Done : tie.Then1 → tie.Start
 Done c = c .before .before .before
 
@@ -23,7 +23,7 @@ Left c = c .before .before
 abbrev Clear : tie.After-y → tie.Else2
 Clear c = c .before .before
 
--- what is known once the releases are looked through
+-- the facts after the test of the releases
 looked : (c : tie.After-number) →
     let a = A (Left c) .args in
     ReleaseFinding (a .r) (a .s) (a .row .now) (c .before .releases .result) (c .number .result)

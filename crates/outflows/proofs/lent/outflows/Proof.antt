@@ -22,7 +22,7 @@ Inv-loop n gate-capacity speed share capacity gate-queue gate-cumulative held cu
 abbrev μ-loop : tie.MeasureT-loop
 μ-loop n gate-capacity speed share capacity gate-queue gate-cumulative held cumulative room y₀ part₀ before₀ demand₀ i₀ y part before demand i = n - i
 
--- the arguments, from the gate's demand and from the loop's place, and a turn's outflow and its start from its end
+-- places of the code: the arguments from the gate's demand and from the loop; a turn's outflow and its start from its end
 abbrev Gate : tie.After-gate-demand Inv-loop μ-loop → tie.Start Inv-loop μ-loop
 Gate c = c .before .before
 

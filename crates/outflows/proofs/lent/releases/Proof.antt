@@ -1,4 +1,4 @@
--- `outflows::lent::releases` meets its contract. The invariant: the releases of the i cells passed fit, and their rooms are kept. Assumes nothing.
+-- `outflows::lent::releases` meets its contract. The invariant: the releases of the first i cells fit, and their rooms are stored. Assumes nothing.
 use mathlib.Core.Path.{_≡_, sym, _∙_}
 use mathlib.Core.List.{List}
 use Prim.Native.Nat.{ℕ, _-_}
@@ -28,7 +28,7 @@ Inv-loop n wave jam capacity held queue row room₀ i₀ room i =
 abbrev μ-loop : tie.MeasureT-loop
 μ-loop n wave jam capacity held queue row room₀ i₀ room i = n - i
 
--- the arguments, from the loop's place; a turn's start, from its supply; the supply, from the most; and the most, from the refusal
+-- places of the code: the arguments from the loop; a turn's start from its supply, the supply from the greatest release, and this from the refusal
 abbrev A : tie.At-loop Inv-loop μ-loop → tie.Start Inv-loop μ-loop
 A c = c .before .before
 
@@ -41,7 +41,7 @@ Supply c = c .before .before .before
 abbrev Most : tie.After-release-refusal Inv-loop μ-loop → tie.After-most-release Inv-loop μ-loop
 Most c = c .before
 
--- any road and any state with the columns that were lent, and what a turn finds on it
+-- any road and any state with the columns that were lent, and the results of a turn on them
 abbrev On : tie.Start Inv-loop μ-loop → Road → Road
 On c r = let a = c .args in supplying r (a .n) (a .wave .now) (a .jam .now) (a .capacity .now)
 

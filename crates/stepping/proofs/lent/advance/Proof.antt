@@ -1,5 +1,5 @@
--- `stepping::lent::advance` meets its contract. The invariant: the gate and the first i cells are moved, and what these then hold and what
--- waits at their ramps is added. Assumes nothing.
+-- `stepping::lent::advance` meets its contract. The invariant: the gate and the first i cells are moved, and their held counts and ramp queues
+-- are added. Assumes nothing.
 use mathlib.Core.Path.{_≡_}
 use Prim.Native.Nat.{_+_, _-_, _≤_, _<_}
 use lib.ListN.{length}
@@ -24,8 +24,8 @@ Inv-loop n share l held₀ queue₀ cumulative₀ row y first waiting entering�
 abbrev μ-loop : tie.MeasureT-loop
 μ-loop n share l held₀ queue₀ cumulative₀ row y first waiting entering₀ on-road₀ at-ramps₀ i₀ held queue cumulative entering on-road at-ramps i = n - i
 
--- places of the code: the arguments from the gate's move, which is before the loop; a turn's start from what the cell holds, from what waits, from both
--- and from the sums; and the loop's end from the gate's time, which is before the times of road and ramps
+-- places of the code: the arguments from the gate's move, which is before the loop; a turn's start from the held count, from the queue, from both
+-- and from the sums; and the loop's end from the gate time, which comes before the times of road and ramps
 abbrev A-gate : tie.After-struct-known Inv-loop μ-loop → tie.Start Inv-loop μ-loop
 A-gate c = c .before .before .before .before .before
 
@@ -53,7 +53,7 @@ Ended c = c .before .before
 abbrev Gate-time : tie.After-struct-known4 Inv-loop μ-loop → tie.After-wide3 Inv-loop μ-loop
 Gate-time c = c .before .before
 
--- what the gate's move and a turn of the loop know of their numbers
+-- the facts about the numbers of the gate's move and of a turn of the loop
 known-gate : (c : tie.After-struct-known Inv-loop μ-loop) →
     let a = A-gate c .args in
     Gate (stateOf (a .l) (a .held .now) (a .queue .now) (a .cumulative .now)) (a .row .now) (a .y .now)
@@ -66,7 +66,7 @@ known : (c : tie.In-loop Inv-loop μ-loop) →
     (p .loop .i) (p .loop .entering)
 known c = let p = c .before in turn (A p .pre .movable) (p .loop .inv .0 (A p .pre .road)) (c .loop-test .taken)
 
--- the cell at i is not yet moved
+-- the cell at i is not moved yet
 held-here : (c : tie.In-loop Inv-loop μ-loop) → let p = c .before in at (p .loop .held) (p .loop .i) ≡ at (A p .args .held .now) (p .loop .i)
 held-here c = let p = c .before in held-there (p .loop .inv .0 (A p .pre .road))
 
@@ -78,7 +78,7 @@ cumulative-here : (c : tie.In-loop Inv-loop μ-loop) →
     at (p .loop .cumulative) (p .loop .i) ≡ at (A p .args .cumulative .now) (p .loop .i)
 cumulative-here c = let p = c .before in cumulative-there (p .loop .inv .0 (A p .pre .road))
 
--- counting needs nothing more when all cells are moved
+-- when all cells are moved, counting has no further precondition
 counts : (c : tie.After-loop Inv-loop μ-loop) →
     let p = c .before in
     let a = A p .args in

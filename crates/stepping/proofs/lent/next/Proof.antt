@@ -1,4 +1,4 @@
--- `stepping::lent::next` meets its contract: the row that is filled may be moved by. Assumes nothing.
+-- `stepping::lent::next` meets its contract: the row filled may be used for the move. Assumes nothing.
 use mathlib.Core.Path.{ap, _∙_}
 use Rattle.model.specs.declared.Road.{Road}
 use Rattle.model.specs.declared.State.{State}
@@ -9,7 +9,7 @@ use Rattle.stepping.proofs.lent.next.Statement.{statement}
 use Rattle.stepping.proofs.lent.next.Tie as tie
 use borrow.Author.Needs.{needs}
 
--- the row filled, from the move's arguments, and the arguments from it
+-- places of the code: the row filled from the arguments of the move, and the function's arguments from it
 abbrev Filled : tie.After-advance-arg4 → tie.After-outflows
 Filled c = c .before .before .before .before .before .before
 

@@ -1,4 +1,4 @@
--- `verdict::lent::outflows_fault` meets its contract. The invariant: the outflows of the i places passed obey. Assumes nothing.
+-- `verdict::lent::outflows_fault` meets its contract. The invariant: the outflows of the first i places obey. Assumes nothing.
 use mathlib.Core.Path.{_≡_, sym, ap, _∙_}
 use mathlib.Core.List.{List}
 use Prim.Native.Nat.{ℕ, _+_, _-_}
@@ -28,8 +28,8 @@ Inv-loop n gate-capacity speed share capacity gate-queue gate-cumulative held cu
 abbrev μ-loop : tie.MeasureT-loop
 μ-loop n gate-capacity speed share capacity gate-queue gate-cumulative held cumulative room y part₀ before₀ demand₀ i₀ part before demand i = n - i
 
--- places of the code: the arguments from the loop's place, a turn's start and what enters from the refusal, and the refusal from the turn's end, by its
--- test
+-- places of the code: the arguments from the loop, a turn's start and what enters from the refusal, and the refusal from the turn's end, by way of
+-- its test
 abbrev A : tie.At-loop Inv-loop μ-loop → tie.Start Inv-loop μ-loop
 A c = c .before .before .before
 
@@ -54,7 +54,7 @@ On c r =
 abbrev From : tie.Start Inv-loop μ-loop → Ledger → List ℕ → State
 From c l queue = let a = c .args in stateOf (gated l (a .gate-queue) (a .gate-cumulative)) (a .held .now) queue (a .cumulative .now)
 
--- what a turn finds on it, by its rooms
+-- the results of a turn on them, from its rooms
 found : (c : tie.After-outflow-refusal Inv-loop μ-loop) (r : Road) (l : Ledger) (queue row : List ℕ) →
     let p = In c .before in
     let a = A p .args in

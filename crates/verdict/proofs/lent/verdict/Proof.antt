@@ -10,7 +10,7 @@ use Rattle.verdict.proofs.lent.verdict.Statement.{statement}
 use Rattle.verdict.proofs.lent.verdict.Tie as tie
 use borrow.Author.Needs.{needs}
 
--- the arguments, from the number of the releases' refusal
+-- places of the code: the arguments from the number of the releases' refusal
 abbrev A : tie.After-number → tie.Start
 A c = c .before .before .before .before .before
 
