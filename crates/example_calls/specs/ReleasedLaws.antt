@@ -1,4 +1,4 @@
--- The two ends of `released`, as the code comes to them. Assumes nothing.
+-- The two cases of `released`, as its code reaches them. Assumes nothing.
 use mathlib.Core.Path.{_≡_, refl, sym, ap, _∙_}
 use mathlib.Core.List.{List}
 use Prim.Native.Nat.{ℕ, _≤_, _<_}
@@ -12,13 +12,13 @@ use Rattle.model.specs.RowNumbers.{takenList}
 use Rattle.model.specs.Writing.{WriteAnswer, writingOf, targetAfter}
 use Rattle.example_calls.specs.ReleasedRecord.{releasedRows, releasedCount, releasedTarget}
 
--- what it gives and leaves
+-- its answer, and the list and the target that it leaves
 abbrev pub Left : List ℕ → ℕ → List ℕ → List ℕ → ℕ → List ℕ → List ℕ → Type 0
 Left bytes release list target count rows after =
     (count ≡ releasedCount bytes release list target)
     × ((rows ≡ releasedRows bytes release list) × (after ≡ releasedTarget bytes release list target))
 
--- of a record that was read, with its rows in the list
+-- for a record that was read, with its rows in the list
 module _ (bytes : List ℕ) (release : ℕ) (list target : List ℕ) {x : ReadAnswer} (e : x ≡ readingOf bytes) {rows : List ℕ}
     (taken : rows ≡ takenList bytes (x .road .n) (x .steps) list) where
   stored : set rows 4 release ≡ releasedRows bytes release list
@@ -30,7 +30,7 @@ module _ (bytes : List ℕ) (release : ℕ) (list target : List ℕ) {x : ReadAn
       let s : rows ≡ releasedRows bytes release list = sym (set-out rows 4 release m) ∙ stored in
       (rw (le-leb (length list) 4 l) refl, (s, rw (le-leb (length list) 4 l) refl))
 
-  -- it has one, and the record is written
+  -- the list has a number 4, and the record is written
   pub left-written : 4 < length list → {a : WriteAnswer} {after : List ℕ} → a ≡ writingOf (x .road) (x .steps) (startIn (x .state)) (set rows 4 release) target
       → after ≡ targetAfter (x .road) (x .steps) (startIn (x .state)) (set rows 4 release) target
       → Left bytes release list target (a .count) (set rows 4 release) after

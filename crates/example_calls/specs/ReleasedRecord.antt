@@ -1,4 +1,4 @@
--- What `released` gives and leaves: the record's rows with another release of cell 2 in step 0, and the record written with them. Assumes nothing.
+-- What `released` answers and leaves: the record's rows with another release of cell 2 in step 0, and the record written with them. Assumes nothing.
 use mathlib.Core.Bool.{cond}
 use mathlib.Core.List.{List}
 use Prim.Native.Nat.{ℕ}
@@ -9,17 +9,17 @@ use Rattle.model.specs.Reading.{readingOf}
 use Rattle.model.specs.RowNumbers.{takenList}
 use Rattle.model.specs.Writing.{writingOf, targetAfter}
 
--- the lent list: the record's rows, number 4 of them the release; a list of fewer numbers has none
+-- the lent list: the record's rows with the release as number 4; unchanged there if the list is shorter
 abbrev pub releasedRows : List ℕ → ℕ → List ℕ → List ℕ
 releasedRows bytes release list = set (takenList bytes (readingOf bytes .road .n) (readingOf bytes .steps) list) 4 release
 
--- the bytes that writing counts, 0 where the list has no number 4
+-- the count of bytes that writing returns, 0 if the list has no number 4
 abbrev pub releasedCount : List ℕ → ℕ → List ℕ → List ℕ → ℕ
 releasedCount bytes release list target =
     cond (leb (length list) 4) 0
     (writingOf (readingOf bytes .road) (readingOf bytes .steps) (startIn (readingOf bytes .state)) (releasedRows bytes release list) target .count)
 
--- the target: as writing leaves it, unchanged where the list has no number 4
+-- the target that writing leaves; unchanged if the list has no number 4
 abbrev pub releasedTarget : List ℕ → ℕ → List ℕ → List ℕ → List ℕ
 releasedTarget bytes release list target =
     cond (leb (length list) 4) target

@@ -1,4 +1,4 @@
-// The calls that README shows, word for word.
+// The calls that docs/API.md shows, word for word.
 ghost use mathlib.Core.Bool.{cond};
 ghost use mathlib.Core.List.{[]};
 ghost use Prim.Native.Nat.{min};

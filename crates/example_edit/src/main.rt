@@ -1,11 +1,11 @@
-// Reads a record, changes a release, writes the record, and prints the run of each, by the call that README shows.
+// Reads a record, changes a release, writes the record, and prints the run of each, by the call that docs/API.md shows.
 
 fn show(label: &[u8], value: u64) {
     io::write_all(1, label);
     io::print_decimal(1, value);
 }
 
-// Bytes, the release, and the total and the exits of the run with all lanes open.
+// Prints the count of bytes, the release, and the total and the exits of the run with all lanes open.
 fn shown(bytes: &[u8], release: u32) {
     let mut list = [0u32; 9];
     let ended = freeway::run(bytes, b"", &mut list);
@@ -17,7 +17,7 @@ fn shown(bytes: &[u8], release: u32) {
     io::write_all(1, b"\n");
 }
 
-// The record with this release, shown.
+// Writes the record with this release, and prints its run.
 fn edited(bytes: &[u8], release: u32) {
     let mut list = [0u32; 15];
     let mut target = [0u8; 124];

@@ -1,4 +1,4 @@
--- Laws of what C is answered: a struct that the code makes of a refusal's number and an answer's other parts, and that it settles the answer.
+-- Laws of the answers that C receives: the struct that the code makes from a refusal's number and the other parts, and that it determines the answer.
 -- Assumes nothing.
 use mathlib.Core.Path.{_≡_, refl, ap, _∙_}
 use mathlib.Core.List.{List}
@@ -27,18 +27,18 @@ use Rattle.model.specs.Ramps.{Metered, metered}
 use Rattle.exports.specs.declared.NobyalukFilled.{NobyalukFilled}
 use Rattle.exports.specs.Answers.{filledFor, longestFor, steppedFor, writtenFor, loadedFor, wantedFor, releasedFor, manyFor}
 
--- of running and filling with their longest queues
+-- the answer of running and filling with their longest queues
 pub longest-is : {r : NobyalukLongest} (e f : EndAnswer) (q p : Queues) → r ≡ longestFor e q → e ≡ f → q ≡ p → r ≡ longestFor f p
 longest-is e f q p h x y = h ∙ ap (λ (a : EndAnswer). longestFor a q) x ∙ ap (longestFor f) y
 
--- of filling that goes on: s is the state of the answer
+-- the answer of filling that goes on; s is the state in it
 pub filled-is : {r : NobyalukLongest} {f : EndAnswer} {q : Queues} {s : State} {releases entries : List ℕ} {p : Metered} → r ≡ longestFor f q
     → metered s releases entries ≡ p
     → _≡_ {A = NobyalukFilled} (record { longest = r; releases = releases; entries = entries }) (filledFor f q p)
 filled-is {f = f} {q} {releases = releases} {entries} h e =
     ap (λ (x : NobyalukLongest). record { longest = x; releases = releases; entries = entries }) h ∙ ap (filledFor f q) e
 
--- of writing and joining
+-- the answer of writing and joining
 pub written-is : (w : Written) {number : ℕ} {a : WriteAnswer} → number ≡ refusalNumber (w .refusal) → writeAnswer w ≡ a
     → _≡_ {A = NobyalukWritten} (record { number = number; place = w .place; count = w .count }) (writtenFor a)
 written-is w n e = ap (λ (k : ℕ). record { number = k; place = w .place; count = w .count }) n ∙ ap writtenFor e
@@ -59,9 +59,9 @@ pub stepped-is : (x : Stepped) {number : ℕ} {a : Answer} → number ≡ refusa
     → _≡_ {A = NobyalukStepped} (record { number = number; place = x .place; state = x .state }) (steppedFor a)
 stepped-is x n e = ap (λ (k : ℕ). record { number = k; place = x .place; state = x .state }) n ∙ ap steppedFor e
 
--- What C is answered settles the operation's answer: `readingFor`, `endedFor`, `writtenFor`, `loadedFor`, `releasedFor` and `manyFor` keep every part of it, and
--- `steppedFor` leaves out the step, which is always 0. `wantedFor` leaves out whether there was a search, which the other parts settle:
--- of two searches, whatever their arguments, none, a table found and 23 differ
+-- What C receives determines the operation's answer. `readingFor`, `endedFor`, `writtenFor`, `loadedFor`, `releasedFor` and `manyFor` keep every part;
+-- `steppedFor` leaves out the step, which is always 0. `wantedFor` leaves out whether there was a search, which the other parts determine:
+-- none, a table found and 23 give different structs, whatever the arguments
 pub wanted-apart : {s c r z d q : ℕ} {arrivals table comes lent : List ℕ} {a b : WantedAnswer} {left kept : List ℕ} → WantedEnds s c r arrivals table a left
     → WantedEnds z d q comes lent b kept → wantedFor a ≡ wantedFor b → a ≡ b
 wanted-apart (WantedEnds.refused h) (WantedEnds.refused k) e = refl

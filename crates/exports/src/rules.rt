@@ -3,7 +3,7 @@ ghost use mathlib.Core.Path.{_≡_};
 ghost use Rattle.model.specs.Flow.{demandOf, gateDemandOf, supplyOf, roomOf, onwardOf, enteringOf, outflowOf};
 ghost use Rattle.model.specs.Lanes.{openCapacity};
 
-// What a cell can send in a step.
+// The demand of a cell.
 #[no_mangle]
 pub extern "C" fn nobyaluk_demand(speed: u16, capacity: u32, held: u32) -> u32
     ensures { λ r. ⌜ r ≡ demandOf speed capacity held ⌝ }
@@ -11,7 +11,7 @@ pub extern "C" fn nobyaluk_demand(speed: u16, capacity: u32, held: u32) -> u32
     freeway::demand(speed, capacity, held)
 }
 
-// What the gate can send.
+// The demand of the gate.
 #[no_mangle]
 pub extern "C" fn nobyaluk_gate_demand(capacity: u32, queue: u32) -> u32
     ensures { λ r. ⌜ r ≡ gateDemandOf capacity queue ⌝ }
@@ -19,7 +19,7 @@ pub extern "C" fn nobyaluk_gate_demand(capacity: u32, queue: u32) -> u32
     freeway::gate_demand(capacity, queue)
 }
 
-// What a cell can take.
+// The supply of a cell.
 #[no_mangle]
 pub extern "C" fn nobyaluk_supply(wave: u16, capacity: u32, jam: u32, held: u32) -> u32
     ensures { λ r. ⌜ r ≡ supplyOf wave capacity jam held ⌝ }
@@ -27,7 +27,7 @@ pub extern "C" fn nobyaluk_supply(wave: u16, capacity: u32, jam: u32, held: u32)
     freeway::supply(wave, capacity, jam, held)
 }
 
-// What a release leaves of a supply.
+// The room: a supply less a release.
 #[no_mangle]
 pub extern "C" fn nobyaluk_room(supply: u32, release: u32) -> u32
     ensures { λ r. ⌜ r ≡ roomOf supply release ⌝ }
@@ -35,7 +35,7 @@ pub extern "C" fn nobyaluk_room(supply: u32, release: u32) -> u32
     freeway::room(supply, release)
 }
 
-// What has gone on of a place's cumulative outflow.
+// The onward total of a place with this cumulative outflow.
 #[no_mangle]
 pub extern "C" fn nobyaluk_onward(share: u16, cumulative: u32) -> u64
     ensures { λ r. ⌜ r ≡ onwardOf share cumulative ⌝ }
@@ -43,7 +43,7 @@ pub extern "C" fn nobyaluk_onward(share: u16, cumulative: u32) -> u64
     freeway::onward(share, cumulative)
 }
 
-// What an outflow lets into the next cell.
+// What enters the next cell with an outflow.
 #[no_mangle]
 pub extern "C" fn nobyaluk_entering(share: u16, cumulative: u32, outflow: u32) -> u64
     ensures { λ r. ⌜ r ≡ enteringOf share cumulative outflow ⌝ }
@@ -51,7 +51,7 @@ pub extern "C" fn nobyaluk_entering(share: u16, cumulative: u32, outflow: u32) -
     freeway::entering(share, cumulative, outflow)
 }
 
-// The greatest outflow within the demand whose onward part fits the room, by one division.
+// The greatest outflow up to the demand whose entering part fits the room, by one division.
 #[no_mangle]
 pub extern "C" fn nobyaluk_outflow(share: u16, cumulative: u32, room: u32, demand: u32) -> u32
     ensures { λ r. ⌜ r ≡ outflowOf share cumulative room demand ⌝ }
@@ -72,7 +72,7 @@ pub extern "C" fn nobyaluk_outflow_by_halves(
     freeway::outflow_by_halves(share, cumulative, room, demand)
 }
 
-// What the open lanes leave of a capacity.
+// The capacity that the open lanes leave.
 #[no_mangle]
 pub extern "C" fn nobyaluk_open_capacity(capacity: u32, built: u8, usable: u8) -> u32
     ensures { λ r. ⌜ r ≡ openCapacity capacity built usable ⌝ }

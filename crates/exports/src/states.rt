@@ -1,4 +1,4 @@
-// What a state holds, of any road and state.
+// Present, exits and the total, for any road and state.
 use freeway::Road;
 use freeway::State;
 use freeway::Weights;
@@ -34,7 +34,7 @@ pub extern "C" fn nobyaluk_at_ramps(road: Road, state: State) -> u64
     freeway::at_ramps(road, state)
 }
 
-// What is present, each place and ramp queue times its weight.
+// Present with weights: each place and ramp queue times its weight.
 #[no_mangle]
 pub extern "C" fn nobyaluk_weighted(road: Road, state: State, weights: Weights) -> u64
     ensures { λ r. ⌜ r ≡ weightedPresent (at (weights .places)) (at (weights .ramps)) (road .n) state ⌝ }
@@ -42,7 +42,7 @@ pub extern "C" fn nobyaluk_weighted(road: Road, state: State, weights: Weights) 
     freeway::weighted(road, state, weights)
 }
 
-// What has left by the off-ramps and the road's end.
+// The exits: all that has left by the off-ramps and the road's end.
 #[no_mangle]
 pub extern "C" fn nobyaluk_exits(road: Road, state: State) -> u64
     ensures { λ r. ⌜ r ≡ exitsOf road state ⌝ }
@@ -58,7 +58,7 @@ pub extern "C" fn nobyaluk_total(state: State) -> u64
     state.total()
 }
 
-// Total time spent in vehicle-seconds, at so many seconds a step.
+// Total time spent in vehicle-seconds, with so many seconds per step.
 #[no_mangle]
 pub extern "C" fn nobyaluk_vehicle_seconds(seconds: u16, state: State) -> u64
     ensures { λ r. ⌜ r ≡ vehicleSecondsOf seconds state ⌝ }

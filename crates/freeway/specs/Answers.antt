@@ -1,5 +1,5 @@
--- No two answers of the code have the same numbers, so a contract that names the numbers settles the answer. Each law says it of one type of answer.
--- Granting answers a refusal; a weighted run answers an `Ended` and a number; all other operations answer one of these types. Assumes nothing.
+-- No two answers of the code have the same numbers, so a contract that states the numbers determines the answer. One law for each type of answer:
+-- granting answers a refusal, a weighted run an `Ended` and a number, and every other operation one of these types. Assumes nothing.
 use mathlib.Core.Path.{_≡_, refl, sym, ap, _∙_}
 use mathlib.Core.Bool.{cond}
 use mathlib.Core.List.{List, [], _∷_}
@@ -23,7 +23,7 @@ use Rattle.model.specs.Reading.{ReadAnswer, readAnswer}
 use Rattle.model.specs.Writing.{WriteAnswer, writeAnswer}
 use Rattle.model.specs.Running.{EndAnswer, endAnswer}
 
--- where what was mapped is read back from what it is mapped to, no two are mapped to the same
+-- if a map can be read back, no two things are mapped to the same
 same : {A B : Type 0} (numbers : A → B) (back : B → A) → ((x : A) → back (numbers x) ≡ x) → (x y : A) → numbers x ≡ numbers y → x ≡ y
 same numbers back reads x y e = sym (reads x) ∙ ap back e ∙ reads y
 
@@ -70,11 +70,11 @@ read-back refusal.Peak = refl
 read-back refusal.CallerLimits = refl
 read-back refusal.ManyLengths = refl
 
--- two refusals with one number are the same refusal
+-- two refusals with the same number are the same refusal
 pub refusal-same : (q p : Refusal) → refusalNumber q ≡ refusalNumber p → q ≡ p
 refusal-same = same refusalNumber refusalWith read-back
 
--- a fault of putting a release
+-- the answer of putting a release
 pub fault-same : (x y : Fault) → faultAnswer x ≡ faultAnswer y → x ≡ y
 fault-same =
     same faultAnswer (λ (a : FaultAnswer). record { refusal = refusalWith (a .number); place = a .place })
@@ -91,14 +91,14 @@ stepped-same =
     same stepAnswer (λ (a : Answer). record { refusal = refusalWith (a .number); step = a .step; place = a .place; state = a .state })
     (λ x. ap (λ (q : Refusal). record { refusal = q; step = x .step; place = x .place; state = x .state }) (read-back (x .refusal)))
 
--- of running, filling, judging and history
+-- the answer of running, filling, judging and history
 pub ended-same : (x y : Ended) → endAnswer x ≡ endAnswer y → x ≡ y
 ended-same =
     same endAnswer
     (λ (a : EndAnswer). record { refusal = refusalWith (a .number); step = a .step; place = a .place; road = a .road; state = a .state })
     (λ x. ap (λ (q : Refusal). record { refusal = q; step = x .step; place = x .place; road = x .road; state = x .state }) (read-back (x .refusal)))
 
--- of writing and joining
+-- the answer of writing and joining
 pub written-same : (x y : Written) → writeAnswer x ≡ writeAnswer y → x ≡ y
 written-same =
     same writeAnswer (λ (a : WriteAnswer). record { refusal = refusalWith (a .number); place = a .place; count = a .count })
@@ -109,7 +109,7 @@ loaded-same =
     same loadAnswer (λ (a : LoadAnswer). record { refusal = refusalWith (a .number); last = a .last })
     (λ x. ap (λ (q : Refusal). record { refusal = q; last = x .last }) (read-back (x .refusal)))
 
--- of the search for a wanted queue: none is no refusal without a number
+-- the answer of the search for a wanted queue: the answer none is not a refusal without a number
 pub wanted-same : (x y : Wanted) → wantedAnswer x ≡ wantedAnswer y → x ≡ y
 wanted-same = same wantedAnswer back reads
   where

@@ -1,6 +1,7 @@
--- Theorems: going on after k steps is the whole, which `theory/GoingOn` has for states, outflows and ends. Going on from an own state or progress is never
--- refused with 7 or 8; filled studies go on too; weighted totals add up, and each longest queue is the greater of both; demand 3 holds of a run in
--- stretches; from a record's own start going on is running, judging and filling; and filling that goes on changes only releases. Assumes nothing.
+-- Theorems: going on after k steps is the whole; `theory/GoingOn` has it for states, outflows and ends. Going on from a run's own state, or from
+-- filling's progress, is never refused with 7 or 8. Filled studies go on too. Weighted totals add up, and each longest queue is the greater of both.
+-- Demand 3 holds for a run in stretches. From a record's own start, going on is running, judging and filling. Filling that goes on changes only releases.
+-- Assumes nothing.
 use mathlib.Core.Path.{_≡_, refl, sym, ap, _∙_, subst⁻¹}
 use mathlib.Core.Bool.{true}
 use mathlib.Core.List.{List}
@@ -55,13 +56,13 @@ starts-within : (b : Study) → RoadOk (b .road) → StateOk (b .road) (b .start
 unfolding stateFault
 starts-within b road state few = rw (state-ok (b .road) (b .start) road state, le-leb (b .start .done + b .steps) mostSteps few) refl
 
--- the road of a step stays where releases are filled
+-- filling releases does not change the road of a step
 filled-roads : (laws : List Law) (a : Study) (m : Metered) (j : ℕ) → roadAt (filledFrom laws a m) j ≡ roadAt a j
 unfolding roadAt
 filled-roads laws a m j = refl
 
 module _ {a b : Study} {k : ℕ} (h : Rest a b k) where
-  -- going on from an own state is never refused with 7 or 8
+  -- going on from the run's own state is never refused with 7 or 8
   pub starts-rest : StudyOk a → ((j : ℕ) → j < k → runSays a j .number ≡ 0) → b .start ≡ engineAfter a k → stateFault b ≡ 0
   starts-rest ok none s =
       let r = run-reached a ok k (omega (arith, h .steps)) none in
@@ -70,7 +71,7 @@ module _ {a b : Study} {k : ℕ} (h : Rest a b k) where
       (subst⁻¹ (λ (q : Road). StateOk q (b .start)) (h .road) (subst⁻¹ (StateOk (a .road)) s (r .state)))
       (omega (arith, done, h .steps, ok .steps))
 
-  -- what is left of a filled study is the study that filling fills going on
+  -- the rest of a filled study is the study that filling gives when it goes on
   pub filled-rest : (laws : List Law) (m p : Metered) → p ≡ meteredFrom laws a m k → Rest (filledFrom laws a m) (filledFrom laws b p) k
   filled-rest laws m p e = record {
     road = h .road;
@@ -81,7 +82,7 @@ module _ {a b : Study} {k : ℕ} (h : Rest a b k) where
 
 -- states that go on after k steps, up to step T of the rest
 module _ (after then : ℕ → State) (k T : ℕ) (states : (j : ℕ) → j ≤ T → then j ≡ after (k + j)) where
-  -- the weighted total is the sum over both
+  -- the weighted total is the sum over both stretches
   pub weighted-states : (w u : ℕ → ℕ) (n j : ℕ) → j ≤ T → weightedTotal w u n after (k + j) ≡ weightedTotal w u n after k + weightedTotal w u n then j
   weighted-states w u n zero l =
       ap (weightedTotal w u n after) (add-zero k) ∙ omega (arith, weighted-total-none w u n then)
@@ -91,7 +92,7 @@ module _ (after then : ℕ → State) (k T : ℕ) (states : (j : ℕ) → j ≤ 
       ap (weightedTotal w u n after) (add-suc k j)
       ∙ omega (arith, weighted-total-more w u n after (k + j), weighted-total-more w u n then j, weighted-states w u n j (omega arith), e)
 
--- the greatest of the first k + j values is the greater of that of the first k and that of the j after them
+-- the greatest of the first k + j values is the greater of two: of the first k, and of the j after them
 pub greatest-rest : (f g : ℕ → ℕ) (k j : ℕ) → ((i : ℕ) → i < j → g i ≡ f (k + i)) → greatestOf f (k + j) ≡ max (greatestOf f k) (greatestOf g j)
 unfolding greatestOf
 greatest-rest f g k zero same = ap (greatestOf f) (add-zero k) ∙ omega arith
@@ -99,7 +100,7 @@ greatest-rest f g k (suc j) same =
     ap (greatestOf f) (add-suc k j)
     ∙ omega (arith, greatest-rest f g k j (λ i l. same i (omega arith)), same j (le-refl (suc j)))
 
--- each of the longest queues of n ramps is the greater of two
+-- each of the longest queues is the greater of two
 pub record Greater (n : ℕ) (whole first rest : Queues) : Type 0 where
   pub gate : whole .gate ≡ max (first .gate) (rest .gate)
   pub waiting : whole .waiting ≡ max (first .waiting) (rest .waiting)
@@ -138,7 +139,7 @@ module _ {a b : Study} {k : ℕ} (h : Rest a b k) (s : b .start ≡ engineAfter 
       → Greater n (longestOf n (engineAfter a) (k + j)) (longestOf n (engineAfter a) k) (longestOf n (engineAfter b) j)
   longest-rest = longest-states (engineAfter a) (engineAfter b) k (b .steps) (engine-rest h s)
 
-  -- demand 3: no schedule of the whole study is ahead of a run in stretches after k + j steps that both reach
+  -- demand 3: no schedule of the whole study is ahead of a run in stretches, after k + j steps that both reach
   pub best-rest : StudyOk a → ((j : ℕ) → j < k → runSays a j .number ≡ 0) → (zs : List ℕ) (j : ℕ) → j ≤ firstStep (runSays b) (b .steps)
       → Obeying a (proposedAt a zs) (k + j) → Ahead (a .road) (engineAfter b j) (scheduledAt a zs (k + j))
   best-rest ok none zs j l obeys =
@@ -146,7 +147,7 @@ module _ {a b : Study} {k : ℕ} (h : Rest a b k) (s : b .start ≡ engineAfter 
       subst⁻¹ (λ (u : State). Ahead (a .road) u (scheduledAt a zs (k + j))) (engine-rest h s j (omega (arith, step-within (runSays b) (b .steps))))
       (engine-best a ok zs (k + j) (omega (arith, e)) obeys)
 
--- and of filling: its states go on from a progress
+-- the same for filling, whose states go on from a progress
 module _ {a b : Study} {k : ℕ} (h : Rest a b k) (laws : List Law) (m p : Metered) (e : p ≡ meteredFrom laws a m k) where
   pub longest-filled : (n j : ℕ) → n ≤ mostCells → j ≤ b .steps
       → Greater n (longestOf n (λ i. meteredFrom laws a m i .state) (k + j)) (longestOf n (λ i. meteredFrom laws a m i .state) k)
@@ -154,7 +155,7 @@ module _ {a b : Study} {k : ℕ} (h : Rest a b k) (laws : List Law) (m p : Meter
   longest-filled = longest-states (λ i. meteredFrom laws a m i .state) (λ i. meteredFrom laws b p i .state) k (b .steps)
       (λ j l. ap (λ (x : Metered). x .state) (metered-rest h laws m p e j l))
 
--- from a record's own start going on is running, judging and filling
+-- from a record's own start, going on is running, judging and filling
 module _ (bytes lanes : List ℕ) (reads : readingOf bytes .number ≡ 0) where
   few : readingOf bytes .state .done + readingOf bytes .steps ≤ mostSteps
   few = omega (arith, read-within bytes (readingOf bytes) refl reads .steps, read-numbers bytes (readingOf bytes) refl reads .done)
@@ -189,7 +190,7 @@ module _ (bytes lanes : List ℕ) (reads : readingOf bytes .number ≡ 0) where
   unfolding fillingOn fillingOf
   fresh-fill laws list = rw (eq-eqb (progressFault (studyOf bytes lanes) (unmetered (readingOf bytes .state))) 0 progress-fresh) refl
 
--- filling goes on unrefused: what entered a cell in a step is at most what the cell then holds
+-- filling that goes on is not refused: what entered a cell in a step is at most what the cell then holds
 module _ (laws : List Law) (a : Study) (m : Metered) (starts : a .start ≡ m .state) (ok : StudyOk a) (long : a .road .n ≤ length (m .entries)) where
   entries-long : (k : ℕ) → length (meteredFrom laws a m k .entries) ≡ length (m .entries)
   unfolding meteredFrom meteredOf
@@ -289,7 +290,7 @@ module _ (laws : List Law) (bytes lanes : List ℕ) (m : Metered) (taken : Taken
         ap (λ (x : List ℕ). arrivalsAt x i) (rows-on t l) ∙ filled-arrivals laws (roadAt a t) (meteredFrom laws a m t) (a .rows t) i;
   }
 
--- where it is not refused the record was taken with the table
+-- if it is not refused, no refusal of the record or the table applies
 taken-on : (laws : List Law) (bytes lanes : List ℕ) (m : Metered) (list : List ℕ) → fillingOn laws bytes lanes m list .number ≡ 0 → Taken bytes lanes
 unfolding fillingOn
 taken-on laws bytes lanes m list =

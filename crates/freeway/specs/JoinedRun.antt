@@ -1,4 +1,4 @@
--- Theorem across joining and running: the joined record is run under every table of lanes for its cells and steps, and carries demand 3. Assumes nothing.
+-- Theorem about joining and running: the joined record runs under every table of lanes for its cells and steps, and demand 3 holds for it. Assumes nothing.
 use mathlib.Core.Path.{_≡_, ap}
 use mathlib.Core.List.{List, []}
 use Prim.Native.Nat.{ℕ, _+_}
@@ -12,11 +12,11 @@ use Rattle.model.specs.Demand.{Taken, Promised}
 use Rattle.theory.specs.DemandWhole.{promised}
 
 module _ (up down : List ℕ) (share : ℕ) (target : List ℕ) (joined : joiningOf up down share target .number ≡ 0) where
-  -- with the empty table it is opened always
+  -- with the empty table no refusal applies
   pub joined-open : Taken (joinedBytes up down share target) []
   joined-open = taken-open (joinedBytes up down share target) (ap (λ (x : ReadAnswer). x .number) (joined-reads up down share target joined))
 
-  -- and with one for n cells and T steps, n counting those of both
+  -- nor with a table for T steps and the cells of both
   pub joined-taken : (lanes : List ℕ) → tableFault lanes (readingOf up .road .n + readingOf down .road .n) (readingOf up .steps) .number ≡ 0
       → Taken (joinedBytes up down share target) lanes
   joined-taken lanes h = record {
@@ -24,7 +24,7 @@ module _ (up down : List ℕ) (share : ℕ) (target : List ℕ) (joined : joinin
     opens = rw (joined-reads up down share target joined) h;
   }
 
-  -- demand 3 holds of it
+  -- demand 3 holds for it
   pub joined-promised : (lanes : List ℕ) → Taken (joinedBytes up down share target) lanes → (list : List ℕ)
       → Promised (joinedBytes up down share target) lanes (listAfter (joinedBytes up down share target) lanes list)
       (runningOf (joinedBytes up down share target) lanes list)

@@ -1,5 +1,5 @@
--- One page of promises: what 01 and the requests want proved, in their order, each restated under its sentence and proved by the law
--- that says it. Contracts promise the rest: every function's outcome for all input, by an equation with its definition. Assumes nothing.
+-- One page of promises: what 01 and the requests require to be proved, in their order, each restated under its sentence and proved by the law
+-- that states it. Contracts promise the rest: every function's outcome for all input, by an equation with its definition. Assumes nothing.
 use mathlib.Core.Path.{_≡_, refl}
 use mathlib.Core.Bool.{true, false}
 use mathlib.Core.List.{List, [], _++_}
@@ -80,21 +80,21 @@ use Rattle.freeway.specs.JoinedRun as joinedRun
 use Rattle.freeway.specs.GoingOnWhole as stretches
 use Rattle.theory.specs.GoingOn as onward
 
--- 01, forms. A number and values for each case of an answer, and no two cases with the same; of every other type of answer: `Answers`
+-- 01, forms. Each case of an answer has its number and values, and no two cases have the same; the other types of answers are in `Answers`
 pub refusal-settled : (q p : Refusal) → refusalNumber q ≡ refusalNumber p → q ≡ p
 refusal-settled = answers.refusal-same
 
 pub wanted-settled : (x y : Wanted) → wantedAnswer x ≡ wantedAnswer y → x ≡ y
 wanted-settled = answers.wanted-same
 
--- 01, one step. The outflow is the greatest that the demand allows and whose entering part finds room
+-- 01, one step. The outflow is the greatest that the demand allows and whose entering part fits the room
 pub outflow-greatest : (b F room d y : ℕ) → y ≤ d → enteringOf b F y ≤ room → y ≤ outflowOf b F room d
 outflow-greatest = flow.outflow-greatest
 
 pub outflow-allowed : (b F room d : ℕ) → (outflowOf b F room d ≤ d) × (enteringOf b F (outflowOf b F room d) ≤ room)
 outflow-allowed b F room d = (flow.outflow-le b F room d, flow.outflow-fits b F room d)
 
--- a step loses nobody: present, exits and the step's arrivals are present and exits after it. Over whole tables: `conserved` of `accounts`
+-- a step loses nobody: present, exits and the step's arrivals before it are present and exits after it. For whole tables: `conserved` of `accounts`
 pub conserved : (r : Road) (s : State) (row : List ℕ) → RoadOk r → Sized r s → Released r s row
     → presentOf r s + exitsOf r s + arrivalsOf r row
     ≡ presentOf r (nextOf r s row (outflowsOf r s row)) + exitsOf r (nextOf r s row (outflowsOf r s row))
@@ -104,12 +104,12 @@ conserved = conservation.engine-conserved
 pub starred : edges.StarredEdges
 starred = edges.starred-edges
 
--- 01, reading. What reads is within every limit
+-- 01, reading. A record that reads is within every limit
 pub read-within : (s : List ℕ) → readingOf s .number ≡ 0 → Accepted s (readingOf s .steps) (readingOf s .road) (readingOf s .state)
 read-within s h = within.read-within s (readingOf s) refl h
 
--- 'the rounding decides where they say nothing': after every step that both reach, no cumulative outflow is off by more than 2 k parts, divided by the
--- share of its traffic that reaches the end, from that of the same study counted K times finer; sharper where all that leaves a cell goes on
+-- 'the rounding decides where they say nothing': compared with the same study counted K times finer, no cumulative outflow differs by more than 2 k
+-- parts, divided by the part of its traffic that reaches the end, after every step that both reach; less if all that leaves a cell goes on
 pub rounding : (bytes lanes : List ℕ) → Taken bytes lanes → (K : ℕ) → 0 < K → rounds.Within lanes K → (k : ℕ)
     → Fitting (studyOf bytes lanes) k → Fitting (scaled K (studyOf bytes lanes)) k
     → rounds.Near K k (studyOf bytes lanes .road) (engineAfter (studyOf bytes lanes) k) (engineAfter (scaled K (studyOf bytes lanes)) k)
@@ -121,14 +121,14 @@ pub rounding-whole : (bytes lanes : List ℕ) → Taken bytes lanes → (K : ℕ
 rounding-whole bytes lanes taken K some within k own on fine =
     rounds.rounding-whole (rounds.countable bytes lanes taken K some within) k own on fine
 
--- present and the total, where some of what leaves each cell goes on
+-- present and the total, if some of what leaves each cell goes on
 pub rounding-total : (bytes lanes : List ℕ) → Taken bytes lanes → (K : ℕ) → 0 < K → rounds.Within lanes K → totals.SomeOn (studyOf bytes lanes .road)
     → (k : ℕ) → Fitting (studyOf bytes lanes) k → Fitting (scaled K (studyOf bytes lanes)) k
     → totals.NearTotal K k (studyOf bytes lanes .road) (engineAfter (studyOf bytes lanes) k) (engineAfter (scaled K (studyOf bytes lanes)) k)
 rounding-total bytes lanes taken K some within on k own fine =
     totals.rounding-total (rounds.countable bytes lanes taken K some within) on k own fine
 
--- so far from every schedule of the finer study in which demand or room decides, as in the papers' rules
+-- the same bound for every schedule of the finer study in which demand or room decides, as in the papers' rules
 pub rounding-papers : (bytes lanes : List ℕ) → Taken bytes lanes → (K : ℕ) → 0 < K → rounds.Within lanes K → (k : ℕ)
     → Fitting (studyOf bytes lanes) k → (zs : ℕ → List ℕ) → Obeying (scaled K (studyOf bytes lanes)) zs k
     → Deciding (scaled K (studyOf bytes lanes)) zs k
@@ -136,7 +136,7 @@ pub rounding-papers : (bytes lanes : List ℕ) → Taken bytes lanes → (K : �
 rounding-papers bytes lanes taken K some within k own zs fine decide =
     rounds.papers-near (rounds.countable bytes lanes taken K some within) k own zs fine decide
 
--- demand 3 within that bound: no schedule that anyone draws for the finer study is further ahead
+-- demand 3 within that bound: no schedule of the finer study is further ahead
 pub rounding-schedules : (bytes lanes : List ℕ) → Taken bytes lanes → (K : ℕ) → 0 < K → rounds.Within lanes K → (k : ℕ)
     → Fitting (studyOf bytes lanes) k → (zs : List ℕ) → Reaches (scaled K (studyOf bytes lanes)) zs k
     → Most K (2 * k * K) (studyOf bytes lanes .road) (engineAfter (studyOf bytes lanes) k) (scheduledAt (scaled K (studyOf bytes lanes)) zs k)
@@ -154,21 +154,21 @@ rounding-schedules-total bytes lanes taken K some within on k own zs reaches =
 pub accepts-exactly : (bytes lanes zs : List ℕ) → AcceptsExactly bytes lanes zs (judgingOf bytes lanes zs)
 accepts-exactly bytes lanes zs = judged.accepts-exactly bytes lanes zs refl
 
--- totals are the sums of present over the steps done, of gate, road and ramps apart and together; start plus arrivals equals present plus exits
+-- the times and the total are the sums of present over the steps done, for gate, road and ramps and together; start plus arrivals equals present plus exits
 pub accounts : (bytes lanes zs : List ℕ) → Taken bytes lanes → (k : ℕ) → Reaches (studyOf bytes lanes) zs k → accounting.Accounts (studyOf bytes lanes) zs k
 accounts = accounting.accounts
 
--- demand 3. For every record that reads and every schedule that anyone draws for it (`Demand`, with the meaning of its words)
+-- demand 3, for every record that reads and every schedule (`Demand`, with the meaning of its words)
 pub demand-three : (bytes lanes : List ℕ) → Taken bytes lanes → (list : List ℕ)
     → Promised bytes lanes (listAfter bytes lanes list) (runningOf bytes lanes list)
 demand-three = whole.promised
 
--- request 1. What is written reads back as given; bytes beyond are untouched
+-- request 1. A written record reads back as given; bytes beyond it are unchanged
 pub written-back : (road : Road) (T : ℕ) (start : Start) (rows target : List ℕ) → writingOf road T start rows target .number ≡ 0
     → saving.Saved road T start rows target
 written-back = saving.saved
 
--- a record that was read and written again has the same bytes, its rows taken into any list that has room for them
+-- a record that was read and is written again has the same bytes, with its rows taken into any list that has room for them
 pub written-again : (s : List ℕ) → readingOf s .number ≡ 0 → (list : List ℕ) → readingOf s .steps * rowNumbers (readingOf s .road .n) ≤ length list
     → ((i : ℕ) → at s i < 256) → (target : List ℕ) → length s ≤ length target
     → take (length s) (targetAfter (readingOf s .road) (readingOf s .steps) (startIn (readingOf s .state))
@@ -181,7 +181,7 @@ pub unwritten : (road : Road) (T : ℕ) (start : Start) (rows target : List ℕ)
 unwritten = saving.unsaved
 
 -- request 3. The release is the greatest whole number not above the wish, under a cap of 32 bits; 0 for a wish that is negative or not a number;
--- an infinite wish above takes the cap
+-- positive infinity gives the cap
 pub whole-greatest : (x : Float) (cap k : ℕ) → 0 < k → k ≤ cap → cap < 2 ^ 32 → le (count k) x ≡ true → k ≤ wholeBelow x cap
 whole-greatest = meters.whole-greatest
 
@@ -198,11 +198,11 @@ whole-infinite = meters.whole-infinite
 pub only-releases : (laws : List Law) (bytes lanes list : List ℕ) → OnlyReleases bytes (recordAfter laws bytes lanes list)
 only-releases = filling.only-releases
 
--- unless it is refused with 16, its list, road and state are those that rerunning that record gives
+-- unless filling is refused with 16, its list, road and state are those of running the filled record
 pub rerun : (laws : List Law) (bytes lanes list : List ℕ) → (fillingOf laws bytes lanes list .number ≡ 16 → ⊥) → filling.Rerun laws bytes lanes list
 rerun = filling.rerun
 
--- rival schedules share those filled releases
+-- rival schedules have the same filled releases
 pub filled : (laws : List Law) (bytes lanes list : List ℕ) → Taken bytes lanes
     → Promised (recordAfter laws bytes lanes list) lanes (filledList laws bytes lanes list) (fillingOf laws bytes lanes list)
 filled = filling.filled-promised
@@ -211,13 +211,13 @@ filled = filling.filled-promised
 pub division : (share F room demand : ℕ) → dividedOf share F room demand ≡ outflowOf share F room demand
 division = paper.divided-is-greatest
 
--- request 6. An empty table means all open: running, judging and the list are those of a model without closures
+-- request 6. An empty table means that all lanes are open: running, judging and the list are those of a model without closures
 pub all-open : (bytes list zs : List ℕ)
     → (runningOf bytes [] list ≡ unclosed.plainRunning bytes list)
     × ((judgingOf bytes [] zs ≡ unclosed.plainJudging bytes zs) × (listAfter bytes [] list ≡ unclosed.plainList bytes list))
 all-open bytes list zs = (unclosed.empty-runs bytes list, (unclosed.empty-judges bytes zs, unclosed.empty-writes bytes list))
 
--- request 7. A version 1 record is read as before; where reading finds no fault with its length, a reader that knows only version 1 refuses version 2 with 2
+-- request 7. A version 1 record reads as before; a reader that knows only version 1 refuses version 2 with 2, unless its length is refused
 pub read-as-before : (s : List ℕ) → (versionOf s ≡ secondVersion → ⊥) → readingOf s ≡ firstReadingOf s
 read-as-before = versions.first-reader-same
 
@@ -235,13 +235,13 @@ pub weights-unread : (bytes lanes : List ℕ) (w v u x : ℕ → ℕ) → ((p : 
     → weightedTotalOfRun w u bytes lanes list ≡ weightedTotalOfRun v x bytes lanes list
 weights-unread = unread.run-unread
 
--- raising v, w, J or C of cells never makes the total larger, after every step that both roads reach with the same releases, start, arrivals and closures
+-- a larger v, w, J or C of cells never makes the total larger, after every step that both roads reach with the same releases, start, arrivals and closures
 pub raised : (s t lanes : List ℕ) → Taken s lanes → Taken t lanes → Improved (studyOf s lanes) (studyOf t lanes) → (list out : List ℕ) (k : ℕ)
     → k ≤ stepsMade (studyOf s lanes) (runningOf s lanes list) → k ≤ stepsMade (studyOf t lanes) (runningOf t lanes out)
     → Ahead (studyOf s lanes .road) (engineAfter (studyOf t lanes) k) (engineAfter (studyOf s lanes) k)
 raised = improving.improved-steps
 
--- so, when both accept, the total returned is not larger; a worked pair, in which it falls
+-- so, if both accept, the total returned is not larger; and an example in which it falls
 pub raised-accepted : (s t lanes : List ℕ) → Taken s lanes → Taken t lanes → Improved (studyOf s lanes) (studyOf t lanes) → (list out : List ℕ)
     → runningOf s lanes list .number ≡ 0 → runningOf t lanes out .number ≡ 0
     → totalOf (runningOf t lanes out .state) ≤ totalOf (runningOf s lanes list .state)
@@ -257,7 +257,7 @@ pub joined : (up down : List ℕ) (share : ℕ) (target : List ℕ) → joiningO
     (joinedStart (readingOf up .road .n) (readingOf down .road .n) (readingOf up .state) (readingOf down .state))
 joined = joins.joined-reads
 
--- the second gate is dropped, and all else stands as it was, place by place
+-- 'the second gate is dropped, and all else stands as it was', place by place
 pub joined-stands : (up down : List ℕ) (share : ℕ) (target : List ℕ) → joiningOf up down share target .number ≡ 0
     → joins.Stands share (readingOf up) (readingOf down) (readingOf (joins.joinedBytes up down share target))
 joined-stands = joins.joined-stands
@@ -267,19 +267,19 @@ pub joined-row : (up down : List ℕ) (share : ℕ) (target : List ℕ) → join
     → joins.RowStands up down (joins.joinedBytes up down share target) t
 joined-row = joins.joined-row-stands
 
--- its refusals, each with all that comes before it; no refusal touches the target
+-- the refusals of joining, each with everything before it; no refusal changes the target
 pub joined-ends : (up down : List ℕ) (share : ℕ) (target : List ℕ)
     → joins.Ends up down share target (joiningOf up down share target) (joinedTarget up down share target)
 joined-ends = joins.ends
 
--- since it reads, demand 3 holds of it
+-- the joined record reads, so demand 3 holds for it
 pub joined-compared : (up down : List ℕ) (share : ℕ) (target : List ℕ) → joiningOf up down share target .number ≡ 0 → (lanes : List ℕ)
     → Taken (joins.joinedBytes up down share target) lanes → (list : List ℕ)
     → Promised (joins.joinedBytes up down share target) lanes (listAfter (joins.joinedBytes up down share target) lanes list)
     (runningOf (joins.joinedBytes up down share target) lanes list)
 joined-compared = joinedRun.joined-promised
 
--- request 10. The table found obeys, and no table that obeys has a smaller running sum after any step; it is the only such one
+-- request 10. The table found obeys, and no table that obeys has a smaller running sum after any step; no other table has this property
 pub least : (start ceiling rate : ℕ) (arrivals table : List ℕ) → wantedOf start ceiling rate arrivals (length table) .found ≡ true
     → Least start ceiling rate arrivals (tableAfter start ceiling rate arrivals table)
 least = wants.found-least
@@ -288,7 +288,7 @@ pub least-only : (start ceiling rate : ℕ) (arrivals : List ℕ) {one other : L
     → Least start ceiling rate arrivals other → one ≡ other
 least-only = wants.least-unique
 
--- none exactly where, within the limits of 23, no table obeys; the lent table is then unchanged
+-- the answer is none exactly if, within the limits of 23, no table obeys; the lent table is then unchanged
 pub none-only : (start ceiling rate : ℕ) (arrivals table : List ℕ) → wantedOf start ceiling rate arrivals (length table) ≡ searchAnswer 0 true false
     → (other : List ℕ) → TableObeys start ceiling rate arrivals other → ⊥
 none-only = wants.none-only
@@ -298,7 +298,7 @@ pub none-if : (start ceiling rate : ℕ) (arrivals table : List ℕ) → WantedR
     → (wantedOf start ceiling rate arrivals (length table) ≡ searchAnswer 0 true false) × (tableAfter start ceiling rate arrivals table ≡ table)
 none-if = wants.none-if
 
--- 23 exactly where a limit is passed; the lent table is then unchanged
+-- 23 applies exactly if a limit is broken; the lent table is then unchanged
 pub wanted-refused : (start ceiling rate : ℕ) (arrivals table : List ℕ) → wantedOf start ceiling rate arrivals (length table) .number ≡ 23
     → WantedRequest start ceiling rate arrivals (length table) → ⊥
 wanted-refused = wants.refused-only
@@ -307,18 +307,18 @@ pub wanted-refused-if : (start ceiling rate : ℕ) (arrivals table : List ℕ) �
     → (wantedOf start ceiling rate arrivals (length table) ≡ searchAnswer 23 false false) × (tableAfter start ceiling rate arrivals table ≡ table)
 wanted-refused-if = wants.refused-if
 
--- there is no other end
+-- there is no other case
 pub wanted-ends : (start ceiling rate : ℕ) (arrivals table : List ℕ)
     → WantedEnds start ceiling rate arrivals table (wantedOf start ceiling rate arrivals (length table)) (tableAfter start ceiling rate arrivals table)
 wanted-ends = wants.ends
 
--- 'running checks it': where a ramp has a table's releases, and its start queue and arrivals, and the table obeys, running never says 9 of that ramp
+-- 'running checks it': a ramp has the start queue, the arrivals and the releases of a table that obeys. Then running never refuses that ramp with 9
 pub never-nine : (bytes lanes : List ℕ) → Taken bytes lanes → (i start ceiling rate : ℕ) (arrivals table : List ℕ)
     → wantedRun.Follows (studyOf bytes lanes) i start arrivals table → TableObeys start ceiling rate arrivals table
     → (list : List ℕ) → runningOf bytes lanes list .number ≡ 9 → runningOf bytes lanes list .place ≡ i + 1 → ⊥
 never-nine = wantedRun.running-never-nine
 
--- a table found for a ramp's own queue and arrivals is put into the record without a refusal, and the record then keeps the queue
+-- a table found for a ramp's own queue and arrivals is put into the record without a refusal, and the record's run then keeps the queue
 pub found-put : (bytes lanes : List ℕ) → Taken bytes lanes → (i : ℕ) → Ramp (readingOf bytes .road .ramp) (readingOf bytes .road .n) (i + 1)
     → (ceiling rate : ℕ) (lent : List ℕ)
     → wantedOf (at (readingOf bytes .state .queue) i) ceiling rate (wantedPut.rampArrivals bytes i) (length lent) .found ≡ true
@@ -328,8 +328,8 @@ pub found-put : (bytes lanes : List ℕ) → Taken bytes lanes → (i : ℕ) →
     (readingOf bytes .steps))
 found-put = wantedPut.found-kept
 
--- request 11. The limit is never passed, no ramp gets more than its wish, none less than the smaller of wish and guarantee, what remains goes in ramp
--- order and nothing is wasted; no other grants are so
+-- request 11. The sum of the grants never exceeds the limit; no ramp gets more than its wish, or less than the smaller of wish and guarantee; what
+-- remains goes in ramp order; either the whole limit is granted or every wish. No other grants have these properties
 pub fair : (limit : ℕ) (guarantees wishes : List ℕ) → GrantRequest limit guarantees wishes
     → Fair limit guarantees wishes (grantsOf limit guarantees wishes)
 fair = streets.fair
@@ -338,12 +338,12 @@ pub fair-only : {limit : ℕ} {guarantees wishes : List ℕ} → GrantRequest li
     → Fair limit guarantees wishes grants → grants ≡ grantsOf limit guarantees wishes
 fair-only = streets.fair-unique
 
--- whatever the others wish
+-- this holds whatever the others wish
 pub whatever-others-wish : (limit : ℕ) (guarantees : List ℕ) (i wish : ℕ) → i < length guarantees → (wishes : List ℕ) → at wishes i ≡ wish
     → min wish (at guarantees i) ≤ at (grantsOf limit guarantees wishes) i
 whatever-others-wish = streets.whatever-others-wish
 
--- 24 or the grants, and no other end; 24 leaves the grants' list unchanged
+-- either 24 or the grants, and no other case; 24 leaves the lent grants unchanged
 pub granted-ends : (limit : ℕ) (guarantees wishes grants : List ℕ)
     → GrantEnds limit guarantees wishes grants (grantingOf limit guarantees wishes (length grants)) (grantsAfter limit guarantees wishes grants)
 granted-ends = streets.ends
@@ -359,7 +359,7 @@ pub put : (bytes : List ℕ) (step cell release : ℕ) → puttingOf bytes step 
     → PutRequest bytes step cell release × Stands bytes (releasedRecord bytes step cell release) step cell release
 put = puts.puts
 
--- each refusal with all that comes before it, and what it leaves of the record
+-- each refusal with everything before it, and the record that it leaves
 pub put-ends : (bytes : List ℕ) (step cell release : ℕ)
     → PutEnds bytes step cell release (puttingOf bytes step cell release) (releasedRecord bytes step cell release)
 put-ends = puts.ends
@@ -377,7 +377,7 @@ pub put-compared : (bytes lanes : List ℕ) → Taken bytes lanes → (step cell
     (runningOf (releasedRecord bytes step cell release) lanes list)
 put-compared = putting.put-promised
 
--- request 12. No arrival is above the peak, and a load goes on where it stopped
+-- request 12. No arrival is above the peak, and a load can be continued
 pub at-most-peak : (seed peak : ℕ) (list : List ℕ) → peak ≤ mostRate → (k : ℕ) → k < length list → at (loadedList seed peak list) k ≤ peak
 at-most-peak = loads.at-most-peak
 
@@ -385,7 +385,7 @@ pub goes-on : (seed peak : ℕ) (first second : List ℕ)
     → loadedList seed peak (first ++ second) ≡ loadedList seed peak first ++ loadedList (loadingOf seed peak (length first) .last) peak second
 goes-on = loads.goes-on
 
--- 25 exactly where the peak is above 1,000,000; it leaves the list unchanged and returns the seed
+-- 25 applies exactly if the peak is above 1,000,000; it leaves the list unchanged and returns the seed
 pub peak-refused : (seed peak n : ℕ) → loadingOf seed peak n .number ≡ 25 → mostRate < peak
 peak-refused = loads.refused-exactly
 
@@ -393,27 +393,27 @@ pub peak-refused-if : (seed peak : ℕ) (list : List ℕ) → mostRate < peak
     → (loadingOf seed peak (length list) ≡ loaded 25 seed) × (loadedList seed peak list ≡ list)
 peak-refused-if = loads.refused-if
 
--- there is no other end but the seed's arrivals in their order, with the last number
+-- the only other case is the seed's arrivals in their order, with the last number
 pub loaded-ends : (seed peak : ℕ) (list : List ℕ) → LoadEnds seed peak list (loadingOf seed peak (length list)) (loadedList seed peak list)
 loaded-ends = loads.ends
 
--- request 14. For every pair of limits 26 comes exactly where no refusal before it applies and n or the count of bytes is above the pair
+-- request 14. For every pair of limits, 26 applies exactly if no refusal before it does and n or the count of bytes is above the pair
 pub caller-beyond : (s : List ℕ) (cells most : ℕ) → callers.Beyond cells most s → readingWithin cells most s ≡ refusedOf 26 0
 caller-beyond = callers.beyond-refused
 
 pub caller-only : (s : List ℕ) (cells most : ℕ) → readingWithin cells most s .number ≡ 26 → callers.Beyond cells most s
 caller-only = callers.refused-beyond
 
--- a record that keeps within the pair is read as without it; `printing/PrintedLaws` says what is printed of it then
+-- a record within the pair is read as without it; `printing/PrintedLaws` states what is then printed
 pub caller-same : (s : List ℕ) (cells most : ℕ) → cellsOf s ≤ cells → length s ≤ most → readingWithin cells most s ≡ readingOf s
 caller-same = callers.within-kept
 
--- enlarging a pair never turns an accepted record away
+-- a larger pair refuses no accepted record
 pub caller-larger : (s : List ℕ) (cells most more longer : ℕ) → cells ≤ more → most ≤ longer → (readingWithin cells most s .number ≡ 26 → ⊥)
     → readingWithin more longer s ≡ readingWithin cells most s
 caller-larger = callers.within-larger
 
--- going on from a state: b is what is left of a after k steps without a fault. Going on is not refused with 7 or 8, the whole ends as the rest does,
+-- going on from a state: b is the rest of a after k steps without a fault. Going on is not refused with 7 or 8, the whole ends as the rest does,
 -- and no schedule of the whole is ahead of a run in stretches
 pub stretch-starts : {a b : Study} {k : ℕ} → onward.Rest a b k → StudyOk a → ((j : ℕ) → j < k → runSays a j .number ≡ 0) → b .start ≡ engineAfter a k
     → stateFault b ≡ 0
@@ -428,7 +428,7 @@ pub stretch-best : {a b : Study} {k : ℕ} → onward.Rest a b k → b .start �
     → Ahead (a .road) (engineAfter b j) (scheduledAt a zs (k + j))
 stretch-best h s ok none zs j l obeys = stretches.best-rest h s ok none zs j l obeys
 
--- filling's wishes go by the same in the rest as in the whole
+-- filling's wishes are computed from the same numbers in the rest as in the whole
 pub stretch-filled : {a b : Study} {k : ℕ} → onward.Rest a b k → (laws : List Law) (m p : Metered) → p ≡ meteredFrom laws a m k
     → (j : ℕ) → j ≤ b .steps → meteredFrom laws b p j ≡ meteredFrom laws a m (k + j)
 stretch-filled = onward.metered-rest

@@ -1,5 +1,5 @@
--- Theorem across putting a release and running: the record that putting leaves is run under every table of lanes that the old one was, its run checks
--- the release against queue and supply, and it carries demand 3 against its own rivals. Assumes nothing.
+-- Theorem about putting a release and running: the record that putting leaves runs under the same tables of lanes, its run checks the release
+-- against queue and supply, and demand 3 holds for it against its own rivals. Assumes nothing.
 use mathlib.Core.Path.{_≡_, refl, ap, _∙_}
 use mathlib.Core.List.{List}
 use Prim.Native.Nat.{ℕ, _+_, _*_, _≤_, _<_}
@@ -39,27 +39,27 @@ module _ (bytes lanes : List ℕ) (taken : Taken bytes lanes) (step cell release
   asked : PutRequest bytes step cell release
   asked = puts bytes step cell release put .0
 
-  -- it is opened as the old one was
+  -- the new record is opened as the old one was
   pub put-taken : Taken (releasedRecord bytes step cell release) lanes
   put-taken = record {
     reads = ap (λ (x : ReadAnswer). x .number) (stands .reads) ∙ taken .reads;
     opens = rw (stands .reads) (taken .opens);
   }
 
-  -- its study has the release in its step's row, and else the old rows
+  -- its study has the release in that step's row; the other rows are unchanged
   pub put-row : studyOf (releasedRecord bytes step cell release) lanes .rows step ≡ set (studyOf bytes lanes .rows step) (2 * cell) release
   put-row = rw (stands .reads) (stands .put .row)
 
   pub put-rows : (k : ℕ) → (k ≡ step → ⊥) → studyOf (releasedRecord bytes step cell release) lanes .rows k ≡ studyOf bytes lanes .rows k
   put-rows k d = rw (stands .reads) (stands .put .rows k d)
 
-  -- demand 3 holds of it: each road is compared with its own rivals
+  -- demand 3 holds for it: each road is compared with its own rivals
   pub put-promised : (list : List ℕ)
       → Promised (releasedRecord bytes step cell release) lanes (listAfter (releasedRecord bytes step cell release) lanes list)
       (runningOf (releasedRecord bytes step cell release) lanes list)
   put-promised list = promised (releasedRecord bytes step cell release) lanes put-taken list
 
-  -- the release is in the row, as the model counts it
+  -- the release is in the row where the model reads it
   pub put-release : (i : ℕ) → i + 1 ≡ cell → releaseAt (studyOf (releasedRecord bytes step cell release) lanes .rows step) i ≡ release
   put-release i e =
       let k : 2 * i + 2 ≡ 2 * cell = omega arith in
@@ -78,7 +78,7 @@ module _ (bytes lanes : List ℕ) (taken : Taken bytes lanes) (step cell release
         omega (arith, ok .roads step .n, asked .ramp .within, ap (λ (x : ReadAnswer). x .road .n) (stands .reads)) in
         record { queue = omega (arith, put-release i e, own .queue i n); supply = omega (arith, put-release i e, own .supply i n) }
 
--- putting never refuses a granted release for its size: at a ramp of the road and a step of the record it is put
+-- putting never refuses a granted release for its size, at a ramp of the road and a step of the record
 pub granted-put : (limit : ℕ) (guarantees wishes : List ℕ) → GrantRequest limit guarantees wishes → (i : ℕ) → i < length guarantees
     → (bytes : List ℕ) (step cell : ℕ) → readingOf bytes .number ≡ 0 → Ramp (readingOf bytes .road .ramp) (readingOf bytes .road .n) cell
     → step < readingOf bytes .steps → puttingOf bytes step cell (at (grantsOf limit guarantees wishes) i) ≡ fault 0 0

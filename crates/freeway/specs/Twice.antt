@@ -1,4 +1,4 @@
--- Theorem across filling and writing: a record's bytes are settled by what is read of it, so filling a filled record again changes no byte. Assumes nothing.
+-- Theorem about filling and writing: what reading and its rows give determines a record's bytes, so filling a filled record again changes no byte. Assumes nothing.
 use mathlib.Core.Path.{_≡_, refl, sym, ap, _∙_, subst⁻¹}
 use mathlib.Core.Bool.{Bool, true, false}
 use mathlib.Core.List.{List, []}
@@ -17,11 +17,11 @@ use Rattle.model.specs.Filling.{fillingOf, recordAfter}
 use Rattle.filling.specs.Theorems.{only-releases}
 use Rattle.filling.specs.FillingAgain.{filled-taken-by, filled-twice}
 
--- each of a list's numbers is a byte
+-- each number of a list is a byte
 abbrev pub Bytes : List ℕ → Type 0
 Bytes s = (i : ℕ) → at s i < 256
 
--- two records that read the same, row by row too, have the same bytes
+-- two records with the same reading and the same rows have the same bytes
 module _ (s t : List ℕ) (small : Bytes s) (little : Bytes t) (reads : readingOf s .number ≡ 0) (same : readingOf t ≡ readingOf s)
     (rows : (k : ℕ) → k < readingOf s .steps → recordRow t (readingOf s .road .n) k ≡ recordRow s (readingOf s .road .n) k) where
   abbrev all : ℕ → List ℕ
@@ -42,7 +42,7 @@ module _ (laws : List Law) (bytes lanes list : List ℕ) where
   abbrev once : List ℕ
   once = recordAfter laws bytes lanes list
 
-  -- a refusal left the record as it was, and leaves it so again
+  -- a refusal left the record unchanged, and leaves it unchanged again
   refused-again : eqb (fillingOf laws bytes lanes list .number) 0 ≡ false → recordAfter laws once lanes list ≡ once
   unfolding recordAfter
   refused-again e =

@@ -1,5 +1,5 @@
--- Theorem across a wanted queue, putting and running: a table that was found for a ramp's own start queue and arrivals is put into the record, one
--- release a step. No put is refused, nothing else of the record is changed, it reads as before, and running never says 9 of that ramp. Assumes nothing.
+-- Theorem about a wanted queue, putting and running: a table found for a ramp's own start queue and arrivals is put into the record, one release
+-- per step. No put is refused, nothing else changes, the record reads as before, and running never refuses that ramp with 9. Assumes nothing.
 use mathlib.Core.Path.{_≡_, refl, sym, ap, _∙_, subst⁻¹}
 use mathlib.Core.Bool.{true}
 use mathlib.Core.Logic.{⊎-elim}
@@ -33,7 +33,7 @@ unfoldable pub putSteps : List ℕ → ℕ → List ℕ → ℕ → List ℕ
 putSteps bytes cell table zero = bytes
 putSteps bytes cell table (suc k) = releasedRecord (putSteps bytes cell table k) k cell (at table k)
 
--- what k puts leave: no put was refused, the record reads as before, its rows have the table's releases and are else the same, and so is every other byte
+-- after k puts: no put was refused, the record reads as before, its rows have the table's releases, and every other number and byte is unchanged
 pub record PutSteps (bytes : List ℕ) (cell : ℕ) (table : List ℕ) (k : ℕ) (after : List ℕ) : Type 0 where
   pub accepted : (t : ℕ) → t < k → puttingOf (putSteps bytes cell table t) t cell (at table t) ≡ fault 0 0
   pub reads : readingOf after ≡ readingOf bytes
@@ -43,11 +43,11 @@ pub record PutSteps (bytes : List ℕ) (cell : ℕ) (table : List ℕ) (k : ℕ)
   pub byte : (b : ℕ) → ((t : ℕ) → t < k → Outside b (entryStart (versionOf bytes) (readingOf bytes .road .n) t (2 * cell)) numberSize)
       → at after b ≡ at bytes b
 
--- at a ramp of a record that reads, a table of rates
+-- a table of rates for a ramp of a record that reads
 module _ (bytes : List ℕ) (cell : ℕ) (table : List ℕ) (reads : readingOf bytes .number ≡ 0)
     (ramp : Ramp (readingOf bytes .road .ramp) (readingOf bytes .road .n) cell)
     (rates : (t : ℕ) → t < readingOf bytes .steps → at table t ≤ mostRate) where
-  -- one put more
+  -- one more put
   put-more : (k : ℕ) → k < readingOf bytes .steps → {u : List ℕ} → u ≡ putSteps bytes cell table k → PutSteps bytes cell table k u
       → PutSteps bytes cell table (suc k) (releasedRecord u k cell (at table k))
   put-more k l {u} e p =
@@ -77,7 +77,7 @@ module _ (bytes : List ℕ) (cell : ℕ) (table : List ℕ) (reads : readingOf b
         byte = λ b o. put .byte b (rw (p .version) (o k (omega arith))) ∙ p .byte b (λ t m. o t (omega arith));
       }
 
-  -- as many puts as the record has steps, or fewer
+  -- at most as many puts as the record has steps
   pub steps-put : (k : ℕ) → k ≤ readingOf bytes .steps → PutSteps bytes cell table k (putSteps bytes cell table k)
   unfolding putSteps
   steps-put zero l = record {
@@ -90,11 +90,11 @@ module _ (bytes : List ℕ) (cell : ℕ) (table : List ℕ) (reads : readingOf b
   }
   steps-put (suc k) l = put-more k l refl (steps-put k (omega arith))
 
--- what a record says of the ramp of the cell at i: its arrivals in every step
+-- the arrivals of the ramp of the cell at i in every step of a record
 unfoldable pub rampArrivals : List ℕ → ℕ → List ℕ
 rampArrivals bytes i = listOf (λ k. arrivalsAt (recordRow bytes (readingOf bytes .road .n) k) i) (readingOf bytes .steps)
 
--- what the record is worth after a found table was put: of every schedule and of running, whatever list is lent
+-- what holds after a found table was put: for every schedule and for running, with any lent list
 pub record QueueKept (bytes lanes : List ℕ) (i ceiling : ℕ) (table after : List ℕ) : Type 0 where
   pub put : PutSteps bytes (i + 1) table (readingOf bytes .steps) after
   pub taken : Taken after lanes
@@ -102,7 +102,7 @@ pub record QueueKept (bytes lanes : List ℕ) (i ceiling : ℕ) (table after : L
   pub under : (ys : ℕ → List ℕ) (k : ℕ) → k < studyOf after lanes .steps → at (scheduleAfter (studyOf after lanes) ys (suc k) .queue) i ≤ ceiling
   pub noNine : (list : List ℕ) → runningOf after lanes list .number ≡ 9 → runningOf after lanes list .place ≡ i + 1 → ⊥
 
--- a record that is run under a table of lanes, and a ramp of it
+-- a record and a table of lanes without a refusal, and a ramp of the record
 module _ (bytes lanes : List ℕ) (taken : Taken bytes lanes) (i : ℕ)
     (ramp : Ramp (readingOf bytes .road .ramp) (readingOf bytes .road .n) (i + 1)) where
   abbrev n : ℕ
@@ -116,7 +116,7 @@ module _ (bytes lanes : List ℕ) (taken : Taken bytes lanes) (i : ℕ)
   unfolding rampArrivals
   arrivals-at k l = list-at (λ j. arrivalsAt (recordRow bytes n j) i) (readingOf bytes .steps) k l
 
-  -- T puts of any table of rates give a record that follows it
+  -- T puts of any table of rates give a record that follows the table
   module _ (table after : List ℕ) (p : PutSteps bytes (i + 1) table (readingOf bytes .steps) after) where
     comes : (k : ℕ) → k < readingOf bytes .steps → arrivalsAt (recordRow after (readingOf bytes .road .n) k) i ≡ at (rampArrivals bytes i) k
     comes k l =

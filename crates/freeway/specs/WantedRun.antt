@@ -1,5 +1,5 @@
--- Theorem across a wanted queue and running: where a table that obeys is a ramp's releases, and the ramp has that start queue and these arrivals, the
--- queue is the one that the table keeps, after every step and whatever the outflows, and 9 never comes of that ramp. Assumes nothing.
+-- Theorem about a wanted queue and running: a table that obeys has a ramp's releases, and the ramp has that start queue and these arrivals. Then
+-- the queue after every step is the table's, whatever the outflows, and that ramp is never refused with 9. Assumes nothing.
 use mathlib.Core.Path.{_≡_, refl, sym, ap, _∙_}
 use mathlib.Core.Bool.{Bool, true, false, cond}
 use mathlib.Core.Logic.{⊎-elim}
@@ -34,7 +34,7 @@ pub record Follows (a : Study) (i start : ℕ) (arrivals table : List ℕ) : Typ
   pub comes : (k : ℕ) → k < a .steps → arrivalsAt (a .rows k) i ≡ at arrivals k
   pub goes : (k : ℕ) → k < a .steps → releaseAt (a .rows k) i ≡ at table k
 
--- the lowest fault, 9 at place i + 1, is that of the cell at i
+-- if the lowest fault is 9 at place i + 1, the cell at i has fault 9
 nine-there : (f : ℕ → ℕ) (n i : ℕ) → lowestOf f n 1 .number ≡ 9 → lowestOf f n 1 .place ≡ i + 1 → f i ≡ 9
 unfolding lowestOf
 nine-there f n i e p = go (eqb (firstFault f n) n) e p
@@ -55,7 +55,7 @@ fits-no-nine release most supply h = rw (le-leb release most h) (go (leb release
 
 module _ (a : Study) (ok : StudyOk a) (i start ceiling rate : ℕ) (arrivals table : List ℕ) (follows : Follows a i start arrivals table)
     (obeys : TableObeys start ceiling rate arrivals table) where
-  -- the queue that the table keeps, in the run's own states and in those of every schedule
+  -- the queue is the table's, in the run's own states and in those of every schedule
   pub queue-kept : (ys : ℕ → List ℕ) (k : ℕ) → k ≤ a .steps → at (scheduleAfter a ys k .queue) i ≡ rampQueueAfter start arrivals table k
   unfolding scheduleAfter rampQueueAfter
   queue-kept ys zero l = follows .queue
@@ -90,7 +90,7 @@ module _ (a : Study) (ok : StudyOk a) (i start ceiling rate : ℕ) (arrivals tab
         obeys .there k (omega (arith, follows .steps)),
       )
 
-  -- running never says 9 of that ramp
+  -- running never refuses that ramp with 9
   no-nine-in : (k : ℕ) → k < a .steps → releaseFaultAt (roadAt a k) (engineAfter a k) (a .rows k) i ≡ 9 → ⊥
   no-nine-in k l =
       fits-no-nine (releaseAt (a .rows k) i) (mostReleaseAt (engineAfter a k) (a .rows k) i) (supplyAt (roadAt a k) (engineAfter a k) i)
@@ -111,7 +111,7 @@ module _ (a : Study) (ok : StudyOk a) (i start ceiling rate : ℕ) (arrivals tab
           (nine-there (releaseFaultAt (roadAt a k) (engineAfter a k) (a .rows k)) (roadAt a k .n) i
           (sym (ap (λ (x : EndAnswer). x .number) end) ∙ n) (sym (ap (λ (x : EndAnswer). x .place) end) ∙ p))
 
--- the same of running's answer for a record, whatever list is lent
+-- the same for running's answer for a record, with any lent list
 module _ (bytes lanes : List ℕ) (taken : Taken bytes lanes) (i start ceiling rate : ℕ) (arrivals table : List ℕ)
     (follows : Follows (studyOf bytes lanes) i start arrivals table) (obeys : TableObeys start ceiling rate arrivals table) where
   within : StudyOk (studyOf bytes lanes)

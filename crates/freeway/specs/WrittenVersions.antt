@@ -1,4 +1,4 @@
--- Theorem across writing and running: a road, T, a start and rows that are written in either version are run and judged alike. Assumes nothing.
+-- Theorem about writing and running: a road, T, a start and rows are run and judged alike in whichever version they are written. Assumes nothing.
 use mathlib.Core.Path.{_≡_, refl, sym, ap, _∙_}
 use mathlib.Core.List.{List}
 use Prim.Native.Nat.{ℕ, _<_}
@@ -13,7 +13,7 @@ use Rattle.model.specs.Judging.{judgingOf}
 use Rattle.model.specs.Demand.{Taken}
 use Rattle.theory.specs.VersionsAlike.{EndsAlike, runs-alike, judges-alike, same-list}
 
--- the same road in another version and with other seconds; both are written without a refusal, whatever the targets
+-- the same road in another version and with other seconds; both are written without a refusal into any targets
 module _ (road : Road) (version seconds T : ℕ) (start : Start) (rows target other lanes : List ℕ)
     (first : writingOf road T start rows target .number ≡ 0) (second : writingOf (stamped version seconds road) T start rows other .number ≡ 0) where
   abbrev s : List ℕ
@@ -28,7 +28,7 @@ module _ (road : Road) (version seconds T : ℕ) (start : Start) (rows target ot
   keptT : Saved (stamped version seconds road) T start rows other
   keptT = saved (stamped version seconds road) T start rows other second
 
-  -- what is read back differs in version and seconds alone
+  -- the records differ only in version and seconds
   pub written-restamped : Restamped (studyOf (savedOf road T start rows target) lanes) (studyOf (savedOf (stamped version seconds road) T start rows other) lanes)
   written-restamped = record {
     road = rw (keptS .back .reads, keptT .back .reads) refl;
@@ -40,14 +40,14 @@ module _ (road : Road) (version seconds T : ℕ) (start : Start) (rows target ot
     lanes = refl;
   }
 
-  -- so a table of lanes that one is taken with suits the other
+  -- so a table of lanes that fits one fits the other
   takenT : Taken (savedOf road T start rows target) lanes → Taken (savedOf (stamped version seconds road) T start rows other) lanes
   takenT h = record {
     reads = ap (λ (a : ReadAnswer). a .number) (keptT .back .reads);
     opens = rw (keptT .back .reads) (rw (keptS .back .reads) at (h .opens));
   }
 
-  -- and they are run and judged alike
+  -- they are run and judged alike
   module _ (h : Taken (savedOf road T start rows target) lanes) where
     pub versions-run : (list : List ℕ)
         → EndsAlike (runningOf (savedOf road T start rows target) lanes list) (runningOf (savedOf (stamped version seconds road) T start rows other) lanes list)

@@ -1,4 +1,4 @@
-// What a buyer may call, in the order of docs/MODEL.md: each contract holds for all input. The types with their methods are those of `model`.
+// What a buyer may call, in the order of docs/MODEL.md: each contract holds for all input. The types and their methods are those of `model`.
 pub use model::Alinea;
 pub use model::DemandCapacity;
 pub use model::Ended;
@@ -66,14 +66,14 @@ pub fn gate_demand(capacity: u32, queue: u32) -> u32
     flow::gate_demand(capacity, queue)
 }
 
-// The supply of a cell; a cell that holds more than its jam count has none.
+// The supply of a cell; it is 0 if the cell holds more than its jam count.
 pub fn supply(wave: u16, capacity: u32, jam: u32, held: u32) -> u32
     ensures { λ r. ⌜ r ≡ supplyOf wave capacity jam held ⌝ }
 {
     flow::supply(wave, capacity, jam, held)
 }
 
-// What a release leaves of a cell's supply; a release above the supply leaves nothing.
+// A cell's supply less a release; it is 0 if the release is above the supply.
 pub fn room(supply: u32, release: u32) -> u32
     ensures { λ r. ⌜ r ≡ roomOf supply release ⌝ }
 {
@@ -87,21 +87,21 @@ pub fn onward(share: u16, cumulative: u32) -> u64
     flow::onward(share, cumulative)
 }
 
-// What an outflow lets into the next cell: the growth of the onward total.
+// What enters the next cell with an outflow: the growth of the onward total.
 pub fn entering(share: u16, cumulative: u32, outflow: u32) -> u64
     ensures { λ r. ⌜ r ≡ enteringOf share cumulative outflow ⌝ }
 {
     flow::entering(share, cumulative, outflow)
 }
 
-// The outflow: the greatest up to the demand that lets no more than the room into the next cell, by one division. Of a whole share all goes on.
+// The greatest outflow up to the demand with which no more than the room enters the next cell, by one division. With share 1,000 all of it goes on.
 pub fn outflow(share: u16, cumulative: u32, room: u32, demand: u32) -> u32
     ensures { λ r. ⌜ r ≡ outflowOf share cumulative room demand ⌝ }
 {
     flow::outflow(share, cumulative, room, demand)
 }
 
-// The same number by halves, as the course narrows it down between 0 and the demand.
+// The same number by halves, as in the course: it is narrowed down between 0 and the demand.
 pub fn outflow_by_halves(share: u16, cumulative: u32, room: u32, demand: u32) -> u32
     ensures { λ r. ⌜ r ≡ outflowOf share cumulative room demand ⌝ }
 {
@@ -129,7 +129,7 @@ pub fn at_ramps(r: Road, s: State) -> u64
     counts::at_ramps(r, s)
 }
 
-// The sum over cells of F less the onward total; n above 64 counts as 64.
+// The sum over the cells of F less the onward total; n above 64 counts as 64.
 pub fn exits(r: Road, s: State) -> u64
     ensures { λ x. ⌜ x ≡ exitsOf r s ⌝ }
 {
@@ -138,7 +138,7 @@ pub fn exits(r: Road, s: State) -> u64
 
 // docs/MODEL.md, 'Lanes closed during works'
 
-// What the open lanes leave of a cell's capacity; 0 where no lane is built.
+// The capacity that the open lanes leave a cell; it is 0 if no lane is built.
 pub fn open_capacity(capacity: u32, built: u8, usable: u8) -> u32
     ensures { λ c. ⌜ c ≡ openCapacity capacity built usable ⌝ }
 {
@@ -156,7 +156,7 @@ pub fn weighted(r: Road, s: State, weights: Weights) -> u64
 
 // docs/MODEL.md, 'Reading'
 
-// Reads a record of any length, with no limits but the model's.
+// Reads a record of any length, with only the model's limits.
 pub fn read(bytes: &[u8]) -> Reading
     ensures { λ a. ⌜ readAnswer a ≡ readingOf (now (bytes .entry)) ⌝ }
 {
@@ -174,7 +174,7 @@ pub fn read_within(bytes: &[u8], cells: usize, most: usize) -> Reading
 
 // docs/MODEL.md, 'Stepping'
 
-// `step` of `stepping` is re-exported: a body here would copy road and state once more, 110 instructions on 5,890.
+// `step` of `stepping` is re-exported, because a function here would copy road and state once more: 110 instructions on top of 5,890.
 
 // docs/MODEL.md, 'Running'
 
@@ -240,7 +240,7 @@ pub fn history(
 
 // docs/MODEL.md, 'Writing'
 
-// Writes a record into the target, or leaves it as it is: 2, 3, 19, 1, 4, 5, 6, then 15.
+// Writes a record into the target, or leaves it unchanged: 2, 3, 19, 1, 4, 5, 6, then 15.
 pub fn write(road: Road, steps: usize, start: Start, rows: &[u32], target: &mut [u8]) -> Written
     ensures answer { λ a. ⌜ writeAnswer a ≡ writingOf road steps start (now (rows .entry)) (now (target .entry)) ⌝ }
     ensures target { λ a. ⌜ now (target .exit) ≡ targetAfter road steps start (now (rows .entry)) (now (target .entry)) ⌝ }
@@ -251,14 +251,14 @@ pub fn write(road: Road, steps: usize, start: Start, rows: &[u32], target: &mut 
 
 // docs/MODEL.md, 'The numbers of a row'
 
-// The numbers of step t's row as the layout of n cells places them, 0 where the bytes hold none.
+// The numbers of step t's row in the layout of n cells, 0 if the bytes don't hold them.
 pub fn row(bytes: &[u8], n: usize, t: usize) -> [u32; 129]
     ensures { λ r. ⌜ r ≡ rowArray (now (bytes .entry)) n t ⌝ }
 {
     taking::row(bytes, n, t)
 }
 
-// Puts the rows of the first steps into a list, one after the other, and answers how many numbers they have; 0 where there is no room for them.
+// Puts the rows of the first steps into a list, one after the other, and returns the count of their numbers; 0 if there is no room.
 pub fn rows(bytes: &[u8], n: usize, steps: usize, list: &mut [u32]) -> usize
     ensures count { λ c. ⌜ c ≡ takenCount n steps (length (now (list .entry))) ⌝ }
     ensures list { λ c. ⌜ now (list .exit) ≡ takenList (now (bytes .entry)) n steps (now (list .entry)) ⌝ }
@@ -268,7 +268,7 @@ pub fn rows(bytes: &[u8], n: usize, steps: usize, list: &mut [u32]) -> usize
 
 // docs/MODEL.md, 'Joining'
 
-// Joins two records into the target, or leaves it as it is: what reading refuses, upstream first, then 5, 20, 21, 22 and 15.
+// Joins two records into the target, or leaves it unchanged: the refusals of reading, upstream first, then 5, 20, 21, 22 and 15.
 pub fn join(upstream: &[u8], downstream: &[u8], share: u16, target: &mut [u8]) -> Written
     ensures answer { λ a. ⌜ writeAnswer a ≡ joiningOf (now (upstream .entry)) (now (downstream .entry)) share (now (target .entry)) ⌝ }
     ensures target { λ a. ⌜ now (target .exit) ≡ joinedTarget (now (upstream .entry)) (now (downstream .entry)) share (now (target .entry)) ⌝ }
@@ -279,14 +279,14 @@ pub fn join(upstream: &[u8], downstream: &[u8], share: u16, target: &mut [u8]) -
 
 // docs/MODEL.md, 'Meter laws'
 
-// The wish of a law, by the last release, what entered the cell from upstream in the last step, and what the cell holds.
+// The wish of a law, from the last release, what entered the cell from upstream in the last step, and the cell's held count.
 pub fn wish(law: Law, last: u32, entered: u32, held: u32) -> f64
     ensures { λ r. ⌜ r ≡ wishOf law last entered held ⌝ }
 {
     meter::wish(law, last, entered, held)
 }
 
-// The release of a wish: the greatest whole number up to the cap that is not above it, the wish without its fraction below the cap.
+// The release of a wish: the greatest whole number not above the wish, at most the cap.
 pub fn release(wish: f64, cap: u32) -> u32
     ensures { λ r. ⌜ r ≡ wholeBelow wish cap ⌝ }
 {
@@ -306,7 +306,7 @@ pub fn fill(bytes: &mut [u8], laws: [Law; 64], table: &[u8], out: &mut [u32]) ->
     filling::fill(bytes, laws, table, out)
 }
 
-// Fills so with the longest queues: filling's answer, record and list, and the longest queues of gate and on-ramps over the steps done.
+// Fills a record in the same way with its longest queues: filling's answer, record and list, and the longest queues over the steps done.
 pub fn fill_longest(bytes: &mut [u8], laws: [Law; 64], table: &[u8], out: &mut [u32]) -> Longest
     ensures answer { λ e. ⌜ endAnswer (e .ended) ≡ fillingOf laws (now (bytes .entry)) (now (table .entry)) (now (out .entry)) ⌝ }
     ensures bytes { λ e. ⌜ now (bytes .exit) ≡ recordAfter laws (now (bytes .entry)) (now (table .entry)) (now (out .entry)) ⌝ }
@@ -321,8 +321,8 @@ pub fn fill_longest(bytes: &mut [u8], laws: [Law; 64], table: &[u8], out: &mut [
 
 // docs/MODEL.md, 'Going on'
 
-// Runs the rows of a further record from a state, with its longest queues and its weighted total: the refusals of reading, 17, 18, 7, 8, 11, then 9 or
-// 10 with its step, counted in these rows, and cell.
+// Runs the rows of a further record from a state, with its longest queues and its weighted total: the refusals of reading, 17, 18, 7, 8, 11, then
+// 9 or 10 with its step, counted in these rows, and its cell.
 pub fn run_on(bytes: &[u8], table: &[u8], weights: Weights, from: State, out: &mut [u32]) -> Tallied
     ensures answer { λ e. ⌜ endAnswer (e .longest .ended) ≡ runningOn (now (bytes .entry)) (now (table .entry)) from (now (out .entry)) ⌝ }
     ensures list { λ e. ⌜ now (out .exit) ≡ listOn (now (bytes .entry)) (now (table .entry)) from (now (out .entry)) ⌝ }
@@ -340,7 +340,7 @@ pub fn judge_on(bytes: &[u8], table: &[u8], from: State, schedule: &[u32]) -> En
     judging::judge_on(bytes, table, from, schedule)
 }
 
-// Judges so and writes the schedule's states: the refusals of reading, 17, 18, 7, 8, 12, 11, then as judging.
+// Judges in the same way and writes the schedule's states: the refusals of reading, 17, 18, 7, 8, 12, 11, then as judging.
 pub fn history_on(
     bytes: &[u8],
     table: &[u8],
@@ -356,8 +356,8 @@ pub fn history_on(
     judging::history_on(bytes, table, from, schedule, held, queue)
 }
 
-// Fills the rows of a further record from where an earlier one was left, with its longest queues: the refusals of reading, 16, 17, 18, 7, 8, 11. Its
-// state, releases and entries are what the next record goes on from.
+// Fills the rows of a further record from the progress that an earlier one left, with its longest queues: the refusals of reading, 16, 17, 18, 7,
+// 8, 11. The next record goes on from its state, releases and entries.
 pub fn fill_on(
     bytes: &mut [u8],
     laws: [Law; 64],
@@ -417,7 +417,7 @@ pub fn fill_many(
 
 // docs/MODEL.md, 'Releases for a wanted queue'
 
-// Gives the releases whose running sum is least after every step, where any table keeps the queue; otherwise the table is unchanged.
+// Finds the releases with the least running sum after every step; if no table keeps the queue, the lent table is unchanged.
 pub fn wanted(start: u32, ceiling: u32, rate: u32, arrivals: &[u32], table: &mut [u32]) -> Wanted
     ensures answer { λ r. ⌜ wantedAnswer r ≡ wantedOf start ceiling rate (now (arrivals .entry)) (length (now (table .entry))) ⌝ }
     ensures table { λ r. ⌜ now (table .exit) ≡ tableAfter start ceiling rate (now (arrivals .entry)) (now (table .entry)) ⌝ }
@@ -461,7 +461,7 @@ pub fn load(seed: u32, peak: u32, list: &mut [u32]) -> Loaded
 
 // docs/MODEL.md, 'A run printed whole'
 
-// The total that `total` gives × seconds ÷ 1,000, rounded down; where that passes 64 bits, the greatest number of 64 bits.
+// The total of `total` × seconds ÷ 1,000, rounded down, at most the greatest number of 64 bits.
 pub fn vehicle_seconds(seconds: u16, state: State) -> u64
     ensures { λ r. ⌜ r ≡ vehicleSecondsOf seconds state ⌝ }
 {

@@ -1,4 +1,4 @@
--- Laws of the listing: how long its lines are, and their words put one after the other. Assumes nothing.
+-- Laws of the listing: the lengths of its lines, and their words put one after the other. Assumes nothing.
 use mathlib.Core.List.{List, _++_}
 use Prim.Native.Nat.{ℕ, zero, suc, _+_, _*_, _≤_, _<_}
 use mathlib.Core.Path.{_≡_, refl, sym, _∙_}
@@ -13,7 +13,7 @@ use Rattle.listing.specs.WordsLaws.{word-length, named-length, Word, Nam
 use Rattle.model.specs.Listing.{mostLine, mostLast, mostTime, refusedWord, totalWord, gateWord, roadWord, rampWord, exitsWord, secondsWord, headerLine, lineOf, cellLines}
 use Rattle.model.specs.Listing.{linesOf, totalLine, secondsLine, refusedLine}
 
--- a state with what they show lent: the gate's queue and these columns, and otherwise as s
+-- a state with the gate's queue and the columns that the lines show; everything else is s's
 abbrev pub showing : State → ℕ → List ℕ → List ℕ → State
 showing s gate held queue = record {
   done = s .done;
@@ -150,7 +150,7 @@ module _ {a : List ℕ} {start : ℕ} {b : List ℕ} {p : ℕ} {c : List ℕ} {q
   refused-put (Text.put h) (Word.put i) (Word.put j) (Word.put k) =
       puts-more a start _ b p _ e v h (puts-more b p _ c q _ e v i (puts-more c q _ d u _ e v j k))
 
--- when the lines of i cells are put after those before, of every state that shows what is lent
+-- the lines of i cells are put after those before, for every state with these columns
 pub record Listed (a : List ℕ) (start step n : ℕ) (y : List ℕ) (gate : ℕ) (held queue b : List ℕ) (end i : ℕ) : Type 0 where
   pub within : i ≤ n
   pub puts : (s : State) → Puts a start (cellLines step y (showing s gate held queue) i) b end
@@ -177,7 +177,7 @@ module _ {a : List ℕ} {start step n : ℕ} {y : List ℕ} {gate : ℕ} {held q
           room = record { end = omega (arith, z .end, h .room .end); same = z .same ∙ h .room .same };
         }
 
-    -- after the gate's line: what is left of the room, and the lines of the step
+    -- after the gate's line: the room that is used, and the lines of the step
     module _ (g : List ℕ) (from : ℕ) (p : Puts g from (lineOf step 0 (at y 0) gate 0) a start) where
       pub listed-room : Room g from b end (mostLine + mostLine * i)
       listed-room = room-more (line-room g from _ _ _ _ _ a start p) (h .room)

@@ -1,4 +1,4 @@
--- Laws of the listing's words: how long they are, and that io's digits are their own. Assumes nothing.
+-- Laws of the listing's words: their lengths, and that io's digits are those of the definition. Assumes nothing.
 use mathlib.Core.Path.{_≡_, refl, _∙_}
 use mathlib.Core.Bool.{Bool, true, false, cond}
 use mathlib.Core.List.{List, [], _∷_, _++_}
@@ -29,7 +29,7 @@ digits-length (suc most) n = one-or-more (ltb n 10) _ _ (digitsOf most (n / 10))
 pub word-length : (n after : ℕ) → length (wordOf n after) ≤ mostWord
 word-length n after = omega (arith, length-append (decimalOf n) (after ∷ []), digits-length 20 n)
 
--- io's digits of a number, as many as it has
+-- io's digits of a number, as many as the number has
 pub decimal-digits : (most k n : ℕ) → Fewest 10 1 n k → k ≤ most → digits 10 k n ≡ digitsOf most n
 unfolding digitsOf
 decimal-digits zero k n f l = absurd (omega (arith, f .0))
@@ -59,27 +59,27 @@ decimal-most n k h f = go (leb k 20) refl
         let p : 10 ^ 20 ≤ 10 ^ (k - 1) = pow-le-pow-right {n = 10} (omega arith) {i = 20} {j = k - 1} (omega arith) in
         absurd (omega (arith, f .2 (omega arith)))
 
--- the digits that io makes of a number
+-- the digits that io gives for a number
 pub record DigitsMade (n k : ℕ) (text : List ℕ) : Type 0 where
   pub fewest : Fewest 10 1 n k
   pub few : k ≤ 20
   pub made : text ≡ digits 10 k n
   pub count : length text ≡ k
 
--- they and the byte after them, each put, are a word
+-- these digits and the byte after them, put one after the other, are a word
 pub word-put : {a : List ℕ} {start n after k : ℕ} {text b : List ℕ} {m : ℕ} {c : List ℕ} {e : ℕ}
     → DigitsMade n k text → Text a start text b m → Text b m (after ∷ []) c e → Puts a start (wordOf n after) c e
 word-put {a} {start} {n} {after} {k} {text} {b} {m} {c} {e} d (Text.put p) (Text.put q) =
     rw (d .made ∙ decimal-digits 20 k n (d .fewest) (d .few)) at (puts-more a start text b m (after ∷ []) c e p q)
 
--- a word that was put, and what it leaves of the room
+-- a word that was put, and the room that it uses
 pub data Word (a : List ℕ) (start n after : ℕ) (b : List ℕ) (m : ℕ) : Type 0 where
   put : Puts a start (wordOf n after) b m → Word a start n after b m
 
 pub word-room : {a : List ℕ} {start n after : ℕ} {b : List ℕ} {m : ℕ} → Word a start n after b m → Room a start b m mostWord
 word-room {a} {start} {n} {after} {b} {m} (Word.put p) = room a start (wordOf n after) b m mostWord p (word-length n after)
 
--- the same of a name and a number
+-- the same for a name and a number
 pub data Named (a : List ℕ) (start : ℕ) (name : List ℕ) (n after : ℕ) (b : List ℕ) (m : ℕ) : Type 0 where
   put : Puts a start (namedOf name n after) b m → Named a start name n after b m
 
@@ -95,7 +95,7 @@ pub named-put : {a : List ℕ} {start : ℕ} {name : List ℕ} {n after : ℕ} {
     → Text a start name b p → Word b p n after c q → Puts a start (namedOf name n after) c q
 named-put {a} {start} {b = b} {p} {c} {q} (Text.put h) (Word.put i) = puts-more a start _ b p _ c q h i
 
--- what is left after a text or a word, and a word
+-- the room that a text or a word and a word after it use
 module _ {a : List ℕ} {start n after : ℕ} {b : List ℕ} {m : ℕ} {c : List ℕ} {e : ℕ} where
   pub named-room : {x : List ℕ} → Text a start x b m → Word b m n after c e → Room a start c e (length x + mostWord)
   named-room t w = room-more (text-room t) (word-room w)

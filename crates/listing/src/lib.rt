@@ -8,7 +8,7 @@ ghost use Rattle.model.specs.declared.State.{State};
 ghost use Rattle.model.specs.Listing.{mostLine, mostLast, mostTime, headerLine, lineOf, linesOf, totalLine, secondsLine, refusedLine};
 ghost use Rattle.listing.specs.ListingLaws.{showing};
 
-// Copies a text into the buffer from `at` on, and gives the index after it.
+// Copies a text into the buffer from `at` on, and returns the index after it.
 pub fn put(buffer: &mut [u8], at: usize, text: &[u8]) -> usize
     requires { ⌜ at + length (now text) ≤ length (now buffer) ⌝ }
     ensures { λ r. ⌜ Puts (now (buffer .entry)) at (now (text .entry)) (now (buffer .exit)) r ⌝ }
@@ -21,7 +21,7 @@ pub fn put(buffer: &mut [u8], at: usize, text: &[u8]) -> usize
     at + i
 }
 
-// A number in decimal and the byte after it.
+// Puts a number in decimal and the byte after it.
 pub fn word(buffer: &mut [u8], at: usize, n: u64, after: u8) -> usize
     requires { ⌜ at + mostWord ≤ length (now buffer) ⌝ }
     ensures { λ r. ⌜ Puts (now (buffer .entry)) at (wordOf n after) (now (buffer .exit)) r ⌝ }
@@ -32,7 +32,7 @@ pub fn word(buffer: &mut [u8], at: usize, n: u64, after: u8) -> usize
     put(buffer, end, &[after])
 }
 
-// A name, a number in decimal and the byte after it.
+// Puts a name, a number in decimal and the byte after it.
 pub fn named(buffer: &mut [u8], at: usize, name: &[u8], n: u64, after: u8) -> usize
     requires { ⌜ at + (length (now name) + mostWord) ≤ length (now buffer) ⌝ }
     ensures { λ r. ⌜ Puts (now (buffer .entry)) at (namedOf (now (name .entry)) n after) (now (buffer .exit)) r ⌝ }
@@ -41,7 +41,7 @@ pub fn named(buffer: &mut [u8], at: usize, name: &[u8], n: u64, after: u8) -> us
     word(buffer, end, n, after)
 }
 
-// One place of a step.
+// Puts the line of one place.
 fn line(
     buffer: &mut [u8],
     at: usize,
@@ -61,7 +61,7 @@ fn line(
     word(buffer, to_queue, queue as u64, b'\n')
 }
 
-// All places of a step: its row of outflows and the state after it, of which what is shown is lent.
+// Puts the lines of a step: of its row of outflows and the state after it, whose columns are lent.
 pub fn lines<'a>(
     buffer: &mut [u8],
     at: usize,
@@ -85,7 +85,7 @@ pub fn lines<'a>(
     end
 }
 
-// The names of the columns.
+// Puts the header.
 pub fn header(buffer: &mut [u8], at: usize) -> usize
     requires { ⌜ at + mostLine ≤ length (now buffer) ⌝ }
     ensures { λ r. ⌜ Puts (now (buffer .entry)) at headerLine (now (buffer .exit)) r ⌝ }
@@ -93,7 +93,7 @@ pub fn header(buffer: &mut [u8], at: usize) -> usize
     put(buffer, at, b"step place outflow held queue\n")
 }
 
-// The line of the totals.
+// Puts the line of the totals.
 pub fn total(
     buffer: &mut [u8],
     at: usize,
@@ -113,7 +113,7 @@ pub fn total(
     named(buffer, to_exits, b"exits ", exits, b'\n')
 }
 
-// The line of the seconds, after that of the totals.
+// Puts the line of the seconds, after that of the totals.
 pub fn seconds(buffer: &mut [u8], at: usize, time: u64) -> usize
     requires { ⌜ at + mostTime ≤ length (now buffer) ⌝ }
     ensures { λ r. ⌜ Puts (now (buffer .entry)) at (secondsLine time) (now (buffer .exit)) r ⌝ }
@@ -121,7 +121,7 @@ pub fn seconds(buffer: &mut [u8], at: usize, time: u64) -> usize
     named(buffer, at, b"seconds ", time, b'\n')
 }
 
-// The only line of a refusal.
+// Puts the only line of a refusal.
 pub fn refused(buffer: &mut [u8], at: usize, number: u8, step: usize, place: usize) -> usize
     requires { ⌜ at + mostLine ≤ length (now buffer) ⌝ }
     ensures { λ r. ⌜ Puts (now (buffer .entry)) at (refusedLine number step place) (now (buffer .exit)) r ⌝ }

@@ -1,4 +1,4 @@
-// The model's edges, as far as leaves and stepping go, computed by the compiled code.
+// The edges of docs/MODEL.md for the rules of one place and for stepping, computed by the compiled code.
 use freeway::Road;
 use freeway::State;
 
@@ -95,7 +95,7 @@ fn printed_road() -> Road {
     road
 }
 
-// Its start, with another queue at the ramp.
+// The start of the printed run, with another queue at the ramp.
 fn start(queue: u32) -> State {
     let mut state = State::empty();
     state.gate_queue = 3000;
@@ -105,7 +105,7 @@ fn start(queue: u32) -> State {
     state
 }
 
-// Its row, with another release.
+// The row of the printed run, with another release.
 fn row(release: u32) -> [u32; 5] {
     [1000, 0, 0, 500, release]
 }
@@ -119,7 +119,7 @@ fn number(value: u32) {
     word(value as u64);
 }
 
-// How much F grew: the outflow in the step.
+// The growth of F: the outflow in the step.
 fn growth(before: u32, after: u32) -> u32 {
     if before < after { after - before } else { 0 }
 }
@@ -130,7 +130,7 @@ fn cell(outflow: u32, held: u32, queue: u32) {
     number(queue);
 }
 
-// Outflow in the step, held or gate queue after it, ramp queue after it.
+// Prints for each place the outflow in the step, held or gate queue after it, and ramp queue after it.
 fn places(before: State, after: State) {
     number(growth(before.gate_cumulative, after.gate_cumulative));
     number(after.gate_queue);
@@ -151,8 +151,8 @@ fn built() -> [u8; 64] {
     [7; 64]
 }
 
-// One step with all lanes open, printed: refusal, place, the places' numbers, present, its parts on the road and at the ramps, total, gate, road and ramp time,
-// and exits. The next state is returned.
+// One step with all lanes open, printed: refusal, place, the places' numbers, present, on the road and at the ramps, total, gate, road and ramp
+// time, and exits. Returns the next state.
 fn stepped(label: &[u8], road: Road, before: State, numbers: &[u32]) -> State {
     stepped_by(label, road, before, numbers, built(), built())
 }
@@ -194,7 +194,7 @@ fn printed_run() {
     stepped(b"printed run, step 2:", road, second, &numbers);
 }
 
-// A step of the printed run from a start with another queue at the ramp, and with another release.
+// A step of the printed run from a start with another queue at the ramp, with another release.
 fn released(label: &[u8], queue: u32, release: u32) {
     stepped(label, printed_road(), start(queue), &row(release));
 }
@@ -221,14 +221,14 @@ fn held(label: &[u8], count: u32) {
     stepped(label, printed_road(), full, &row(300));
 }
 
-// And from one that has done some steps.
+// A step of the printed run from a start that has done some steps.
 fn done(label: &[u8], steps: usize) {
     let mut late = start(1500);
     late.done = steps;
     stepped(label, printed_road(), late, &row(300));
 }
 
-// And from one after a step with these times.
+// A step of the printed run from a start after one step with these times.
 fn times(label: &[u8], gate: u64, on_road: u64, ramp: u64) {
     let mut late = start(1500);
     late.done = 1;
@@ -298,7 +298,7 @@ fn opened(label: &[u8], lanes: u8, steps: usize, release: u32) {
     stepped_by(label, printed_road(), late, &row(release), built(), usable);
 }
 
-// The lanes of cell 2: a lane closed of three leaves a supply of 666. The lanes of cell 3, which the road has not, are not read.
+// The lanes of cell 2: with one of three closed the supply is 666. The lanes of cell 3, which is not on the road, are not read.
 fn closures() {
     opened(b"a lane closed, release 666:", 6, 0, 666);
     opened(b"a lane closed, release 667:", 6, 0, 667);

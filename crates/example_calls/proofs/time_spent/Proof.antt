@@ -10,7 +10,7 @@ use borrow.Author.Needs.{needs}
 use Rattle.example_calls.proofs.time_spent.Statement.{statement}
 use Rattle.example_calls.proofs.time_spent.Tie as tie
 
--- what is given of an answer
+-- what `time_spent` returns for an answer
 abbrev given : EndAnswer → ℕ
 given a = cond (eqb (a .number) 0) (min (totalOf (a .state)) mostLong) 0
 

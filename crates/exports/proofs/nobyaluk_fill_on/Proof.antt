@@ -22,7 +22,7 @@ Given c = c .before .before .before
 abbrev A : tie.After-laws → tie.Start
 A c = c .before .before .before .before .before .before
 
--- by the laws given, a definition of filling
+-- a definition of filling, with the laws given
 by : {X : Type 0} (c : tie.After-laws) (f : List Law → List ℕ → List ℕ → Metered → List ℕ → X) →
     let a = A c .args in
     f (c .laws .result) (a .bytes .now) (a .lanes .now) (progressed (a .from)) (a .list .now)

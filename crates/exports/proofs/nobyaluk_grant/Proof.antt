@@ -1,4 +1,4 @@
--- `exports::nobyaluk_grant` meets its contract: the refusal's number in each of its promises. Assumes nothing.
+-- `exports::nobyaluk_grant` meets its contract: each of its promises is about the refusal's number. Assumes nothing.
 use mathlib.Core.Path.{_∙_}
 use borrow.Author.Needs.{needs}
 use Rattle.exports.proofs.nobyaluk_grant.Statement.{statement}

@@ -7,11 +7,11 @@ use Rattle.exports.proofs.nobyaluk_wanted.Statement.{statement}
 use Rattle.exports.proofs.nobyaluk_wanted.Tie as tie
 use borrow.Author.Needs.{needs}
 
--- what the matched case says
+-- the answer of the matched case
 case : {given met : Wanted} {a : WantedAnswer} → given ≡ met → wantedAnswer given ≡ a → wantedFor (wantedAnswer met) ≡ wantedFor a
 case e h = ap wantedFor (sym (ap wantedAnswer e) ∙ h)
 
--- places of the code: the search, from where its answer is looked at, and where the case is known, from the refusal's number
+-- places of the code: the search from the match of its answer, and the matched case from the refusal's number
 abbrev to-wanted : tie.After-slice-known2 → tie.After-wanted
 to-wanted c = c .before .before
 

@@ -4,7 +4,7 @@ use Rattle.listing.proofs.header.Statement.{statement}
 use Rattle.listing.proofs.header.Tie as tie
 use borrow.Author.Needs.{needs}
 
--- where the names have been put
+-- places of the code: after the names are put
 abbrev Names : tie.After-slice-known2 → tie.After-put
 Names c = c .before .before
 

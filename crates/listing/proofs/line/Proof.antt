@@ -7,7 +7,7 @@ use Rattle.listing.proofs.line.Tie as tie
 use native.Mathlib.Omega.{arith}
 use borrow.Author.Needs.{needs}
 
--- where each word has been put, from the next call
+-- places of the code: after each word, from the next call
 abbrev Step : tie.After-word-arg2 → tie.After-word
 Step c = c .before .before .before
 

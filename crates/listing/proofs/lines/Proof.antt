@@ -12,7 +12,7 @@ Inv-loop buffer₀ at step n outflows gate held queue end₀ i₀ buffer end i =
 abbrev μ-loop : tie.MeasureT-loop
 μ-loop buffer₀ at step n outflows gate held queue end₀ i₀ buffer end i = n - i
 
--- the gate's line, from the loop's place; a turn, from its line's call; and the cell's line, from the turn's end
+-- places of the code: the gate's line from the loop; a turn from its line's call; and the cell's line from the turn's end
 abbrev Gate : tie.At-loop Inv-loop μ-loop → tie.After-line Inv-loop μ-loop
 Gate c = c .before .before .before
 

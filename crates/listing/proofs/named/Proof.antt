@@ -5,7 +5,7 @@ use Rattle.listing.proofs.named.Statement.{statement}
 use Rattle.listing.proofs.named.Tie as tie
 use borrow.Author.Needs.{needs}
 
--- where the name has been put, from where the number has, and this from the end
+-- places of the code: after the name, from after the number; and after the number, from the end
 abbrev Name : tie.After-word → tie.After-put
 Name c = c .before .before .before .before
 

@@ -13,7 +13,7 @@ Inv-loop buffer₀ at text i₀ buffer i = Copied buffer₀ at text buffer i
 abbrev μ-loop : tie.MeasureT-loop
 μ-loop buffer₀ at text i₀ buffer i = length text - i
 
--- the loop's place, from a turn
+-- places of the code: the loop's start, from a turn
 abbrev L : tie.After-shared-slice-known Inv-loop μ-loop → tie.At-loop Inv-loop μ-loop
 L c = c .before .before
 

@@ -7,7 +7,7 @@ use Rattle.listing.proofs.refused.Statement.{statement}
 use Rattle.listing.proofs.refused.Tie as tie
 use borrow.Author.Needs.{needs}
 
--- where each text has been put, from the next call
+-- places of the code: after each text, from the next call
 abbrev Name : tie.After-word-arg → tie.After-put
 Name c = c .before .before .before
 

@@ -4,7 +4,7 @@ use Rattle.listing.proofs.seconds.Statement.{statement}
 use Rattle.listing.proofs.seconds.Tie as tie
 use borrow.Author.Needs.{needs}
 
--- where the name and its number have been put
+-- places of the code: after the name and its number
 abbrev Named : tie.After-slice-known2 → tie.After-named
 Named c = c .before .before
 

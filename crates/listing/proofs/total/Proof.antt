@@ -8,7 +8,7 @@ use Rattle.listing.proofs.total.Statement.{statement}
 use Rattle.listing.proofs.total.Tie as tie
 use borrow.Author.Needs.{needs}
 
--- where each name and its number have been put, from the next call
+-- places of the code: after each name and its number, from the next call
 abbrev Total : tie.After-named-arg4 → tie.After-named
 Total c = c .before .before .before .before
 

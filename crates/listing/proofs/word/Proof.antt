@@ -1,4 +1,4 @@
--- `listing::word` meets its contract: io's digits are the listing's. Assumes nothing.
+-- `listing::word` meets its contract: io's digits are those of the definition. Assumes nothing.
 use mathlib.Core.Path.{sym}
 use Prim.Native.Nat.{_^_, _<_}
 use lib.ListN.{take}
@@ -9,7 +9,7 @@ use Rattle.listing.proofs.word.Statement.{statement}
 use Rattle.listing.proofs.word.Tie as tie
 use borrow.Author.Needs.{needs}
 
--- the digits made, the digits put and the byte put after them, each from the place after it, and the arguments
+-- places of the code: the digits made, the digits put and the byte put after them, each from the next; and the arguments
 abbrev Digits : tie.After-digits2 → tie.After-decimal
 Digits c = c .before .before
 
