@@ -108,8 +108,8 @@ starred = edges.starred-edges
 pub read-within : (s : List ℕ) → readingOf s .number ≡ 0 → Accepted s (readingOf s .steps) (readingOf s .road) (readingOf s .state)
 read-within s h = within.read-within s (readingOf s) refl h
 
--- 'the rounding decides where they say nothing': compared with the same study counted K times finer, no cumulative outflow differs by more than 2 k
--- parts, divided by the part of its traffic that reaches the end, after every step that both reach; less if all that leaves a cell goes on
+-- 'the rounding decides where they say nothing': how far F is from that of the same study counted K times finer. After every step that both reach
+-- the difference is at most 2 k parts, divided by the part of the traffic that reaches the end; less if all that leaves a cell goes on
 pub rounding : (bytes lanes : List ℕ) → Taken bytes lanes → (K : ℕ) → 0 < K → rounds.Within lanes K → (k : ℕ)
     → Fitting (studyOf bytes lanes) k → Fitting (scaled K (studyOf bytes lanes)) k
     → rounds.Near K k (studyOf bytes lanes .road) (engineAfter (studyOf bytes lanes) k) (engineAfter (scaled K (studyOf bytes lanes)) k)
@@ -235,7 +235,7 @@ pub weights-unread : (bytes lanes : List ℕ) (w v u x : ℕ → ℕ) → ((p : 
     → weightedTotalOfRun w u bytes lanes list ≡ weightedTotalOfRun v x bytes lanes list
 weights-unread = unread.run-unread
 
--- a larger v, w, J or C of cells never makes the total larger, after every step that both roads reach with the same releases, start, arrivals and closures
+-- a larger v, w, J or C of cells never makes the total larger, after every step that both roads reach; releases, start, arrivals and closures are the same
 pub raised : (s t lanes : List ℕ) → Taken s lanes → Taken t lanes → Improved (studyOf s lanes) (studyOf t lanes) → (list out : List ℕ) (k : ℕ)
     → k ≤ stepsMade (studyOf s lanes) (runningOf s lanes list) → k ≤ stepsMade (studyOf t lanes) (runningOf t lanes out)
     → Ahead (studyOf s lanes .road) (engineAfter (studyOf t lanes) k) (engineAfter (studyOf s lanes) k)
@@ -413,8 +413,8 @@ pub caller-larger : (s : List ℕ) (cells most more longer : ℕ) → cells ≤ 
     → readingWithin more longer s ≡ readingWithin cells most s
 caller-larger = callers.within-larger
 
--- going on from a state: b is the rest of a after k steps without a fault. Going on is not refused with 7 or 8, the whole ends as the rest does,
--- and no schedule of the whole is ahead of a run in stretches
+-- going on from a state: b is the rest of a after k steps without a fault. Going on is not refused with 7 or 8, and the whole ends as the rest does.
+-- No schedule of the whole is ahead of a run in stretches
 pub stretch-starts : {a b : Study} {k : ℕ} → onward.Rest a b k → StudyOk a → ((j : ℕ) → j < k → runSays a j .number ≡ 0) → b .start ≡ engineAfter a k
     → stateFault b ≡ 0
 stretch-starts h ok none s = stretches.starts-rest h ok none s

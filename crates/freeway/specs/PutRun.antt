@@ -1,4 +1,4 @@
--- Theorem about putting a release and running: the record that putting leaves runs under the same tables of lanes, its run checks the release
+-- Theorem about putting a release and running. The record that putting leaves runs under the same tables of lanes. Its run checks the release
 -- against queue and supply, and demand 3 holds for it against its own rivals. Assumes nothing.
 use mathlib.Core.Path.{_≡_, refl, ap, _∙_}
 use mathlib.Core.List.{List}
@@ -21,7 +21,7 @@ use Rattle.theory.specs.Readable.{readable}
 use Rattle.model.specs.Demand.{Taken, Promised}
 use Rattle.theory.specs.DemandWhole.{promised}
 
--- in the state that a table of outflows has before a step, a release at i is at most queue plus arrivals, and at most the supply
+-- a release at i in the state before a step of a table of outflows: it is at most queue plus arrivals, and at most the supply
 pub record Checked (a : Study) (out : List ℕ) (step release i : ℕ) : Type 0 where
   pub queue : release ≤ mostReleaseAt (scheduledAt a out step) (a .rows step) i
   pub supply : release ≤ supplyAt (roadAt a step) (scheduledAt a out step) i

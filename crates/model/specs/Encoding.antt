@@ -10,7 +10,7 @@ use Rattle.model.specs.Schedules.{Study, study}
 use Rattle.model.specs.Record.{countSize, shortSize, numberSize, secondsSize, rowNumbers, bytesOf}
 use Rattle.model.specs.Reading.{sizeOf}
 
--- the number of bytes that follow the first field; version; n; T; the step's seconds, where the version has them; gate capacity and queue
+-- the number of bytes that follow the first field; version; n; T; the step's seconds, if the version has them; gate capacity and queue
 unfoldable pub headerOf : ℕ → ℕ → ℕ → ℕ → ℕ → ℕ → List ℕ
 headerOf version n T seconds capacity queue =
     bytesOf countSize (sizeOf version n T - countSize)

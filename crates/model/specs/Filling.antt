@@ -50,7 +50,7 @@ filledStudy laws a = filledFrom laws a (unmetered (a .start))
 unfoldable pub filledBytes : List Law → List ℕ → List ℕ → List ℕ
 filledBytes laws bytes lanes = putTable bytes (studyOf bytes lanes .road .n) (grantedIn laws (studyOf bytes lanes)) (studyOf bytes lanes .steps)
 
--- the place of 16: the lowest ramp whose law has a number that isn't finite, 0 where there is none
+-- the place of 16: the lowest ramp whose law has a number that isn't finite, 0 if there is none
 abbrev pub lawPlace : List Law → Study → ℕ
 lawPlace laws a = lawFaultOf laws (a .road .ramp) (a .road .n)
 

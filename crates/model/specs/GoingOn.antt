@@ -20,7 +20,7 @@ use Rattle.model.specs.Ramps.{putTable, Metered, metered, unmetered}
 use Rattle.model.specs.Filling.{lawPlace, meteredFrom, grantedFrom, filledFrom}
 use Rattle.model.specs.Longest.{Queues, longestOf}
 
--- the study of a record under a table of lanes that starts from a state, with its F, times and steps done, instead of the record's own start
+-- the study of a record under a table of lanes that starts from a state instead of the record's own start: F, times and steps done are the state's
 abbrev pub studyFrom : List ℕ → List ℕ → State → Study
 studyFrom bytes lanes s = studyBy bytes lanes (readingOf bytes .road) s (readingOf bytes .steps)
 

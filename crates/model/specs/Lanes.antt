@@ -35,7 +35,7 @@ builtIn table n = rowAt table n 0
 abbrev pub openIn : List ℕ → ℕ → ℕ → List ℕ
 openIn table n k = rowAt table n (suc k)
 
--- the same test for the cell at i, in all T rows (T is at least 1 in a record, so the lanes built are tested too)
+-- the same test for the cell at i, in all T rows. T is at least 1 in a record, so the lanes built are tested too
 abbrev pub tableAt : List ℕ → ℕ → ℕ → ℕ → Bool
 tableAt table n T i = allOf (λ k. lanesAt (builtIn table n) (openIn table n k) i) T
 

@@ -20,7 +20,7 @@ mostCumulative done = mostRate * done
 abbrev pub mostTotal : ℕ → ℕ
 mostTotal done = mostPresent * done
 
--- a queue, arrivals or a release may be up to `most` at a cell with a ramp (mark 1), and is 0 at a cell without one (mark 0)
+-- the limit of a queue, arrivals or a release: `most` at a cell with a ramp (mark 1), 0 at a cell without one (mark 0)
 abbrev pub atRamp : ℕ → ℕ → ℕ
 atRamp most ramp = most * ramp
 

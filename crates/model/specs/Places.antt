@@ -1,5 +1,5 @@
--- docs/MODEL.md, 'One step': the numbers that the rules use at each place. Place 0 is the gate, and place i + 1 is the cell at i of the arrays,
--- so the cell at p is the one after place p. Assumes nothing.
+-- docs/MODEL.md, 'One step': the numbers that the rules use at each place. Place 0 is the gate, and place i + 1 is the cell at i of the arrays.
+-- So the cell at p is the one after place p. Assumes nothing.
 use mathlib.Core.List.{List}
 use Prim.Native.Nat.{ℕ, zero, suc, _+_, _*_}
 use Rattle.model.specs.declared.State.{State}

@@ -68,7 +68,7 @@ releaseOf ramp wish cap = cond (eqb ramp 0) 0 (wholeBelow wish cap)
 unfoldable pub grantedAt : List Law → Road → Metered → List ℕ → ℕ → ℕ
 grantedAt laws r m row i = releaseOf (at (r .ramp) i) (wishAt laws m i) (capAt r (m .state) row i)
 
--- the row with the releases granted in place of its own
+-- the row with the releases granted instead of its own
 unfoldable pub filledRow : List Law → Road → Metered → List ℕ → List ℕ
 filledRow laws r m row = releasedRow (grantedAt laws r m row) (r .n) row
 

@@ -51,7 +51,7 @@ module _ (rows : ℕ → List ℕ) (w : ℕ) (same : (k : ℕ) → length (rows 
       (λ (m : j < k). row-there k j (rows k ++ rest) m)
       (eq-or-lt-of-le (le-of-suc-le-suc l))
 
-  -- row j of the rows alone
+  -- row j of the rows by themselves
   pub concat-row : (k j : ℕ) → j < k → rowAt (concatOf rows k) w j ≡ rows j
   concat-row k j l = ap (λ (x : List ℕ). rowAt x w j) (sym (append-nil (concatOf rows k))) ∙ row-there k j [] l
 

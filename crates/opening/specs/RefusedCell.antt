@@ -1,4 +1,4 @@
--- The cell that 18 names, as the code finds it. Assumes nothing.
+-- The code's search for the cell that 18 names. Assumes nothing.
 use mathlib.Core.Path.{_≡_, sym, ap, _∙_}
 use mathlib.Core.List.{List}
 use Prim.Native.Nat.{ℕ, _+_}

@@ -90,7 +90,7 @@ zero-bytes s i (suc w) e k l = ⊎-elim
     (λ (m : k < w). zero-bytes s i w (omega arith) k m)
     (eq-or-lt-of-le (le-of-suc-le-suc l))
 
--- so putting 0 where 0 is changes nothing
+-- so putting 0 over 0 changes nothing
 module _ (s : List ℕ) (i : ℕ) (room : i + numberSize ≤ length s) (z : numberOf s i numberSize ≡ 0) where
   abbrev zeroed : List ℕ
   zeroed = placed s i (bytesOf numberSize 0)

@@ -135,7 +135,7 @@ put-releases s n t f (suc c) h l m =
     let held : HoldsRow (putReleases s n t f c) n t = record { cells = l .cells; row = rw (p .version) (omega (arith, p .size, l .row)) } in
     put-more c p (put-entry (putReleases s n t f c) n t (releaseNumber c) (f c) (omega arith) held (m c (omega arith)))
 
--- putting releases of 0 where 0 is changes nothing
+-- putting releases of 0 over 0 changes nothing
 module _ (s : List ℕ) (n t : ℕ) (f : ℕ → ℕ) (held : HoldsRow s n t) (small : (i : ℕ) → f i < 2 ^ 32) where
   -- the release of the cell at i is 0, and 0 is put there
   abbrev pub NoRelease : ℕ → Type 0

@@ -21,7 +21,7 @@ use Rattle.model.specs.Demand.{Taken, Reaches}
 
 -- the sums after k steps of a table of outflows
 pub record Accounts (a : Study) (zs : List ℕ) (k : ℕ) : Type 0 where
-  -- gate, road and ramp time are the sums of the gate queue, of all held counts and of all ramp queues over the states after these steps
+  -- gate, road and ramp time are sums over the states after these steps: of the gate queue, of all held counts and of all ramp queues
   pub gateTime : scheduledAt a zs k .«gate_time» ≡ sumOf (listOf (λ j. scheduledAt a zs (suc j) .«gate_queue») k)
   pub roadTime : scheduledAt a zs k .«road_time» ≡ sumOf (listOf (λ j. heldSum (a .road) (scheduledAt a zs (suc j))) k)
   pub rampTime : scheduledAt a zs k .«ramp_time» ≡ sumOf (listOf (λ j. queueSum (a .road) (scheduledAt a zs (suc j))) k)

@@ -1,6 +1,6 @@
--- Theorem about whole records: a larger speed, wave, jam count or capacity of a cell, or a larger gate capacity, makes no cumulative outflow
--- smaller and no total larger, after every step that both runs reach. Start, arrivals, releases and closures are the same. A larger share is
--- not included: `Raised` of `model/WorkedRoads` has a total that grows with it, and a run that is refused with a larger speed. Assumes nothing.
+-- Theorem about whole records: a larger speed, wave, jam count or capacity of a cell, or a larger gate capacity, makes no F smaller and no total
+-- larger. It holds after every step that both runs reach, with the same start, arrivals, releases and closures. A larger share is not included:
+-- `Raised` of `model/WorkedRoads` has a total that grows with it, and a run that is refused with a larger speed. Assumes nothing.
 use mathlib.Core.Path.{_≡_, refl, sym, ap, _∙_}
 use mathlib.Core.Logic.{⊎-elim}
 use mathlib.Core.List.{List}

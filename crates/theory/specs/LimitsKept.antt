@@ -78,7 +78,7 @@ module _ (r : Road) (s : State) (row y : List ℕ) (ok : InputOk r s row) (z : S
       cumulative = rw (next-done r s row y) (λ i l. cumulative-kept (suc i) l (ok .state .cumulative i l));
     }
 
--- after a step on its road q that is not refused, the next step is not refused with 7 if its row is within the limits, nor with 8 before step 1,440
+-- a step on its road q is not refused. Then the next step is not refused with 7 if its row is within the limits, nor with 8 before step 1,440
 module _ (r q : Road) (h : StepRoad r q) (s : State) (row : List ℕ) (z : Sized q s) (in-limits : inputOk r s row ≡ true) (d : s .done < mostSteps)
     (ok : Released q s row) where
   abbrev N : State

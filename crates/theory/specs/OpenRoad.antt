@@ -107,7 +107,7 @@ module _ (a : Study) where
     pub other : withCapacity q (a .road .capacity) ≡ a .road
     pub same : length (a .lanes) ≡ 0 → q ≡ a .road
 
--- what a turn of the loop makes of q: the road with the capacities of step k, or q itself with an empty table
+-- how a turn of the loop changes q: to the road with the capacities of step k, or not at all with an empty table
 pub record Turned (a : Study) (q : Road) (k : ℕ) (v : Road) : Type 0 where
   pub before : OnRoad a q
   pub came : ((length (a .lanes) ≡ 0 → ⊥) × (v ≡ withCapacity q (stepRoad a k .capacity))) ⊎ ((length (a .lanes) ≡ 0) × (v ≡ q))

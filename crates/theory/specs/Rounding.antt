@@ -1,5 +1,5 @@
--- What rounding costs: how far a study's numbers are from those of the same study counted K times finer, and from the papers' real numbers,
--- after every step that both reach, for every K. Assumes nothing.
+-- What rounding costs: how far a study's numbers are from those of the same study counted K times finer, and from the papers' real numbers.
+-- The bounds hold after every step that both reach, for every K. Assumes nothing.
 use mathlib.Core.Path.{_≡_, refl, ap, subst⁻¹}
 use mathlib.Core.Logic.{_⊎_, ⊎-elim}
 use mathlib.Core.List.{List}

@@ -1,5 +1,5 @@
--- `step` and `run` agree: a record that is read and stepped row by row with its lanes has the run's states and ends as the run does, after
--- all T rows, or with the same 9 or 10 at the same step and cell. Assumes nothing.
+-- `step` and `run` agree. A record that is read and stepped row by row with its lanes has the run's states. It ends as the run does: after all T
+-- rows, or with the same 9 or 10 at the same step and cell. Assumes nothing.
 use mathlib.Core.Path.{_≡_, refl, sym, ap, _∙_}
 use mathlib.Core.Bool.{Bool, true, false}
 use mathlib.Core.List.{List}

@@ -1,5 +1,5 @@
--- The finer study worked out in numbers: the printed run's road counted ten times finer, the shares from each of its places on, and a
--- corridor on which the bound fails if each step's share is rounded by itself. Assumes nothing.
+-- The finer study worked out in numbers: the printed run's road counted ten times finer, and the shares from each of its places on. On a
+-- corridor the bound fails if each step's share is rounded by itself. Assumes nothing.
 use mathlib.Core.Path.{_≡_, refl}
 use mathlib.Core.Bool.{true, false}
 use mathlib.Core.List.{[], _∷_}
