@@ -1,5 +1,5 @@
--- Theorem about a wanted queue and running: a table that obeys has a ramp's releases, and the ramp has that start queue and these arrivals. Then
--- the queue after every step is the table's, whatever the outflows, and that ramp is never refused with 9. Assumes nothing.
+-- Theorem about a wanted queue and running: a ramp has the start queue, the arrivals and the releases of a table that obeys. Then the queue
+-- after every step is the table's, whatever the outflows, and that ramp is never refused with 9. Assumes nothing.
 use mathlib.Core.Path.{_≡_, refl, sym, ap, _∙_}
 use mathlib.Core.Bool.{Bool, true, false, cond}
 use mathlib.Core.Logic.{⊎-elim}

@@ -55,7 +55,7 @@ pub record Alike (a b : Study) : Type 0 where
   pub version : a .road .version ≡ b .road .version
   pub seconds : a .road .seconds ≡ b .road .seconds
 
--- 21 doesn't apply: the gate has no queue and in no step an arrival
+-- 21 doesn't apply: the gate has no queue, and no arrival in any step
 pub record Idle (b : Study) : Type 0 where
   pub queue : b .start .«gate_queue» ≡ 0
   pub arrivals : (t : ℕ) → t < b .steps → at (b .rows t) 0 ≡ 0

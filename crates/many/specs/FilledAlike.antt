@@ -143,7 +143,7 @@ module _ (laws : List Law) (lanes s u : List ℕ) (alike : readingOf u ≡ readi
       (λ h. rw (d, ne-eqb (e .number) 0 h) refl)
       (λ h. let taken = filled-taken-by laws s lanes list h in filled-alike-by laws s u lanes list taken (taken-on taken) (same (taken .reads)) .written)
 
--- filling depends only on the length of the list
+-- filling uses only the length of the list
 module _ (laws : List Law) (s lanes list out : List ℕ) (e : length out ≡ length list) where
   pub room-same : fillingOf laws s lanes out ≡ fillingOf laws s lanes list
   room-same = fills-by laws s lanes out ∙ ap (λ (m : ℕ). endBy laws lanes m (readingOf s) (lastOf laws lanes s)) e ∙ sym (fills-by laws s lanes list)

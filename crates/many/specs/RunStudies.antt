@@ -19,7 +19,7 @@ use Rattle.model.specs.Many.{entrySize, answerEntry, runEntry, listAfterRuns, r
 use Rattle.many.specs.Arrivals.{ArrivedRows, rows-put, arrived-again}
 use Rattle.many.specs.Studies.{Studies, length-entry}
 
--- running depends only on the length of the list
+-- running uses only the length of the list
 module _ (s lanes list out : List ℕ) (e : length out ≡ length list) where
   runs-alike : runningOf s lanes out ≡ runningOf s lanes list
   unfolding runningOf

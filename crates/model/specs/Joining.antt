@@ -72,7 +72,7 @@ abbrev pub alike : Study → Study → Bool
 alike a b =
     eqb (a .steps) (b .steps) && (eqb (a .road .version) (b .road .version) && eqb (a .road .seconds) (b .road .seconds))
 
--- 21 applies if this fails: the gate has no queue and in no step an arrival
+-- 21 applies if this fails: the gate has no queue, and no arrival in any step
 abbrev pub gateIdle : Study → Bool
 gateIdle b = eqb (b .start .«gate_queue») 0 && allOf (λ t. eqb (at (b .rows t) 0) 0) (b .steps)
 

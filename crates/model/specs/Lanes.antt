@@ -11,8 +11,8 @@ use Rattle.model.specs.Numbers.{at, allOf, fillOf, rowAt}
 abbrev pub mostNumber : ℕ
 mostNumber = 4294967295
 
--- C × open lanes ÷ lanes built, rounded down. With no lane built it is 0. It is at most the greatest number of 32 bits, which it can reach
--- only if more lanes are open than built
+-- C × open lanes ÷ lanes built, rounded down. With no lane built it is 0. It is at most the greatest number of 32 bits; without this bound it
+-- could exceed it only if more lanes are open than built
 unfoldable pub openCapacity : ℕ → ℕ → ℕ → ℕ
 openCapacity capacity built usable = min (capacity * ones usable / ones built) mostNumber
 

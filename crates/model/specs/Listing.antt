@@ -97,7 +97,7 @@ refusedLine number step place = refusedWord ++ (wordOf number blank ++ (wordOf s
 pub record Holds (before text after : List ℕ) (end : ℕ) : Type 0 where
   pub first : take end after ≡ text
   pub within : end ≤ length after
-  -- this follows from `first`; whoever takes that part of the buffer needs it
+  -- this follows from `first`; taking that part of the buffer requires it
   pub counted : end ≡ length (take end after)
   pub same : length after ≡ length before
 
@@ -114,7 +114,7 @@ stepsLines a (suc k) = stepsLines a k ++ linesOf k (outflowsAt a k) (engineAfter
 unfoldable pub timeOf : Road → State → List ℕ
 timeOf r s = cond (eqb (r .version) secondVersion) (secondsLine (vehicleSeconds (totalOf s) (r .seconds))) []
 
--- the last lines for a road and its final state: the total, its three times, the exits, and in version 2 the seconds
+-- the last lines for a road and its final state: the total, the three times, the exits, and in version 2 the seconds
 abbrev pub lastOf : Road → State → List ℕ
 lastOf r s = totalLine (totalOf s) (s .«gate_time») (s .«road_time») (s .«ramp_time») (exitsOf r s) ++ timeOf r s
 

@@ -27,7 +27,7 @@ stepsOf s = numberOf s stepsOffset shortSize
 abbrev pub sizeOf : ℕ → ℕ → ℕ → ℕ
 sizeOf version n T = rowStart version n T
 
--- the versions that a reader knows: both
+-- both versions
 abbrev pub bothVersions : List ℕ
 bothVersions = firstVersion ∷ secondVersion ∷ []
 

@@ -65,7 +65,7 @@ openingOf bytes lanes =
     (unless (eqb (f .number) 0) (refusedOf (f .number) (f .place))
     (readingOf bytes))
 
--- running and judging refuse a record that isn't opened in the same way
+-- running and judging give the same refusal for a record that isn't opened
 abbrev pub unlessOpened : List ℕ → List ℕ → EndAnswer → EndAnswer
 unlessOpened bytes lanes e =
     unless (eqb (openingOf bytes lanes .number) 0) (noState (openingOf bytes lanes .number) (openingOf bytes lanes .place)) e

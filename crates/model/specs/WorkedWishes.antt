@@ -82,7 +82,7 @@ table =
     -- fixed: −0.0 gives 0; 299.99999999999994 gives 299
     ∷ worked (fixed (round binary64 true 0 1)) 0x8000_0000_0000_0000 1000000 0
     ∷ worked (fixed (number (300 * 2 ^ 44 - 1) (2 ^ 44))) 0x4072_bfff_ffff_ffff 1000000 299
-    -- the cap for 250 and for 10 ^ 300
+    -- the cap applies to 250 and to 10 ^ 300
     ∷ worked (fixed (number 250 1)) 0x406f_4000_0000_0000 200 200
     ∷ worked (fixed (number (10 ^ 300) 1)) 0x7e37_e43c_8800_759c 1000000 1000000
     -- the greatest cap of 32 bits: 4294967295.5 reaches it, 4294967294.9999995 does not

@@ -44,7 +44,7 @@ pub record Raisable (s : List ℕ) (start size count : ℕ) (greatest : List ℕ
 pub part-within : (size k count : ℕ) → k < count → k * size + size ≤ count * size
 part-within size k count l = omega (arith, suc-mul k size, mul-le-mul-right size l)
 
--- no byte is below the one before, or below that of s in the `size` bytes from `start` on
+-- no byte is below its earlier value, or below the byte of s at its position in the `size` bytes from `start` on
 pub record AbovePart (s : List ℕ) (start size : ℕ) (before after : List ℕ) : Type 0 where
   pub same : length after ≡ length before
   pub kept : (j : ℕ) → at before j ≤ at after j

@@ -110,12 +110,12 @@ module _ (s : List ℕ) (a : ReadAnswer) (e : a ≡ readingOf s) (h : a .number 
       go true k = read-timed (eqb-true (a .road .version) secondVersion k) .1
       go false k = omega (arith, read-untimed (eqb-false (a .road .version) secondVersion k))
 
-  -- the first reader refuses a record of version 2 that reads with 2
+  -- a record of version 2 that reads is refused by the first reader, with 2
   pub read-refused-first : a .road .version ≡ secondVersion → firstReadingOf s ≡ refusedOf 2 0
   read-refused-first z =
       let number : readingOf s .number ≡ 0 = rw e at h in
       first-refuses s (sym (read-numbers s a e h .version) ∙ z) (λ k. omega (arith, number, k))
 
-  -- it reads one of version 1 as reading does
+  -- the first reader reads a record of version 1 as reading does
   pub read-same-first : (a .road .version ≡ secondVersion → ⊥) → a ≡ firstReadingOf s
   read-same-first z = e ∙ first-reader-same s (λ k. z (read-numbers s a e h .version ∙ k))

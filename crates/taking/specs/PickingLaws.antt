@@ -1,4 +1,4 @@
--- Laws of a row's numbers: the code's tests, and that each row of a record that reads is its own. Assumes nothing.
+-- Laws of a row's numbers: the code's tests, and that the rows taken from a record that reads are its rows. Assumes nothing.
 use mathlib.Core.Path.{_≡_, refl, sym, ap, _∙_}
 use mathlib.Core.Bool.{Bool, true, false, _&&_}
 use mathlib.Core.List.{List}

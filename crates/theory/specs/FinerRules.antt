@@ -56,7 +56,7 @@ module _ (K W s x x′ A A′ B B′ : ℕ) (share : s ≤ whole) (k : 0 < K) (w
         mul-lt-mul-of-pos-right (thousandths-above s x′) w,
       ))
 
--- the capacity decides instead; closed lanes may leave the finer study up to K more
+-- the capacity decides instead; closed lanes may leave the finer study more than K times as much, but by less than K
 pub capped-most : (K W X A A′ c c′ d d′ : ℕ) → 0 < W → c′ < K * c + K → A′ * W ≤ K * A * W + X
     → (A′ + d′) * W < K * (A + d) * W + X + K * W → (A′ + min c′ d′) * W < K * (A + min c d) * W + X + K * W
 capped-most K W X A A′ c c′ d d′ w cap h l = ⊎-elim

@@ -16,7 +16,7 @@ use Rattle.theory.specs.SchedulesLaws.{runTable, end-made}
 use Rattle.theory.specs.Opening.{opening-refused, opening-closed, opening-taken}
 use Rattle.theory.specs.TableLaws.{table-none}
 
--- both refuse a record that isn't opened in the same way, and nothing is written
+-- both give the same refusal for a record that isn't opened, and nothing is written
 module _ (bytes lanes : List ℕ) (h : openingOf bytes lanes .number ≡ 0 → ⊥) where
   pub runs-unopened : (list : List ℕ) → runningOf bytes lanes list ≡ noState (openingOf bytes lanes .number) (openingOf bytes lanes .place)
   unfolding runningOf
