@@ -5,7 +5,9 @@ import re
 import shutil
 import subprocess
 import sys
+import tempfile
 from fractions import Fraction
+from pathlib import Path
 
 import numpy as np
 import pytest
@@ -317,8 +319,9 @@ def test_a_read_only_checkout(checkout, tmp_path):
     try:
         prefix = ["setpriv", "--reuid=65534", "--clear-groups"] if os.getuid() == 0 and shutil.which("setpriv") else []
         subprocess.run(["chmod", "-R", "a+rX", there.parent], check=True)
-        for folder in list(there.parents)[:3]:
-            folder.chmod(folder.stat().st_mode | 0o055)
+        for folder in there.parents:
+            if folder.is_relative_to(tempfile.gettempdir()) and folder != Path(tempfile.gettempdir()):
+                folder.chmod(folder.stat().st_mode | 0o055)
         out = subprocess.run([*prefix, *command], env={**env, "PATH": "/usr/bin:/bin"}, capture_output=True, text=True)
         assert (out.returncode, out.stderr) == (0, "") and "170.32 vehicle-hours" in out.stdout
     finally:
