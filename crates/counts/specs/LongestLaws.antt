@@ -14,12 +14,12 @@ use Rattle.model.specs.declared.Road.{Road}
 use Rattle.model.specs.declared.State.{State}
 use Rattle.model.specs.Road.{mostCells, zeros}
 use Rattle.numbers.specs.Zeros.{length-zeros, zeros-at}
-use Rattle.model.specs.Places.{gateArrivals}
+use Rattle.model.specs.Flow.{gateArrivals}
 use Rattle.model.specs.Move.{movedTo, countedOf, nextOf}
 use Rattle.model.specs.Schedules.{Obeys}
 use Rattle.theory.specs.RulesLaws.{demand-at-gate}
 use Rattle.passes.specs.Supplies.{FilledTo}
-use Rattle.model.specs.Longest.{greatestOf, stayedOf, Queues, queuesOf, longestOf}
+use Rattle.model.specs.Longest.{maximumOf, stayedOf, Queues, queuesOf, longestOf}
 use Rattle.counts.specs.Longest.{noQueues}
 
 -- m is one of the first k values of f: that at `step`
@@ -35,30 +35,30 @@ pub record Greatest (f : ℕ → ℕ) (k m : ℕ) : Type 0 where
   pub none : k ≡ 0 → m ≡ 0
 
 module _ (f : ℕ → ℕ) where
-  above : (k j : ℕ) → j < k → f j ≤ greatestOf f k
-  unfolding greatestOf
+  above : (k j : ℕ) → j < k → f j ≤ maximumOf f k
+  unfolding maximumOf
   above zero j l = absurd (not-suc-le-zero l)
   above (suc k) j l = ⊎-elim
       (λ (e : j ≡ k). rw e (omega arith))
       (λ (m : j < k). omega (arith, above k j m))
       (eq-or-lt-of-le (le-of-suc-le-suc l))
 
-  none : (k : ℕ) → k ≡ 0 → greatestOf f k ≡ 0
-  unfolding greatestOf
+  none : (k : ℕ) → k ≡ 0 → maximumOf f k ≡ 0
+  unfolding maximumOf
   none k e = rw e refl
 
-  reached : (k : ℕ) → 0 < k → OneOf f k (greatestOf f k)
-  unfolding greatestOf
+  reached : (k : ℕ) → 0 < k → OneOf f k (maximumOf f k)
+  unfolding maximumOf
   reached zero l = absurd (not-suc-le-zero l)
   reached (suc k) l = ⊎-elim
-      (λ (m : greatestOf f k ≤ f k). record { step = k; within = omega arith; value = omega arith })
-      (λ (m : f k < greatestOf f k).
+      (λ (m : maximumOf f k ≤ f k). record { step = k; within = omega arith; value = omega arith })
+      (λ (m : f k < maximumOf f k).
       let some : 0 < k = ⊎-elim (λ (e : k ≤ 0). absurd (omega (arith, none k (omega arith)))) (λ (p : 0 < k). p) (order k 0) in
       let h = reached k some in
       record { step = h .step; within = omega (arith, h .within); value = omega (arith, h .value) })
-      (order (greatestOf f k) (f k))
+      (order (maximumOf f k) (f k))
 
-  pub greatest : (k : ℕ) → Greatest f k (greatestOf f k)
+  pub greatest : (k : ℕ) → Greatest f k (maximumOf f k)
   greatest k = record { above = above k; reached = reached k; none = none k }
 
 -- so each of the longest queues is the greatest over the states after the steps
@@ -75,12 +75,12 @@ module _ (n : ℕ) (after : ℕ → State) (k : ℕ) where
     pub longest-ramp : (i : ℕ) → i < n → Greatest (λ j. at (after (suc j) .queue) i) k (at (longestOf n after k .ramps) i)
     unfolding longestOf
     longest-ramp i l =
-        rw (fill-at (λ i. greatestOf (λ j. at (after (suc j) .queue) i) k) n zeros i l (omega (arith, length-zeros)))
+        rw (fill-at (λ i. maximumOf (λ j. at (after (suc j) .queue) i) k) n zeros i l (omega (arith, length-zeros)))
         (greatest (λ j. at (after (suc j) .queue) i) k)
 
     pub longest-past : (i : ℕ) → n ≤ i → at (longestOf n after k .ramps) i ≡ 0
     unfolding longestOf
-    longest-past i l = fill-past (λ i. greatestOf (λ j. at (after (suc j) .queue) i) k) n zeros i l ∙ zeros-at i
+    longest-past i l = fill-past (λ i. maximumOf (λ j. at (after (suc j) .queue) i) k) n zeros i l ∙ zeros-at i
 
 -- what was at the gate and stayed is the queue after the step without its arrivals
 pub stayed-arrivals : (r : Road) (s : State) (row y : List ℕ) → Obeys r s row y
@@ -114,16 +114,16 @@ raised-is n q stayed gate queue eg ew er = rw (eg, ew, er) refl
 
 module _ (n : ℕ) (after : ℕ → State) where
   pub longest-none : longestOf n after 0 ≡ noQueues
-  unfolding longestOf greatestOf
+  unfolding longestOf maximumOf
   longest-none = ap (queuesOf 0 0) (fill-same (λ i. 0) (at zeros) n zeros (λ i l. sym (zeros-at i)) ∙ fill-own zeros n)
 
   pub longest-more : (k : ℕ) → n ≤ mostCells
       → longestOf n after (suc k)
       ≡ raisedBy n (longestOf n after k) (stayedOf (after k) (after (suc k))) (after (suc k) .«gate_queue») (after (suc k) .queue)
-  unfolding longestOf greatestOf
+  unfolding longestOf maximumOf
   longest-more k few =
       let long : n ≤ length zeros = omega (arith, length-zeros) in
-      let f : ℕ → ℕ = λ i. greatestOf (λ j. at (after (suc j) .queue) i) k in
+      let f : ℕ → ℕ = λ i. maximumOf (λ j. at (after (suc j) .queue) i) k in
       let g : ℕ → ℕ = λ i. max (f i) (at (after (suc k) .queue) i) in
       let h : ℕ → ℕ = λ i. max (at (fillOf f n zeros) i) (at (after (suc k) .queue) i) in
       ap (queuesOf _ _)

@@ -3,13 +3,13 @@ use Prim.Native.Nat.{ℕ, _*_}
 use Rattle.model.specs.Road.{mostSteps}
 
 -- a count of 32 bits times a weight of one byte
-abbrev pub mostWeighed : ℕ
-mostWeighed = 1095216660225
+abbrev pub mostProduct : ℕ
+mostProduct = 1095216660225
 
 -- present of 64 cells: the gate, 64 held counts and 64 queues
-abbrev pub mostWeighted : ℕ
-mostWeighted = 129 * mostWeighed
+abbrev pub mostWeightedPresent : ℕ
+mostWeightedPresent = 129 * mostProduct
 
 -- over as many steps as there may be
 abbrev pub mostWeightedTotal : ℕ
-mostWeightedTotal = mostSteps * mostWeighted
+mostWeightedTotal = mostSteps * mostWeightedPresent

@@ -12,11 +12,11 @@ use Rattle.numbers.specs.RowsLaws.{sum-list-none, sum-list-more, sum-list-same,
 use Rattle.model.specs.declared.State.{State}
 use Rattle.model.specs.Road.{mostCells}
 use Rattle.model.specs.Weights.{weightedSum, weightedPresent}
-use Rattle.counts.specs.WeightBounds.{mostWeighed}
+use Rattle.counts.specs.WeightBounds.{mostProduct}
 
 -- a byte times a number of 32 bits
-pub weighed-small : (weight count : ℕ) → weight < 2 ^ 8 → count < 2 ^ 32 → weight * count ≤ mostWeighed
-weighed-small weight count h l =
+pub weighted-count-small : (weight count : ℕ) → weight < 2 ^ 8 → count < 2 ^ 32 → weight * count ≤ mostProduct
+weighted-count-small weight count h l =
     let a : weight ≤ 255 = omega arith in
     let b : count ≤ 4294967295 = omega arith in
     omega (arith, mul-le-mul a b)
@@ -25,21 +25,21 @@ weighed-small weight count h l =
 pub record SummedProducts (f : ℕ → ℕ) (n sum i : ℕ) : Type 0 where
   pub within : i ≤ n
   pub values : sum ≡ sumOf (listOf f i)
-  pub small : sum ≤ i * mostWeighed
+  pub small : sum ≤ i * mostProduct
 
 module _ {f : ℕ → ℕ} {n : ℕ} where
   pub summed-none : SummedProducts f n 0 0
   summed-none = record { within = omega arith; values = sym (sum-list-none f); small = omega arith }
 
   module _ {sum i : ℕ} (h : SummedProducts f n sum i) where
-    pub summed-more : {x : ℕ} → i < n → x ≡ f i → x ≤ mostWeighed → SummedProducts f n (sum + x) (i + 1)
+    pub summed-more : {x : ℕ} → i < n → x ≡ f i → x ≤ mostProduct → SummedProducts f n (sum + x) (i + 1)
     summed-more l e m = record {
       within = omega arith;
       values = rw (add-one i) (omega (arith, h .values, e, sum-list-more f i));
       small = omega (arith, h .small, m);
     }
 
-    pub summed-end : n ≤ i → n ≤ 64 → (sum ≡ sumOf (listOf f n)) × (sum ≤ 64 * mostWeighed)
+    pub summed-end : n ≤ i → n ≤ 64 → (sum ≡ sumOf (listOf f n)) × (sum ≤ 64 * mostProduct)
     summed-end l m =
         let e : i ≡ n = omega (arith, h .within) in
         (h .values ∙ ap (λ (k : ℕ). sumOf (listOf f k)) e, omega (arith, h .small, e))

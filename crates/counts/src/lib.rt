@@ -18,7 +18,7 @@ ghost use Rattle.model.specs.Move.{heldSum, queueSum, presentOf, exitsOf};
 ghost use mathlib.Core.Bool.{cond};
 ghost use Rattle.model.specs.declared.State.{State};
 ghost use Rattle.model.specs.Weights.{weightedSum, weightedPresent};
-ghost use Rattle.counts.specs.WeightBounds.{mostWeighed, mostWeighted, mostWeightedTotal};
+ghost use Rattle.counts.specs.WeightBounds.{mostProduct, mostWeightedPresent, mostWeightedTotal};
 ghost use Rattle.counts.specs.WeightSums.{Waiting};
 ghost use Rattle.model.specs.Longest.{queuesOf, longestQueues};
 ghost use Rattle.counts.specs.Longest.{noQueues};
@@ -114,28 +114,28 @@ pub fn exits(r: Road, s: State) -> u64
 }
 
 // A count times its weight.
-fn weighed(weight: u8, count: u32) -> u64
-    ensures { λ r. ⌜ (r ≡ weight * count) × (r ≤ mostWeighed) ⌝ }
+fn weighted_count(weight: u8, count: u32) -> u64
+    ensures { λ r. ⌜ (r ≡ weight * count) × (r ≤ mostProduct) ⌝ }
 {
     weight as u64 * count as u64
 }
 
 // The counts of the first n cells, each times its weight; the first cell's weight is at `from`.
-fn weighed_cells(weights: &[u8], from: usize, counts: &[u32], n: usize) -> u64
+fn weighted_cells(weights: &[u8], from: usize, counts: &[u32], n: usize) -> u64
     requires { ⌜ (n ≤ mostCells) × ((n ≤ length (now counts)) × (from + n ≤ length (now weights))) ⌝ }
-    ensures { λ r. ⌜ (r ≡ weightedSum (λ i. at (now (weights .entry)) (from + i)) (at (now (counts .entry))) n) × (r ≤ mostCells * mostWeighed) ⌝ }
+    ensures { λ r. ⌜ (r ≡ weightedSum (λ i. at (now (weights .entry)) (from + i)) (at (now (counts .entry))) n) × (r ≤ mostCells * mostProduct) ⌝ }
 {
     let mut sum: u64 = 0;
     let mut i = 0;
     while i < n {
-        sum += weighed(weights[from + i], counts[i]);
+        sum += weighted_count(weights[from + i], counts[i]);
         i += 1;
     }
     sum
 }
 
 // The gate queue, all held counts and all ramp queues, each times its weight, on lent columns.
-fn weighed_places<'a, 'b>(
+fn weighted_places<'a, 'b>(
     n: usize,
     gate_queue: u32,
     held: &'a [u32; 64],
@@ -146,11 +146,11 @@ fn weighed_places<'a, 'b>(
     requires { ⌜ n ≤ mostCells ⌝ }
     ensures present { λ r. ⌜ ((s : State) → Waiting «gate_queue» (now (held .entry)) (now (queue .entry)) s
         → r ≡ weightedPresent (at (now (places .entry))) (at (now (ramps .entry))) n s) ⌝ }
-    ensures bound { λ r. ⌜ r ≤ mostWeighted ⌝ }
+    ensures bound { λ r. ⌜ r ≤ mostWeightedPresent ⌝ }
 {
-    let gate = weighed(places[0], gate_queue);
-    let road = weighed_cells(places, 1, held, n);
-    let ramp = weighed_cells(ramps, 0, queue, n);
+    let gate = weighted_count(places[0], gate_queue);
+    let road = weighted_cells(places, 1, held, n);
+    let ramp = weighted_cells(ramps, 0, queue, n);
     gate + road + ramp
 }
 
@@ -159,7 +159,7 @@ pub fn weighted(r: Road, s: State, weights: Weights) -> u64
     ensures { λ p. ⌜ p ≡ weightedPresent (at (weights .places)) (at (weights .ramps)) (r .n) s ⌝ }
 {
     let n = cells(r.n);
-    weighed_places(
+    weighted_places(
         n,
         s.gate_queue,
         &s.held,
@@ -183,10 +183,10 @@ pub fn added<'a, 'b>(
     requires { ⌜ (total ≤ mostWeightedTotal) × (n ≤ mostCells) ⌝ }
     ensures sum { λ r. ⌜ ((s : State) → Waiting «gate_queue» (now (held .entry)) (now (queue .entry)) s
         → r ≡ total + cond weighs (weightedPresent (at (now (places .entry))) (at (now (ramps .entry))) n s) 0) ⌝ }
-    ensures bound { λ r. ⌜ r ≤ total + mostWeighted ⌝ }
+    ensures bound { λ r. ⌜ r ≤ total + mostWeightedPresent ⌝ }
 {
     if weighs {
-        return total + weighed_places(n, gate_queue, held, queue, places, ramps);
+        return total + weighted_places(n, gate_queue, held, queue, places, ramps);
     }
     total
 }

@@ -12,7 +12,7 @@ use Rattle.model.specs.Road.{mostCells}
 use Rattle.model.specs.Schedules.{Study}
 use Rattle.model.specs.Record.{countSize, secondsSize, headerSize, cellSize, shortSize, numberSize, rowNumbers, rowSize, bytesOf}
 use Rattle.fields.specs.BytesLaws.{length-bytes}
-use Rattle.fields.specs.BytesStored.{Stored, stored-puts}
+use Rattle.fields.specs.BytesStored.{StoredBytes, stored-puts}
 use Rattle.model.specs.Reading.{sizeOf}
 use Rattle.fields.specs.HeaderLaws.{Counts}
 use Rattle.model.specs.Encoding.{headerOf, cellOf, numbersOf, recordSize, headerBytes, cellBytes, rowBytes, recordOf}
@@ -85,12 +85,12 @@ length-row n rows t = length-numbers (rows t) (rowNumbers n) ∙ omega arith
 -- the parts of the header and of a cell, one after the other
 module _ {a : List ℕ} {start : ℕ} {b : List ℕ} {p : ℕ} {c : List ℕ} {q : ℕ} {d : List ℕ} {u : ℕ} {e : List ℕ} {v : ℕ} {f : List ℕ} {w : ℕ} where
   pub header-puts : {version n T seconds capacity queue size : ℕ} {g : List ℕ} {x : ℕ} {h : List ℕ} {y : ℕ} → size ≡ sizeOf version n T
-      → Stored a start countSize (size - countSize) b p → Stored b p 1 version c q → Stored c q 1 n d u
-      → Stored d u shortSize T e v → Stored e v (secondsSize version) seconds f w → Stored f w numberSize capacity g x
-      → Stored g x numberSize queue h y → Puts a start (headerOf version n T seconds capacity queue) h y
+      → StoredBytes a start countSize (size - countSize) b p → StoredBytes b p 1 version c q → StoredBytes c q 1 n d u
+      → StoredBytes d u shortSize T e v → StoredBytes e v (secondsSize version) seconds f w → StoredBytes f w numberSize capacity g x
+      → StoredBytes g x numberSize queue h y → Puts a start (headerOf version n T seconds capacity queue) h y
   unfolding headerOf
   header-puts {version} {n} {T} {g = g} {x = x} {h = h} {y = y} es h1 h2 h3 h4 h5 h6 h7 =
-      let first : Stored a start countSize (sizeOf version n T - countSize) b p = rw es at h1 in
+      let first : StoredBytes a start countSize (sizeOf version n T - countSize) b p = rw es at h1 in
       puts-more a start _ b p _ h y (stored-puts first)
       (puts-more b p _ c q _ h y (stored-puts h2)
       (puts-more c q _ d u _ h y (stored-puts h3)
@@ -98,8 +98,8 @@ module _ {a : List ℕ} {start : ℕ} {b : List ℕ} {p : ℕ} {c : List ℕ} {q
       (puts-more e v _ f w _ h y (stored-puts h5) (puts-more f w _ g x _ h y (stored-puts h6) (stored-puts h7))))))
 
   pub cell-puts : {speed wave share ramp jam capacity held queue : ℕ} {g : List ℕ} {x : ℕ} {k : List ℕ} {y : ℕ} {l : List ℕ} {z : ℕ}
-      → Stored a start shortSize speed b p → Stored b p shortSize wave c q → Stored c q shortSize share d u → Stored d u shortSize ramp e v
-      → Stored e v numberSize jam f w → Stored f w numberSize capacity g x → Stored g x numberSize held k y → Stored k y numberSize queue l z
+      → StoredBytes a start shortSize speed b p → StoredBytes b p shortSize wave c q → StoredBytes c q shortSize share d u → StoredBytes d u shortSize ramp e v
+      → StoredBytes e v numberSize jam f w → StoredBytes f w numberSize capacity g x → StoredBytes g x numberSize held k y → StoredBytes k y numberSize queue l z
       → Puts a start (cellOf speed wave share ramp jam capacity held queue) l z
   unfolding cellOf
   cell-puts {g = g} {x = x} {k = k} {y = y} {l = l} {z = z} h1 h2 h3 h4 h5 h6 h7 h8 =
@@ -111,21 +111,21 @@ module _ {a : List ℕ} {start : ℕ} {b : List ℕ} {p : ℕ} {c : List ℕ} {q
       (puts-more f w _ g x _ l z (stored-puts h6) (puts-more g x _ k y _ l z (stored-puts h7) (stored-puts h8)))))))
 
 -- a loop has put the first i of its lists, each of w bytes
-pub record Putting (before : List ℕ) (start : ℕ) (f : ℕ → List ℕ) (w i : ℕ) (after : List ℕ) (end : ℕ) : Type 0 where
+pub record PuttingLists (before : List ℕ) (start : ℕ) (f : ℕ → List ℕ) (w i : ℕ) (after : List ℕ) (end : ℕ) : Type 0 where
   pub next : end ≡ start + i * w
   pub same : length after ≡ length before
   pub bytes : Puts before start (concatOf f i) after end
 
 module _ (before : List ℕ) (start : ℕ) (f : ℕ → List ℕ) (w : ℕ) where
-  pub putting-none : Putting before start f w 0 before start
+  pub putting-none : PuttingLists before start f w 0 before start
   putting-none = record {
     next = omega arith;
     same = refl;
     bytes = rw (concat-none f) (omega arith, sym (placed-none before start));
   }
 
-  pub putting-more : (i : ℕ) {after : List ℕ} {end : ℕ} {more : List ℕ} {to : ℕ} → length (f i) ≡ w → Putting before start f w i after end
-      → Puts after end (f i) more to → Putting before start f w (i + 1) more to
+  pub putting-more : (i : ℕ) {after : List ℕ} {end : ℕ} {more : List ℕ} {to : ℕ} → length (f i) ≡ w → PuttingLists before start f w i after end
+      → Puts after end (f i) more to → PuttingLists before start f w (i + 1) more to
   putting-more i {after} {end} {more} {to} l h p = record {
     next = omega (arith, h .next, p .0, l, mul-more i w);
     same = ap length (p .1) ∙ length-placed after end (f i) ∙ h .same;
@@ -133,19 +133,19 @@ module _ (before : List ℕ) (start : ℕ) (f : ℕ → List ℕ) (w : ℕ) wher
   }
 
   -- all n are put
-  pub putting-end : (i n : ℕ) {after : List ℕ} {end : ℕ} → i ≡ n → Putting before start f w i after end → Puts before start (concatOf f n) after end
+  pub putting-end : (i n : ℕ) {after : List ℕ} {end : ℕ} → i ≡ n → PuttingLists before start f w i after end → Puts before start (concatOf f n) after end
   putting-end i n e h = rw e at (h .bytes)
 
   -- there is room for the next list if there is room for n of them
-  pub putting-fits : (i n : ℕ) {after : List ℕ} {end : ℕ} → Putting before start f w i after end → i < n → start + n * w ≤ length before
+  pub putting-fits : (i n : ℕ) {after : List ℕ} {end : ℕ} → PuttingLists before start f w i after end → i < n → start + n * w ≤ length before
       → end + w ≤ length after
   putting-fits i n h l m = omega (arith, h .next, h .same, row-ends i n w l)
 
 -- a record put at the start of a target: its bytes, and the bytes beyond them unchanged
-pub record-stands : (a : Study) (target after : List ℕ) (end : ℕ) → length (recordOf a) ≡ recordSize a
+pub record-in-target : (a : Study) (target after : List ℕ) (end : ℕ) → length (recordOf a) ≡ recordSize a
     → recordSize a ≤ length target → Puts target 0 (recordOf a) after end
     → (end ≡ recordSize a) × (after ≡ recordOf a ++ drop (recordSize a) target)
-record-stands a target after end l m p =
+record-in-target a target after end l m p =
     let z : 0 + length (recordOf a) ≡ recordSize a = omega (arith, l) in (
       p .0 ∙ z,
       p .1 ∙ placed-there target 0 (recordOf a) (omega (arith, l)) ∙ ap (λ (k : ℕ). recordOf a ++ drop k target) z,
@@ -177,16 +177,16 @@ pub record Fits (a : Study) (rows target : List ℕ) : Type 0 where
   pub room : recordSize a ≤ length target
 
 -- the loop over the rows: the rows of t steps are put, and the next begins at `from`
-pub record Rowing (before : List ℕ) (start : ℕ) (rows : List ℕ) (n T t from : ℕ) (after : List ℕ) (end : ℕ) : Type 0 where
+pub record RowsPutSoFar (before : List ℕ) (start : ℕ) (rows : List ℕ) (n T t from : ℕ) (after : List ℕ) (end : ℕ) : Type 0 where
   pub within : t ≤ T
   pub place : from ≡ t * rowNumbers n
-  pub put : Putting before start (rowBytes n (rowAt rows (rowNumbers n))) (rowSize n) t after end
+  pub put : PuttingLists before start (rowBytes n (rowAt rows (rowNumbers n))) (rowSize n) t after end
 
 module _ {before : List ℕ} {start : ℕ} {rows : List ℕ} {n T : ℕ} where
-  pub rowing-none : Rowing before start rows n T 0 0 before start
+  pub rowing-none : RowsPutSoFar before start rows n T 0 0 before start
   rowing-none = record { within = omega arith; place = omega arith; put = putting-none before start _ (rowSize n) }
 
-  module _ {t from : ℕ} {after : List ℕ} {end : ℕ} (h : Rowing before start rows n T t from after end) where
+  module _ {t from : ℕ} {after : List ℕ} {end : ℕ} (h : RowsPutSoFar before start rows n T t from after end) where
     -- the next row is within the rows, and its bytes are within the target
     pub row-there : Rows rows n T → t < T → from + rowNumbers n ≤ length rows
     row-there k l = omega (arith, h .place, k .all, row-ends t T (rowNumbers n) l)
@@ -195,7 +195,7 @@ module _ {before : List ℕ} {start : ℕ} {rows : List ℕ} {n T : ℕ} where
     row-room l m = putting-fits before start _ (rowSize n) t T (h .put) l m
 
     pub rowing-more : {row more : List ℕ} {to : ℕ} → t < T → row ≡ rowAt rows (rowNumbers n) t → length row ≡ rowNumbers n
-        → Puts after end (numbersOf row (length row)) more to → Rowing before start rows n T (t + 1) (from + rowNumbers n) more to
+        → Puts after end (numbersOf row (length row)) more to → RowsPutSoFar before start rows n T (t + 1) (from + rowNumbers n) more to
     rowing-more {row} {more} {to} l e m p =
         let q : Puts after end (rowBytes n (rowAt rows (rowNumbers n)) t) more to = rw (m, e) at p in
         record {

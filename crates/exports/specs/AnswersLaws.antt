@@ -23,7 +23,7 @@ use Rattle.exports.specs.declared.NobyalukWanted.{NobyalukWanted}
 use Rattle.exports.specs.declared.NobyalukReleased.{NobyalukReleased}
 use Rattle.exports.specs.declared.NobyalukMany.{NobyalukMany}
 use Rattle.model.specs.declared.State.{State}
-use Rattle.model.specs.Ramps.{Metered, metered}
+use Rattle.model.specs.Filling.{MeterState, meterState}
 use Rattle.exports.specs.declared.NobyalukFilled.{NobyalukFilled}
 use Rattle.exports.specs.Answers.{filledFor, longestFor, steppedFor, writtenFor, loadedFor, wantedFor, releasedFor, manyFor}
 
@@ -32,8 +32,8 @@ pub longest-is : {r : NobyalukLongest} (e f : EndAnswer) (q p : Queues) → r �
 longest-is e f q p h x y = h ∙ ap (λ (a : EndAnswer). longestFor a q) x ∙ ap (longestFor f) y
 
 -- the answer of filling that goes on; s is the state in it
-pub filled-is : {r : NobyalukLongest} {f : EndAnswer} {q : Queues} {s : State} {releases entries : List ℕ} {p : Metered} → r ≡ longestFor f q
-    → metered s releases entries ≡ p
+pub filled-is : {r : NobyalukLongest} {f : EndAnswer} {q : Queues} {s : State} {releases entries : List ℕ} {p : MeterState} → r ≡ longestFor f q
+    → meterState s releases entries ≡ p
     → _≡_ {A = NobyalukFilled} (record { longest = r; releases = releases; entries = entries }) (filledFor f q p)
 filled-is {f = f} {q} {releases = releases} {entries} h e =
     ap (λ (x : NobyalukLongest). record { longest = x; releases = releases; entries = entries }) h ∙ ap (filledFor f q) e

@@ -11,20 +11,20 @@ use Rattle.model.specs.Record.{bytesOf}
 use Rattle.fields.specs.BytesLaws.{length-bytes}
 
 -- `after` is `before` with the w bytes of x from `at` on, and `end` is the index after them
-pub record Stored (before : List ℕ) (at w x : ℕ) (after : List ℕ) (end : ℕ) : Type 0 where
+pub record StoredBytes (before : List ℕ) (at w x : ℕ) (after : List ℕ) (end : ℕ) : Type 0 where
   pub next : end ≡ at + w
   pub same : length after ≡ length before
   pub bytes : after ≡ placed before at (bytesOf w x)
 
-pub stored : (before : List ℕ) (at w x : ℕ) (after : List ℕ) → after ≡ placed before at (bytesOf w x) → Stored before at w x after (at + w)
+pub stored : (before : List ℕ) (at w x : ℕ) (after : List ℕ) → after ≡ placed before at (bytesOf w x) → StoredBytes before at w x after (at + w)
 stored before at w x after e = record { next = refl; same = rw e (length-placed before at (bytesOf w x)); bytes = e }
 
 -- a number of 0 bytes changes nothing
-pub stored-none : (before : List ℕ) (at x : ℕ) {w : ℕ} → w ≡ 0 → Stored before at w x before at
+pub stored-none : (before : List ℕ) (at x : ℕ) {w : ℕ} → w ≡ 0 → StoredBytes before at w x before at
 unfolding bytesOf
 stored-none before at x e = rw e (record { next = omega arith; same = refl; bytes = sym (placed-none before at) })
 
-pub stored-puts : {before : List ℕ} {at w x : ℕ} {after : List ℕ} {end : ℕ} → Stored before at w x after end → Puts before at (bytesOf w x) after end
+pub stored-puts : {before : List ℕ} {at w x : ℕ} {after : List ℕ} {end : ℕ} → StoredBytes before at w x after end → Puts before at (bytesOf w x) after end
 stored-puts {w = w} {x = x} h = (omega (arith, h .next, length-bytes w x), h .bytes)
 
 module _ (l : List ℕ) (at x : ℕ) where

@@ -66,17 +66,17 @@ column s offset w n h = record {
 }
 
 -- the loop over a column's cells: l holds the fields of the first i
-pub record Collected (s : List ℕ) (offset w n : ℕ) (l : List ℕ) (i : ℕ) : Type 0 where
+pub record CollectedColumn (s : List ℕ) (offset w n : ℕ) (l : List ℕ) (i : ℕ) : Type 0 where
   pub within : i ≤ n
   pub fields : l ≡ fillOf (fieldOf s offset w) i zeros
 
 module _ {s : List ℕ} {offset w n : ℕ} where
-  pub collected-none : Collected s offset w n zeros 0
+  pub collected-none : CollectedColumn s offset w n zeros 0
   unfolding fillOf
   collected-none = record { within = omega arith; fields = refl }
 
-  module _ {l : List ℕ} {i : ℕ} (h : Collected s offset w n l i) where
-    pub collected-more : {x : ℕ} → i < n → x ≡ fieldOf s offset w i → Collected s offset w n (set l i x) (i + 1)
+  module _ {l : List ℕ} {i : ℕ} (h : CollectedColumn s offset w n l i) where
+    pub collected-more : {x : ℕ} → i < n → x ≡ fieldOf s offset w i → CollectedColumn s offset w n (set l i x) (i + 1)
     collected-more k e = record { within = omega arith; fields = cc (fill-more (fieldOf s offset w) i zeros, e, h .fields) }
 
     pub collected-end : n ≤ i → l ≡ columnOf s offset w n

@@ -6,7 +6,7 @@ ghost use lib.ListN.{length, take};
 ghost use Rattle.model.specs.Road.{mostCells};
 ghost use Rattle.model.specs.Record.{shortSize, numberSize, versionOffset, versionOf, secondsSize, secondsOf, headerSize, cellSize, rowStart, numberOf, columnOf, recordRow};
 ghost use Rattle.fields.specs.FieldsLaws.{HoldsRow};
-ghost use Rattle.fields.specs.BytesStored.{Stored};
+ghost use Rattle.fields.specs.BytesStored.{StoredBytes};
 ghost use Rattle.model.specs.Numbers.{oneOf};
 ghost use Rattle.model.specs.Reading.{bothVersions, lengthOk, cellsAndStepsOk, secondsOk, callerOk};
 
@@ -185,7 +185,7 @@ pub fn row(bytes: &[u8], n: usize, t: usize) -> [u32; 129]
 // Stores a byte at `at`, and returns the index after it.
 pub fn put_byte(target: &mut [u8], at: usize, x: u8) -> usize
     requires { ⌜ at + 1 ≤ length (now target) ⌝ }
-    ensures { λ e. ⌜ Stored (now (target .entry)) at 1 x (now (target .exit)) e ⌝ }
+    ensures { λ e. ⌜ StoredBytes (now (target .entry)) at 1 x (now (target .exit)) e ⌝ }
 {
     target[at] = x;
     at + 1
@@ -194,7 +194,7 @@ pub fn put_byte(target: &mut [u8], at: usize, x: u8) -> usize
 // Stores a number of two bytes from `at` on, highest first.
 pub fn put_short(target: &mut [u8], at: usize, x: u16) -> usize
     requires { ⌜ at + shortSize ≤ length (now target) ⌝ }
-    ensures { λ e. ⌜ Stored (now (target .entry)) at shortSize x (now (target .exit)) e ⌝ }
+    ensures { λ e. ⌜ StoredBytes (now (target .entry)) at shortSize x (now (target .exit)) e ⌝ }
 {
     target[at] = (x / 256 % 256) as u8;
     target[at + 1] = (x % 256) as u8;
@@ -204,7 +204,7 @@ pub fn put_short(target: &mut [u8], at: usize, x: u16) -> usize
 // Stores the step's seconds, if the version has them.
 pub fn put_seconds(target: &mut [u8], at: usize, version: u8, seconds: u16) -> usize
     requires { ⌜ at + secondsSize version ≤ length (now target) ⌝ }
-    ensures { λ e. ⌜ Stored (now (target .entry)) at (secondsSize version) seconds (now (target .exit)) e ⌝ }
+    ensures { λ e. ⌜ StoredBytes (now (target .entry)) at (secondsSize version) seconds (now (target .exit)) e ⌝ }
 {
     if version == SECOND_VERSION {
         return put_short(target, at, seconds);
@@ -215,7 +215,7 @@ pub fn put_seconds(target: &mut [u8], at: usize, version: u8, seconds: u16) -> u
 // Stores a number of four bytes from `at` on, highest first.
 pub fn put_number(target: &mut [u8], at: usize, x: u32) -> usize
     requires { ⌜ at + numberSize ≤ length (now target) ⌝ }
-    ensures { λ e. ⌜ Stored (now (target .entry)) at numberSize x (now (target .exit)) e ⌝ }
+    ensures { λ e. ⌜ StoredBytes (now (target .entry)) at numberSize x (now (target .exit)) e ⌝ }
 {
     target[at] = (x / 256 / 256 / 256 % 256) as u8;
     target[at + 1] = (x / 256 / 256 % 256) as u8;

@@ -12,10 +12,10 @@ use Rattle.numbers.specs.Zeros.{length-zeros, zeros-at}
 use Rattle.model.specs.Schedules.{Study, roadAt, engineAfter, outflowsAt}
 use Rattle.model.specs.declared.Law.{Law}
 use Rattle.model.specs.Meter.{wishOf, wholeBelow, lawAt}
-use Rattle.model.specs.Places.{releaseAt, enteringAt}
+use Rattle.model.specs.Flow.{releaseAt, enteringAt}
 use Rattle.theory.specs.Roads.{step-row}
-use Rattle.theory.specs.RunsLaws.{StudyOk, Shared, shared-less, engine-shared, outflows-shared}
-use Rattle.model.specs.Ramps.{Metered, capAt, meteredOf}
+use Rattle.theory.specs.RunsLaws.{StudyOk, SharedSteps, shared-less, engine-shared, outflows-shared}
+use Rattle.model.specs.Filling.{MeterState, capAt, meteredOf}
 use Rattle.ramps.specs.RampsLaws.{granted, filled-release, filled-most, last-release, last-entry}
 use Rattle.model.specs.Filling.{meteredAfter, meteredFrom, grantedIn, filledStudy}
 use Rattle.filling.specs.FillingLaws.{filledRows, filled-road, filled-run}
@@ -40,7 +40,7 @@ module _ (laws : List Law) (a : Study) (ok : StudyOk a) where
   abbrev b : Study
   b = filledStudy laws a
 
-  abbrev m : ℕ → Metered
+  abbrev m : ℕ → MeterState
   m = meteredAfter laws a
 
   -- the arrays carried have an entry for each cell
@@ -93,17 +93,17 @@ module _ (laws : List Law) (a : Study) (ok : StudyOk a) where
 
 -- a study that shares its steps with another is by the same laws
 module _ {a b : Study} (i : ℕ) where
-  same-release : (t : ℕ) → Shared a b t → lastRelease a t i ≡ lastRelease b t i
+  same-release : (t : ℕ) → SharedSteps a b t → lastRelease a t i ≡ lastRelease b t i
   unfolding lastRelease
   same-release zero h = refl
   same-release (suc t) h = ap (λ (row : List ℕ). releaseAt row i) (h .rows t (le-refl (suc t)))
 
-  same-entry : (t : ℕ) → Shared a b t → lastEntry a t i ≡ lastEntry b t i
+  same-entry : (t : ℕ) → SharedSteps a b t → lastEntry a t i ≡ lastEntry b t i
   unfolding lastEntry
   same-entry zero h = refl
   same-entry (suc t) h = rw (outflows-shared t h, engine-shared t (shared-less h t (omega arith)), h .roads t (le-refl (suc t)))
 
-  pub shared-by-law : {laws : List Law} (t : ℕ) → a .road ≡ b .road → Shared a b (suc t) → ByLaw laws b t i → ByLaw laws a t i
+  pub shared-by-law : {laws : List Law} (t : ℕ) → a .road ≡ b .road → SharedSteps a b (suc t) → ByLaw laws b t i → ByLaw laws a t i
   shared-by-law t road h k =
       let s = shared-less h t (omega arith) in
       record {

@@ -10,7 +10,7 @@ use Rattle.model.specs.declared.Law.{Law}
 use Rattle.model.specs.Meter.{lawFaultOf}
 use Rattle.model.specs.Stepping.{tableFault}
 use Rattle.model.specs.Reading.{ReadAnswer, readingOf, studyBy, studyOf}
-use Rattle.model.specs.Ramps.{putTable}
+use Rattle.model.specs.Put.{putTable}
 use Rattle.model.specs.Running.{EndAnswer, ended, noState, lanesFault, tableOf}
 use Rattle.model.specs.Demand.{Taken, Promised}
 use Rattle.model.specs.Filling.{meteredAfter, grantedIn, filledStudy, filledBytes, lawPlace, fillingOf, recordAfter, filledList, OnlyReleases}

@@ -12,9 +12,10 @@ use Rattle.model.specs.Schedules.{Study, roadAt, tableSize}
 use Rattle.model.specs.declared.Law.{Law}
 use Rattle.model.specs.Stepping.{tableFault}
 use Rattle.theory.specs.StepLaws.{number-of}
-use Rattle.theory.specs.RunsLaws.{Shared}
+use Rattle.theory.specs.RunsLaws.{SharedSteps}
 use Rattle.model.specs.Reading.{readingOf, studyOf}
-use Rattle.model.specs.Ramps.{putTable, Metered, unmetered, grantedAt, meteredOf}
+use Rattle.model.specs.Filling.{MeterState, meterStart, grantedAt, meteredOf}
+use Rattle.model.specs.Put.{putTable}
 use Rattle.put.specs.ReleasesLaws.{put-same}
 use Rattle.model.specs.Running.{EndAnswer, ended, noState}
 use Rattle.theory.specs.TableLaws.{table-shared}
@@ -23,8 +24,8 @@ use Rattle.model.specs.Filling.{meteredAfter, meteredFrom, grantedIn, filledStu
 use Rattle.filling.specs.FillingLaws.{filled-road}
 
 -- what the wishes of step k go by, and the release of the cell at i in it, on one road
-unfoldable pub plainMetered : List Law → Study → ℕ → Metered
-plainMetered laws a zero = unmetered (a .start)
+unfoldable pub plainMetered : List Law → Study → ℕ → MeterState
+plainMetered laws a zero = meterStart (a .start)
 plainMetered laws a (suc k) = meteredOf laws (a .road) (plainMetered laws a k) (a .rows k)
 
 abbrev pub plainGranted : List Law → Study → ℕ → ℕ → ℕ
@@ -85,7 +86,7 @@ module _ (laws : List Law) (bytes table : List ℕ) (reads : readingOf bytes .nu
   same-metered zero l = refl
   same-metered (suc k) l = rw (same-metered k (omega arith), same-road k l) refl
 
-  same-filled : Shared (filledStudy laws (studyOf bytes table)) (filledStudy laws (studyOf bytes [])) (readingOf bytes .steps)
+  same-filled : SharedSteps (filledStudy laws (studyOf bytes table)) (filledStudy laws (studyOf bytes [])) (readingOf bytes .steps)
   same-filled = record {
     start = refl;
     roads = λ k l. filled-road laws a k ∙ same-road k l ∙ sym (filled-road laws b k);

@@ -20,12 +20,13 @@ use Rattle.model.specs.Record.{recordRow}
 use Rattle.fields.specs.FieldsLaws.{length-row}
 use Rattle.model.specs.declared.Law.{Law}
 use Rattle.model.specs.Meter.{lawFaultOf}
-use Rattle.model.specs.Places.{gateArrivals, arrivalsAt, capacityAt, mostReleaseAt, supplyAt, cumulativeAt, enteringAt}
+use Rattle.model.specs.Flow.{gateArrivals, arrivalsAt, capacityAt, mostReleaseAt, supplyAt, cumulativeAt, enteringAt}
 use Rattle.model.specs.Move.{nextOf}
 use Rattle.theory.specs.RunsLaws.{StudyOk}
-use Rattle.theory.specs.VersionUnread.{stamped, Restamped, share-stamped, outflows-stamped, next-stamped, road-at, same-outflows}
+use Rattle.theory.specs.VersionUnread.{stamped, OtherVersion, share-stamped, outflows-stamped, next-stamped, road-at, same-outflows}
 use Rattle.model.specs.Reading.{ReadAnswer, readingOf, studyBy, studyOf}
-use Rattle.model.specs.Ramps.{releaseNumber, releasedRow, Metered, metered, unmetered, wishAt, releaseOf, grantedAt, filledRow, nextMetered, meteredOf}
+use Rattle.model.specs.Filling.{MeterState, meterState, meterStart, wishAt, releaseOf, grantedAt, filledRow, nextMetered, meteredOf}
+use Rattle.model.specs.Put.{releaseNumber, releasedRow}
 use Rattle.put.specs.ReleasesLaws.{length-released, released-at, released-gate, released-arrivals}
 use Rattle.model.specs.Running.{EndAnswer, lanesFault, tableOf}
 use Rattle.model.specs.Demand.{Taken}
@@ -77,7 +78,7 @@ released-alike f g n row other size same gate arrivals given =
         (eq-zero-or-pos (j % 2))
 
 -- one step
-module _ (laws : List Law) (version seconds : ℕ) (r : Road) (m : Metered) (row other : List ℕ) (size : length row ≡ 1 + 2 * r .n)
+module _ (laws : List Law) (version seconds : ℕ) (r : Road) (m : MeterState) (row other : List ℕ) (size : length row ≡ 1 + 2 * r .n)
     (same : length other ≡ length row) (gate : gateArrivals other ≡ gateArrivals row) (arrivals : (i : ℕ) → arrivalsAt other i ≡ arrivalsAt row i) where
   abbrev q : Road
   q = stamped version seconds r
@@ -96,9 +97,9 @@ module _ (laws : List Law) (version seconds : ℕ) (r : Road) (m : Metered) (row
   next-alike full given =
       let y = outflowsOf r (m .state) full in
       let e = outflows-stamped version seconds r (m .state) full in
-      ap (λ (z : List ℕ). metered (nextOf q (m .state) full z) given (fillOf (enteringAt q (m .state) z) (r .n) (m .entries))) e
-      ∙ ap (λ (t : State). metered t given (fillOf (enteringAt q (m .state) y) (r .n) (m .entries))) (next-stamped version seconds r (m .state) full y)
-      ∙ ap (metered (nextOf r (m .state) full y) given)
+      ap (λ (z : List ℕ). meterState (nextOf q (m .state) full z) given (fillOf (enteringAt q (m .state) z) (r .n) (m .entries))) e
+      ∙ ap (λ (t : State). meterState t given (fillOf (enteringAt q (m .state) y) (r .n) (m .entries))) (next-stamped version seconds r (m .state) full y)
+      ∙ ap (meterState (nextOf r (m .state) full y) given)
       (fill-same (enteringAt q (m .state) y) (enteringAt r (m .state) y) (r .n) (m .entries)
       (λ i l. ap (λ (b : ℕ). enteringOf b (cumulativeAt (m .state) i) (at y i)) (share-stamped version seconds r i)))
 
@@ -129,9 +130,9 @@ module _ (laws : List Law) {a b : Study} (ok : StudyOk a) (h : SameArrivals a b)
   -- in every step the same state, last releases and entries
   pub metered-same : (k : ℕ) → k ≤ a .steps → meteredAfter laws b k ≡ meteredAfter laws a k
   unfolding meteredFrom
-  metered-same zero l = ap unmetered (h .start)
+  metered-same zero l = ap meterStart (h .start)
   metered-same (suc k) l =
-      ap (λ (m : Metered). meteredOf laws (roadAt b k) m (b .rows k)) (metered-same k (omega arith))
+      ap (λ (m : MeterState). meteredOf laws (roadAt b k) m (b .rows k)) (metered-same k (omega arith))
       ∙ ap (λ (r : Road). meteredOf laws r (meteredAfter laws a k) (b .rows k)) (roads k)
       ∙ metered-alike laws version seconds (roadAt a k) (meteredAfter laws a k) (a .rows k) (b .rows k) (numbers k l) (h .size k l) (h .gate k l)
       (λ i. h .arrivals k i l)
@@ -139,12 +140,12 @@ module _ (laws : List Law) {a b : Study} (ok : StudyOk a) (h : SameArrivals a b)
   -- and so the same rows, filled
   pub rows-same : (k : ℕ) → k < a .steps → filledRows laws b k ≡ filledRows laws a k
   rows-same k l =
-      ap (λ (m : Metered). filledRow laws (roadAt b k) m (b .rows k)) (metered-same k (omega arith))
+      ap (λ (m : MeterState). filledRow laws (roadAt b k) m (b .rows k)) (metered-same k (omega arith))
       ∙ ap (λ (r : Road). filledRow laws r (meteredAfter laws a k) (b .rows k)) (roads k)
       ∙ filled-alike laws version seconds (roadAt a k) (meteredAfter laws a k) (a .rows k) (b .rows k) (numbers k l) (h .size k l) (h .gate k l)
       (λ i. h .arrivals k i l)
 
-  filled-restamped : Restamped (filledStudy laws a) (filledStudy laws b)
+  filled-restamped : OtherVersion (filledStudy laws a) (filledStudy laws b)
   filled-restamped = record { road = h .road; start = h .start; steps = h .steps; rows = rows-same; lanes = h .lanes }
 
   same-law : lawPlace laws b ≡ lawPlace laws a
@@ -160,7 +161,7 @@ module _ (laws : List Law) {a b : Study} (ok : StudyOk a) (h : SameArrivals a b)
       ∙ ap (λ (p : ℕ). frontOf (outflowsAt (filledStudy laws a)) p list (a .steps)) (same-places filled-restamped)
 
   same-last : meteredAfter laws b (b .steps) .state ≡ meteredAfter laws a (a .steps) .state
-  same-last = ap (λ (k : ℕ). meteredAfter laws b k .state) (h .steps) ∙ ap (λ (m : Metered). m .state) (metered-same (a .steps) (le-refl (a .steps)))
+  same-last = ap (λ (k : ℕ). meteredAfter laws b k .state) (h .steps) ∙ ap (λ (m : MeterState). m .state) (metered-same (a .steps) (le-refl (a .steps)))
 
 -- two records that are taken
 pub filled-alike-by : (laws : List Law) (s t lanes list : List ℕ) → Taken s lanes → Taken t lanes → SameArrivals (studyOf s lanes) (studyOf t lanes)
@@ -197,7 +198,7 @@ filled-alike-by laws s t lanes list first other h = go (case-of laws s lanes lis
         (λ z j m. filled-rows laws t lanes other j (omega (arith, h .steps)) ∙ rows-same laws ok h j m ∙ sym (filled-rows laws s lanes first j m))
 
 -- a record filled in either version gets the same releases
-pub restamped-alike : (laws : List Law) (s t lanes list : List ℕ) → Taken s lanes → Taken t lanes → Restamped (studyOf s lanes) (studyOf t lanes)
+pub restamped-alike : (laws : List Law) (s t lanes list : List ℕ) → Taken s lanes → Taken t lanes → OtherVersion (studyOf s lanes) (studyOf t lanes)
     → FilledAlike laws s t lanes list
 restamped-alike laws s t lanes list first other h =
     filled-alike-by laws s t lanes list first other (record {

@@ -4,20 +4,20 @@ use mathlib.Core.List.{List}
 use Prim.Native.Nat.{ℕ, zero, suc, _^_, _≤_, _<_}
 use native.Mathlib.Omega.{arith}
 use Rattle.model.specs.Refusals.{fault}
-use Rattle.model.specs.Schedules.{Study, roadAt, Released, engineAfter}
+use Rattle.model.specs.Schedules.{Study, roadAt, ReleasesFit, engineAfter}
 use Rattle.limits.specs.LimitsLaws.{RowOk}
 use Rattle.model.specs.declared.Law.{Law}
 use Rattle.theory.specs.StepLaws.{number-of, fit-releases}
 use Rattle.theory.specs.Roads.{step-row, row-back}
-use Rattle.theory.specs.RunsLaws.{StudyOk, Reached}
+use Rattle.theory.specs.RunsLaws.{StudyOk, ReachedState}
 use Rattle.model.specs.Running.{runSays}
 use Rattle.theory.specs.SchedulesLaws.{run-reached}
-use Rattle.model.specs.Ramps.{Metered, meteredOf}
+use Rattle.model.specs.Filling.{MeterState, meteredOf}
 use Rattle.ramps.specs.RampsLaws.{granted-small, filled-fits, filled-row}
 use Rattle.model.specs.Filling.{meteredFrom, grantedFrom, rowsFrom, filledFrom}
 
 -- m is what the wishes of step 0 go by
-module _ (laws : List Law) (a : Study) (m : Metered) (starts : a .start ≡ m .state) where
+module _ (laws : List Law) (a : Study) (m : MeterState) (starts : a .start ≡ m .state) where
   -- the road of a step stays
   pub filled-road : (k : ℕ) → roadAt (filledFrom laws a m) k ≡ roadAt a k
   unfolding roadAt
@@ -48,7 +48,7 @@ module _ (laws : List Law) (a : Study) (m : Metered) (starts : a .start ≡ m .s
     }
 
     -- each filled release fits in the state of filling, and its run has no fault
-    pub filled-released : (k : ℕ) → k < a .steps → Released (roadAt a k) (meteredFrom laws a m k .state) (rowsFrom laws a m k)
+    pub filled-released : (k : ℕ) → k < a .steps → ReleasesFit (roadAt a k) (meteredFrom laws a m k .state) (rowsFrom laws a m k)
     filled-released k l = filled-fits laws (roadAt a k) (meteredFrom laws a m k) (a .rows k) (row-of k l .numbers)
 
     pub filled-passes : (k : ℕ) → k < a .steps → runSays (filledFrom laws a m) k ≡ fault 0 0
@@ -57,5 +57,5 @@ module _ (laws : List Law) (a : Study) (m : Metered) (starts : a .start ≡ m .s
         (fit-releases (roadAt a k) (meteredFrom laws a m k .state) (rowsFrom laws a m k) (filled-released k l))
 
     -- so its states are within the limits
-    pub filled-reached : (k : ℕ) → k ≤ a .steps → Reached (filledFrom laws a m) (engineAfter (filledFrom laws a m) k) k
+    pub filled-reached : (k : ℕ) → k ≤ a .steps → ReachedState (filledFrom laws a m) (engineAfter (filledFrom laws a m) k) k
     filled-reached k l = run-reached (filledFrom laws a m) filled-ok k l (λ j i. number-of (filled-passes j (omega arith)))

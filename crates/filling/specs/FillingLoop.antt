@@ -22,8 +22,9 @@ use Rattle.model.specs.Record.{recordRow}
 use Rattle.model.specs.declared.Law.{Law}
 use Rattle.meter.specs.LawColumns.{InColumns}
 use Rattle.theory.specs.Roads.{StepRoad, step-row}
-use Rattle.theory.specs.RunsLaws.{StudyOk, Reached, StepOf, step-input, step-sized, step-left}
-use Rattle.model.specs.Ramps.{putReleases, putTable, Metered, metered, grantedAt, filledRow, meteredOf}
+use Rattle.theory.specs.RunsLaws.{StudyOk, ReachedState, StepOf, step-input, step-sized, step-left}
+use Rattle.model.specs.Filling.{MeterState, meterState, grantedAt, filledRow, meteredOf}
+use Rattle.model.specs.Put.{putReleases, putTable}
 use Rattle.put.specs.ReleasesLaws.{PutTable, put-table}
 use Rattle.model.specs.Running.{tableOf}
 use Rattle.theory.specs.TableLaws.{length-table, table-none, table-more}
@@ -39,7 +40,7 @@ pub record Fillable (bytes : List ℕ) (a : Study) (list : List ℕ) : Type 0 wh
   pub long : tableSize a ≤ length list
 
 -- when k steps are filled: their releases are in the bytes and their outflows in the list, u is the state after them, and the next row goes to `to`
-pub record FilledSteps (laws : List Law) (bytes : List ℕ) (a : Study) (m₀ : Metered) (list now out : List ℕ) (u : State) (ramps : ℕ) (w : Arrays)
+pub record FilledSteps (laws : List Law) (bytes : List ℕ) (a : Study) (m₀ : MeterState) (list now out : List ℕ) (u : State) (ramps : ℕ) (w : Arrays)
     (k to : ℕ) : Type 0 where
   pub within : k ≤ a .steps
   pub table : now ≡ putTable bytes (a .road .n) (grantedFrom laws a m₀) k
@@ -49,13 +50,13 @@ pub record FilledSteps (laws : List Law) (bytes : List ℕ) (a : Study) (m₀ : 
   pub written : out ≡ tableOf (filledFrom laws a m₀) list k
 
 -- and, of the last step, an entry for each cell, none above what the cell holds
-pub record FillableFrom (bytes : List ℕ) (a : Study) (m : Metered) (list : List ℕ) : Type 0 where
+pub record FillableFrom (bytes : List ℕ) (a : Study) (m : MeterState) (list : List ℕ) : Type 0 where
   pub fillable : Fillable bytes a list
   pub entered : (i : ℕ) → i < a .road .n → at (m .entries) i ≤ at (a .start .held) i
   pub longReleases : a .road .n ≤ length (m .releases)
   pub longEntries : a .road .n ≤ length (m .entries)
 
-pub came-asks : {bytes : List ℕ} {a : Study} {m : Metered} {list : List ℕ} → FillableFrom bytes a m list
+pub came-asks : {bytes : List ℕ} {a : Study} {m : MeterState} {list : List ℕ} → FillableFrom bytes a m list
     → CameAsks (a .road .n) (a .start .held) (a .start .cumulative) (m .entries)
 came-asks h =
     let ok = h .fillable .readable .ok in
@@ -67,7 +68,7 @@ came-asks h =
     }
 
 -- the arrays before the first step
-pub record Begun (a : Study) (m : Metered) (ramps : ℕ) (w : Arrays) : Type 0 where
+pub record Begun (a : Study) (m : MeterState) (ramps : ℕ) (w : Arrays) : Type 0 where
   pub listed : Listed (NoRamp (a .road .ramp)) (a .road .n) ramps (w .cell)
   pub ramped : AtRamps (a .road .ramp) ramps (w .cell)
   pub rest : w .rest ≡ fillOf (restIn (a .road .share) (m .state .cumulative)) (a .road .n) zeros
@@ -77,7 +78,7 @@ pub record Begun (a : Study) (m : Metered) (ramps : ℕ) (w : Arrays) : Type 0 w
   pub waits : w .waits ≡ zeros
   pub demand : w .demand ≡ zeros
 
-pub kept-start : {a : Study} {m : Metered} {ramps : ℕ} {w : Arrays} → a .road .n ≤ mostCells
+pub kept-start : {a : Study} {m : MeterState} {ramps : ℕ} {w : Arrays} → a .road .n ≤ mostCells
     → CameAsks (a .road .n) (m .state .held) (m .state .cumulative) (m .entries) → a .road .n ≤ length (m .releases) → a .road .n ≤ length (m .entries)
     → Begun a m ramps w → ArraysOk (a .road .n) (a .road .share) (a .road .ramp) m ramps w
 kept-start {a} {m} {ramps} {w} cells asks longR longE b =
@@ -99,7 +100,7 @@ kept-start {a} {m} {ramps} {w} cells asks longR longE b =
       longDemand = omega (arith, ap length (b .demand), long);
     }
 
-module _ {laws : List Law} {bytes : List ℕ} {a : Study} {m₀ : Metered} {list : List ℕ} where
+module _ {laws : List Law} {bytes : List ℕ} {a : Study} {m₀ : MeterState} {list : List ℕ} where
   pub filled-none : {ramps : ℕ} {w : Arrays} → a .start ≡ m₀ .state → ArraysOk (a .road .n) (a .road .share) (a .road .ramp) m₀ ramps w
       → FilledSteps laws bytes a m₀ list bytes list (a .start) ramps w 0 0
   unfolding putTable meteredFrom
@@ -115,8 +116,8 @@ module _ {laws : List Law} {bytes : List ℕ} {a : Study} {m₀ : Metered} {list
   module _ {now out : List ℕ} {u : State} {ramps : ℕ} {w : Arrays} {k to : ℕ} (ok : Fillable bytes a list) (starts : a .start ≡ m₀ .state)
       (h : FilledSteps laws bytes a m₀ list now out u ramps w k to) where
     -- what the wishes of step k go by, from the state that the code holds
-    pub goes-by : metered u (meteredFrom laws a m₀ k .releases) (meteredFrom laws a m₀ k .entries) ≡ meteredFrom laws a m₀ k
-    goes-by = ap (λ (s : State). metered s (meteredFrom laws a m₀ k .releases) (meteredFrom laws a m₀ k .entries)) (h .state)
+    pub goes-by : meterState u (meteredFrom laws a m₀ k .releases) (meteredFrom laws a m₀ k .entries) ≡ meteredFrom laws a m₀ k
+    goes-by = ap (λ (s : State). meterState s (meteredFrom laws a m₀ k .releases) (meteredFrom laws a m₀ k .entries)) (h .state)
 
     -- the rows of the steps filled are filled, and the others as they were
     put : PutTable bytes now (a .road .n) (grantedFrom laws a m₀) k
@@ -138,7 +139,7 @@ module _ {laws : List Law} {bytes : List ℕ} {a : Study} {m₀ : Metered} {list
     row-fits l = omega (arith, row-ends-by (length list) (ok .long) l, same-list)
 
     -- a turn: q is the road of step k, and its wishes go by m
-    module _ {q : Road} {m : Metered} (l : k < a .steps) (e : q ≡ roadAt a k) (em : m ≡ meteredFrom laws a m₀ k) where
+    module _ {q : Road} {m : MeterState} (l : k < a .steps) (e : q ≡ roadAt a k) (em : m ≡ meteredFrom laws a m₀ k) where
       roads : StepRoad (a .road) q
       roads = rw e (ok .readable .ok .roads k)
 
@@ -146,7 +147,7 @@ module _ {laws : List Law} {bytes : List ℕ} {a : Study} {m₀ : Metered} {list
       row-now : recordRow now (q .n) k ≡ a .rows k
       row-now = rw (roads .n, ok .rows k) (put .later k (omega arith))
 
-      reached : Reached (filledFrom laws a m₀) (m .state) k
+      reached : ReachedState (filledFrom laws a m₀) (m .state) k
       reached = rw (em, ← filled-run laws a m₀ starts k) (filled-reached laws a m₀ starts (ok .readable .ok) k (h .within))
 
       this-step : StepOf (filledFrom laws a m₀) q (m .state) (rowsFrom laws a m₀ k) k
@@ -201,7 +202,7 @@ module _ {laws : List Law} {bytes : List ℕ} {a : Study} {m₀ : Metered} {list
       filled-more {part = part} f = record {
         within = omega arith;
         table = rw (add-one k) (f .releases ∙ puts);
-        state = f .state ∙ ap (λ (x : Metered). x .state) after;
+        state = f .state ∙ ap (λ (x : MeterState). x .state) after;
         kept = kept-on (sym (roads .n)) (sym (roads .share)) (sym (roads .ramp)) (sym after) (f .kept);
         place = omega (arith, h .place, mul-more k (places a));
         written = table-more (filledFrom laws a m₀) (filled-ok laws a m₀ starts (ok .readable .ok)) list k out part to (h .written) (outflows (f .row)) (h .place);

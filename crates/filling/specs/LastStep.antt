@@ -17,7 +17,7 @@ use Rattle.model.specs.Listing.{mostOutflows}
 use Rattle.model.specs.declared.Road.{Road}
 use Rattle.model.specs.declared.State.{State}
 use Rattle.model.specs.declared.Law.{Law}
-use Rattle.model.specs.Places.{releaseAt, shareAt, cumulativeAt, enteringAt}
+use Rattle.model.specs.Flow.{releaseAt, shareAt, cumulativeAt, enteringAt}
 use Rattle.model.specs.Move.{nextOf}
 use Rattle.model.specs.Schedules.{Study, roadAt, outflowsOf, outflowsAt, places, tableSize}
 use Rattle.limits.specs.LimitsLaws.{RowOk}
@@ -27,7 +27,8 @@ use Rattle.theory.specs.RulesLaws.{Sized, length-outflows}
 use Rattle.theory.specs.MoveLaws.{next-cumulative}
 use Rattle.theory.specs.Roads.{step-alike, step-row, sized-alike}
 use Rattle.theory.specs.RunsLaws.{StudyOk, schedule-sized, engine-schedule}
-use Rattle.model.specs.Ramps.{Metered, metered, putTable, releasedRow, grantedAt, filledRow, meteredOf}
+use Rattle.model.specs.Filling.{MeterState, meterState, grantedAt, filledRow, meteredOf}
+use Rattle.model.specs.Put.{putTable, releasedRow}
 use Rattle.ramps.specs.RampsLaws.{filled-release}
 use Rattle.model.specs.Filling.{meteredFrom, grantedFrom, rowsFrom, filledFrom}
 use Rattle.model.specs.Running.{tableOf}
@@ -97,7 +98,7 @@ past-fill f n m x l e h = record {
   same = ap (λ (k : ℕ). drop n (fillOf f k x)) e ∙ fill-drop f n x (h .long) ∙ h .same;
 }
 
-module _ (laws : List Law) (a : Study) (m : Metered) (starts : a .start ≡ m .state) (ok : StudyOk a)
+module _ (laws : List Law) (a : Study) (m : MeterState) (starts : a .start ≡ m .state) (ok : StudyOk a)
     (longR : a .road .n ≤ length (m .releases)) (longE : a .road .n ≤ length (m .entries)) where
   past : (k : ℕ) → Past (a .road .n) (meteredFrom laws a m k .releases) (m .releases) × Past (a .road .n) (meteredFrom laws a m k .entries) (m .entries)
   unfolding meteredFrom meteredOf
@@ -108,7 +109,7 @@ module _ (laws : List Law) (a : Study) (m : Metered) (starts : a .start ≡ m .s
     abbrev q : Road
     q = roadAt a k
 
-    abbrev M : Metered
+    abbrev M : MeterState
     M = meteredFrom laws a m k
 
     cells : roadAt a k .n ≡ a .road .n
@@ -167,7 +168,7 @@ module _ (laws : List Law) (a : Study) (m : Metered) (starts : a .start ≡ m .s
         }
 
 -- after all steps: the record and the list that filling leaves
-module _ {bytes : List ℕ} {a : Study} {list : List ℕ} (laws : List Law) (m : Metered) (ok : FillableFrom bytes a m list) (starts : a .start ≡ m .state)
+module _ {bytes : List ℕ} {a : Study} {list : List ℕ} (laws : List Law) (m : MeterState) (ok : FillableFrom bytes a m list) (starts : a .start ≡ m .state)
     (some : 1 ≤ a .steps) {after out : List ℕ} (ea : after ≡ putTable bytes (a .road .n) (grantedFrom laws a m) (a .steps))
     (eo : out ≡ tableOf (filledFrom laws a m) list (a .steps)) where
   abbrev k : ℕ
@@ -226,14 +227,14 @@ module _ {bytes : List ℕ} {a : Study} {list : List ℕ} (laws : List Law) (m :
     pub last-known : {releases entries : List ℕ}
         → releases ≡ fillOf (releaseAt (recordRow after (a .road .n) (a .steps - 1))) (a .road .n) (m .releases)
         → entries ≡ fillOf (enteredIn (a .road .share) (u .cumulative) (rowAt out (a .road .n + 1) (a .steps - 1))) (a .road .n) (m .entries)
-        → metered u releases entries ≡ meteredFrom laws a m (a .steps)
+        → meterState u releases entries ≡ meteredFrom laws a m (a .steps)
     last-known {releases} {entries} er en =
         let r = er ∙ ap (λ (x : List ℕ). fillOf (releaseAt x) (a .road .n) (m .releases)) row-known
         ∙ last-releases laws a m starts okay (ok .longReleases) (ok .longEntries) k less in
         let e = en
         ∙ ap (λ (s : State). fillOf (enteredIn (a .road .share) (s .cumulative) (rowAt out (a .road .n + 1) k)) (a .road .n) (m .entries)) after-last
         ∙ last-entries laws a m starts okay (ok .longReleases) (ok .longEntries) k less flows-known in
-        ap (λ (s : State). metered s releases entries) after-last
-        ∙ ap (λ (x : List ℕ). metered (meteredFrom laws a m (suc k) .state) x entries) r
-        ∙ ap (λ (x : List ℕ). metered (meteredFrom laws a m (suc k) .state) (meteredFrom laws a m (suc k) .releases) x) e
+        ap (λ (s : State). meterState s releases entries) after-last
+        ∙ ap (λ (x : List ℕ). meterState (meteredFrom laws a m (suc k) .state) x entries) r
+        ∙ ap (λ (x : List ℕ). meterState (meteredFrom laws a m (suc k) .state) (meteredFrom laws a m (suc k) .releases) x) e
         ∙ ap (meteredFrom laws a m) whole-run

@@ -11,16 +11,16 @@ use Rattle.model.specs.Running.{EndAnswer, noState, stepsMade, lanesFault}
 use Rattle.model.specs.Longest.{Queues, longestOf, filledAfter, longestFill}
 use Rattle.counts.specs.Longest.{noQueues}
 use Rattle.counts.specs.LongestLaws.{longest-none}
-use Rattle.model.specs.Ramps.{Metered, unmetered}
+use Rattle.model.specs.Filling.{MeterState, meterStart}
 use Rattle.model.specs.Filling.{meteredFrom, lawPlace, fillingOf}
 use Rattle.filling.specs.Cases.{fills-all}
 
 -- the longest queues over all T steps, from any start and from the record's
-abbrev pub longestFrom : List Law → Study → Metered → Queues
+abbrev pub longestFrom : List Law → Study → MeterState → Queues
 longestFrom laws a m = longestOf (a .road .n) (λ k. meteredFrom laws a m k .state) (a .steps)
 
 abbrev pub longestFilled : List Law → Study → Queues
-longestFilled laws a = longestFrom laws a (unmetered (a .start))
+longestFilled laws a = longestFrom laws a (meterStart (a .start))
 
 module _ (laws : List Law) (bytes lanes list : List ℕ) where
   -- a refusal does no step

@@ -21,22 +21,23 @@ use Rattle.model.specs.Stepping.{tableFault}
 use Rattle.model.specs.Schedules.{Study, tableSize}
 use Rattle.model.specs.Reading.{ReadAnswer, readingOf, studyBy}
 use Rattle.model.specs.Running.{EndAnswer, ended, noState, lanesFault, stepsMade, tableOf}
-use Rattle.model.specs.Ramps.{Metered, metered, unmetered, putTable}
+use Rattle.model.specs.Filling.{MeterState, meterState, meterStart}
+use Rattle.model.specs.Put.{putTable}
 use Rattle.model.specs.Filling.{lawPlace, meteredFrom, grantedFrom, filledFrom}
 use Rattle.model.specs.Longest.{Queues, longestOf}
 use Rattle.model.specs.GoingOn.{studyAfter, entriesOk, progressFault, fillingOn, progressOn, recordOn, filledListOn, longestFillOn}
-use Rattle.theory.specs.Started.{Begins}
+use Rattle.theory.specs.StartingState.{Begins}
 use Rattle.counts.specs.Longest.{noQueues}
 use Rattle.counts.specs.LongestLaws.{longest-none}
 use Rattle.filling.specs.LongestFill.{longestFrom}
 
 -- after a refusal nothing is gone on from
 pub nothing : {s : State} {releases entries : List ℕ} → s ≡ emptyState → releases ≡ zeros → entries ≡ zeros
-    → metered s releases entries ≡ unmetered emptyState
+    → meterState s releases entries ≡ meterStart emptyState
 nothing {s} {releases} {entries} es er ee =
-    ap (λ (x : State). metered x releases entries) es ∙ ap (λ (x : List ℕ). metered emptyState x entries) er ∙ ap (metered emptyState zeros) ee
+    ap (λ (x : State). meterState x releases entries) es ∙ ap (λ (x : List ℕ). meterState emptyState x entries) er ∙ ap (meterState emptyState zeros) ee
 
-module _ (laws : List Law) (bytes lanes : List ℕ) (m : Metered) (list : List ℕ) where
+module _ (laws : List Law) (bytes lanes : List ℕ) (m : MeterState) (list : List ℕ) where
   abbrev a : Study
   a = studyAfter bytes lanes m
 
@@ -44,14 +45,14 @@ module _ (laws : List Law) (bytes lanes : List ℕ) (m : Metered) (list : List �
   finished = ended 0 0 0 (a .road) (meteredFrom laws a m (a .steps) .state)
 
   -- the answer, the record and the list at exit, the longest queues, and what a further record goes on from
-  abbrev pub PromiseOn : EndAnswer → List ℕ → List ℕ → Queues → Metered → Type 0
+  abbrev pub PromiseOn : EndAnswer → List ℕ → List ℕ → Queues → MeterState → Type 0
   PromiseOn e after out q p =
       (e ≡ fillingOn laws bytes lanes m list) × ((after ≡ recordOn laws bytes lanes m list) × ((out ≡ filledListOn laws bytes lanes m list)
       × ((q ≡ longestFillOn laws bytes lanes m list) × (p ≡ progressOn laws bytes lanes m list))))
 
   -- a refusal leaves record and list unchanged, and does no step
-  refusal : {e : EndAnswer} {q : Queues} {p : Metered} (number place : ℕ) → (number ≡ 0 → ⊥) → fillingOn laws bytes lanes m list ≡ noState number place
-      → e ≡ noState number place → q ≡ noQueues → p ≡ unmetered emptyState → PromiseOn e bytes list q p
+  refusal : {e : EndAnswer} {q : Queues} {p : MeterState} (number place : ℕ) → (number ≡ 0 → ⊥) → fillingOn laws bytes lanes m list ≡ noState number place
+      → e ≡ noState number place → q ≡ noQueues → p ≡ meterStart emptyState → PromiseOn e bytes list q p
   unfolding recordOn filledListOn longestFillOn progressOn
   refusal number place d ef ee eq ep =
       let none : stepsMade a (fillingOn laws bytes lanes m list) ≡ 0 = rw (ef, ne-eqb number 0 d) refl in (
@@ -70,8 +71,8 @@ module _ (laws : List Law) (bytes lanes : List ℕ) (m : Metered) (list : List �
 
   -- x is what reading gave
   module _ {x : ReadAnswer} (ex : x ≡ readingOf bytes) where
-    pub on-refused : {e : EndAnswer} {q : Queues} {p : Metered} → (x .number ≡ 0 → ⊥) → e ≡ noState (x .number) (x .place) → q ≡ noQueues
-        → p ≡ unmetered emptyState → PromiseOn e bytes list q p
+    pub on-refused : {e : EndAnswer} {q : Queues} {p : MeterState} → (x .number ≡ 0 → ⊥) → e ≡ noState (x .number) (x .place) → q ≡ noQueues
+        → p ≡ meterStart emptyState → PromiseOn e bytes list q p
     unfolding fillingOn
     on-refused h ee eq ep =
         let n : readingOf bytes .number ≡ 0 → ⊥ = rw ex at h in
@@ -84,8 +85,8 @@ module _ (laws : List Law) (bytes lanes : List ℕ) (m : Metered) (list : List �
       law-is : place ≡ lawPlace laws (studyAfter bytes lanes m)
       law-is = rw ex at el
 
-      pub on-law : {e : EndAnswer} {q : Queues} {p : Metered} → (place ≡ 0 → ⊥) → e ≡ noState 16 place → q ≡ noQueues
-          → p ≡ unmetered emptyState → PromiseOn e bytes list q p
+      pub on-law : {e : EndAnswer} {q : Queues} {p : MeterState} → (place ≡ 0 → ⊥) → e ≡ noState 16 place → q ≡ noQueues
+          → p ≡ meterStart emptyState → PromiseOn e bytes list q p
       unfolding fillingOn
       on-law d ee eq ep =
           let n : lawPlace laws a ≡ 0 → ⊥ = λ z. d (law-is ∙ z) in
@@ -100,8 +101,8 @@ module _ (laws : List Law) (bytes lanes : List ℕ) (m : Metered) (list : List �
         found : f ≡ lanesFault (studyAfter bytes lanes m)
         found = rw ex at ef
 
-        pub on-closed : {e : EndAnswer} {q : Queues} {p : Metered} → (f .number ≡ 0 → ⊥) → e ≡ noState (f .number) (f .place) → q ≡ noQueues
-            → p ≡ unmetered emptyState → PromiseOn e bytes list q p
+        pub on-closed : {e : EndAnswer} {q : Queues} {p : MeterState} → (f .number ≡ 0 → ⊥) → e ≡ noState (f .number) (f .place) → q ≡ noQueues
+            → p ≡ meterStart emptyState → PromiseOn e bytes list q p
         unfolding fillingOn
         on-closed d ee eq ep =
             let n : lanesFault a .number ≡ 0 → ⊥ = rw found at d in
@@ -123,8 +124,8 @@ module _ (laws : List Law) (bytes lanes : List ℕ) (m : Metered) (list : List �
               ∙ ap (λ (y : ReadAnswer). unless (stateOk (y .road) (m .state) && allOf (λ i. leb (at (m .entries) i) (at (m .state .held) i)) (y .road .n)) 7
               (unless (leb (m .state .done + y .steps) mostSteps) 8 0)) ex
 
-          pub on-start : {e : EndAnswer} {q : Queues} {p : Metered} → (g ≡ 0 → ⊥) → e ≡ noState g 0 → q ≡ noQueues
-              → p ≡ unmetered emptyState → PromiseOn e bytes list q p
+          pub on-start : {e : EndAnswer} {q : Queues} {p : MeterState} → (g ≡ 0 → ⊥) → e ≡ noState g 0 → q ≡ noQueues
+              → p ≡ meterStart emptyState → PromiseOn e bytes list q p
           unfolding fillingOn
           on-start d ee eq ep =
               let n : progressFault a m ≡ 0 → ⊥ = λ z. d (start-is ∙ z) in
@@ -153,8 +154,8 @@ module _ (laws : List Law) (bytes lanes : List ℕ) (m : Metered) (list : List �
                 × ((i : ℕ) → i < x .road .n → at (m .entries) i ≤ at (m .state .held) i)
             starts-found = rw ex begins-on
 
-            pub on-short : {e : EndAnswer} {q : Queues} {p : Metered} → length list < tableSize (studyBy bytes lanes (x .road) (m .state) (x .steps))
-                → e ≡ noState 11 0 → q ≡ noQueues → p ≡ unmetered emptyState → PromiseOn e bytes list q p
+            pub on-short : {e : EndAnswer} {q : Queues} {p : MeterState} → length list < tableSize (studyBy bytes lanes (x .road) (m .state) (x .steps))
+                → e ≡ noState 11 0 → q ≡ noQueues → p ≡ meterStart emptyState → PromiseOn e bytes list q p
             unfolding fillingOn
             on-short l ee eq ep =
                 let n : length list < tableSize a = rw ex at l in
@@ -163,7 +164,7 @@ module _ (laws : List Law) (bytes lanes : List ℕ) (m : Metered) (list : List �
                 (ap (λ (b : Bool). unless b (noState 11 0) finished) (lt-leb (tableSize a) (length list) n)))
                 ee eq ep
 
-            pub on-all : {e : EndAnswer} {after out : List ℕ} {q : Queues} {p : Metered} → tableSize (studyBy bytes lanes (x .road) (m .state) (x .steps)) ≤ length list
+            pub on-all : {e : EndAnswer} {after out : List ℕ} {q : Queues} {p : MeterState} → tableSize (studyBy bytes lanes (x .road) (m .state) (x .steps)) ≤ length list
                 → e ≡ ended 0 0 0 (x .road) (meteredFrom laws (studyBy bytes lanes (x .road) (m .state) (x .steps)) m (x .steps) .state)
                 → after ≡ putTable bytes (x .road .n) (grantedFrom laws (studyBy bytes lanes (x .road) (m .state) (x .steps)) m) (x .steps)
                 → out ≡ tableOf (filledFrom laws (studyBy bytes lanes (x .road) (m .state) (x .steps)) m) list (x .steps)

@@ -9,11 +9,12 @@ use Rattle.limits.specs.LimitsLaws.{row-ok}
 use Rattle.model.specs.Record.{recordRow}
 use Rattle.model.specs.declared.Law.{Law}
 use Rattle.model.specs.Reading.{ReadAnswer, readingOf, studyBy, studyOf}
-use Rattle.model.specs.Ramps.{releasedRow, filledRow}
+use Rattle.model.specs.Filling.{filledRow}
+use Rattle.model.specs.Put.{releasedRow}
 use Rattle.put.specs.ReleasesLaws.{PutTable, put-table, table-head}
 use Rattle.put.specs.SameReading.{rows-replaced}
 use Rattle.theory.specs.StepLaws.{number-of}
-use Rattle.theory.specs.RunsLaws.{StudyOk, Shared, shared-less, engine-shared}
+use Rattle.theory.specs.RunsLaws.{StudyOk, SharedSteps, shared-less, engine-shared}
 use Rattle.model.specs.Running.{runSays, firstStep, ended, lanesFault, runEnd, runningOf, tableOf, listAfter}
 use Rattle.theory.specs.SchedulesLaws.{runTable, step-none, end-all}
 use Rattle.theory.specs.TableLaws.{table-shared}
@@ -61,7 +62,7 @@ module _ (laws : List Law) (bytes lanes : List ℕ) (taken : Taken bytes lanes) 
   same-study = ap (λ (x : ReadAnswer). studyBy filled lanes (x .road) (x .state) (x .steps)) filled-reads
 
   -- so its study is the filled one, up to its last step
-  pub filled-shared : Shared (studyBy (filledBytes laws bytes lanes) lanes (studyOf bytes lanes .road) (studyOf bytes lanes .start) (studyOf bytes lanes .steps))
+  pub filled-shared : SharedSteps (studyBy (filledBytes laws bytes lanes) lanes (studyOf bytes lanes .road) (studyOf bytes lanes .start) (studyOf bytes lanes .steps))
       (filledStudy laws (studyOf bytes lanes)) (studyOf bytes lanes .steps)
   unfolding roadAt
   filled-shared = record { start = refl; roads = λ j l. refl; rows = filled-rows }

@@ -10,7 +10,7 @@ use Rattle.model.specs.Refusals.{began}
 use Rattle.model.specs.Schedules.{Study, roadAt, tableSize}
 use Rattle.model.specs.declared.Law.{Law}
 use Rattle.model.specs.Reading.{readingOf, studyOf}
-use Rattle.model.specs.Places.{gateArrivals, arrivalsAt}
+use Rattle.model.specs.Flow.{gateArrivals, arrivalsAt}
 use Rattle.model.specs.Filling.{meteredAfter, filledBytes, lawPlace, fillingOf, recordAfter, filledList, OnlyReleases}
 use Rattle.theory.specs.RunsLaws.{StudyOk, shared-less}
 use Rattle.model.specs.Running.{EndAnswer, runningOf, listAfter}

@@ -16,7 +16,7 @@ use Rattle.model.specs.Record.{numberSize, numberOf, versionOf, rowStart, recor
 use Rattle.fields.specs.FieldsLaws.{HoldsRow, row-at}
 use Rattle.model.specs.declared.Law.{Law}
 use Rattle.meter.specs.LawColumns.{InColumns}
-use Rattle.model.specs.Places.{gateArrivals, enteringAt}
+use Rattle.model.specs.Flow.{gateArrivals, enteringAt}
 use Rattle.model.specs.Move.{heldOf, cumulativeOf, movedTo, countedOf}
 use Rattle.model.specs.Schedules.{outflowsOf}
 use Rattle.theory.specs.RulesLaws.{outflows-obey, demand-at-cell}
@@ -26,7 +26,8 @@ use Rattle.passes.specs.Rest.{restOf}
 use Rattle.passes.specs.Supplies.{NoRamp, Supplies, supplyIn, supply-model, demandIn}
 use Rattle.passes.specs.RampList.{Listed, AtRamps}
 use Rattle.passes.specs.Next.{NextAsks, demands-are, Stepped}
-use Rattle.model.specs.Ramps.{putReleases, Metered, metered, grantedAt, filledRow, meteredOf}
+use Rattle.model.specs.Filling.{MeterState, meterState, grantedAt, filledRow, meteredOf}
+use Rattle.model.specs.Put.{putReleases}
 use Rattle.put.specs.ReleasesLaws.{PutRow, put-releases}
 use Rattle.ramps.specs.RampsLaws.{granted-small, filled-release, last-release, last-entry}
 use Rattle.ramps.specs.Grants.{Lasts, GrantAsks, Granted}
@@ -53,7 +54,7 @@ arrays cell rest room release waits came demand = record {
 }
 
 -- what is kept of them: the cells with a ramp are listed, with what the last step left there; the rests are those of b × F; all have an entry for each cell
-pub record ArraysOk (n : ℕ) (share ramp : List ℕ) (m : Metered) (ramps : ℕ) (w : Arrays) : Type 0 where
+pub record ArraysOk (n : ℕ) (share ramp : List ℕ) (m : MeterState) (ramps : ℕ) (w : Arrays) : Type 0 where
   pub listed : Listed (NoRamp ramp) n ramps (w .cell)
   pub ramped : AtRamps ramp ramps (w .cell)
   pub lasts : Lasts m ramps (w .cell) (w .release) (w .came)
@@ -67,13 +68,13 @@ pub record ArraysOk (n : ℕ) (share ramp : List ℕ) (m : Metered) (ramps : ℕ
   pub longCame : n ≤ length (w .came)
   pub longDemand : n ≤ length (w .demand)
 
-pub kept-on : {n n′ : ℕ} {share share′ ramp ramp′ : List ℕ} {m m′ : Metered} {ramps : ℕ} {w : Arrays}
+pub kept-on : {n n′ : ℕ} {share share′ ramp ramp′ : List ℕ} {m m′ : MeterState} {ramps : ℕ} {w : Arrays}
     → n′ ≡ n → share′ ≡ share → ramp′ ≡ ramp → m′ ≡ m → ArraysOk n share ramp m ramps w → ArraysOk n′ share′ ramp′ m′ ramps w
 kept-on en es er em h = rw (en, es, er, em) h
 
 -- what filling a step requires: the bytes hold its row, which is within its limits, a step by the filled row may be made, the laws are in columns, and y
 -- has room for its outflows
-pub record FillAsks (laws : List Law) (bytes : List ℕ) (q : Road) (m : Metered) (k : ℕ) (kinds : List ℕ) (numbers : List Float) (ramps : ℕ) (w : Arrays)
+pub record FillAsks (laws : List Law) (bytes : List ℕ) (q : Road) (m : MeterState) (k : ℕ) (kinds : List ℕ) (numbers : List Float) (ramps : ℕ) (w : Arrays)
     (y : List ℕ) : Type 0 where
   pub held : HoldsRow bytes (q .n) k
   pub row : RowOk q (recordRow bytes (q .n) k)
@@ -89,17 +90,17 @@ pub record FillLent (bytes : List ℕ) (k n gate : ℕ) (speed wave share jam ca
   pub road : Road
   pub releases : List ℕ
   pub entries : List ℕ
-  pub fills : FillAsks laws bytes (roadOf road n gate speed wave share jam capacity) (metered s releases entries) k kinds numbers ramps w y
+  pub fills : FillAsks laws bytes (roadOf road n gate speed wave share jam capacity) (meterState s releases entries) k kinds numbers ramps w y
 
 -- what filling a step gives: the bytes with its releases, the state after it, its outflows, and what is kept
-pub record FilledRow (laws : List Law) (bytes : List ℕ) (q : Road) (m : Metered) (k : ℕ) (put : List ℕ) (t : State) (ramps : ℕ) (w : Arrays) (y : List ℕ)
+pub record FilledRow (laws : List Law) (bytes : List ℕ) (q : Road) (m : MeterState) (k : ℕ) (put : List ℕ) (t : State) (ramps : ℕ) (w : Arrays) (y : List ℕ)
     : Type 0 where
   pub releases : put ≡ putReleases bytes (q .n) k (grantedAt laws q m (recordRow bytes (q .n) k)) (q .n)
   pub state : t ≡ meteredOf laws q m (recordRow bytes (q .n) k) .state
   pub row : y ≡ outflowsOf q (m .state) (filledRow laws q m (recordRow bytes (q .n) k))
   pub kept : ArraysOk (q .n) (q .share) (q .ramp) (meteredOf laws q m (recordRow bytes (q .n) k)) ramps w
 
-module _ {laws : List Law} {bytes : List ℕ} {q : Road} {m : Metered} {k : ℕ} {kinds : List ℕ} {numbers : List Float} {ramps : ℕ} {w : Arrays} {y₀ : List ℕ}
+module _ {laws : List Law} {bytes : List ℕ} {q : Road} {m : MeterState} {k : ℕ} {kinds : List ℕ} {numbers : List Float} {ramps : ℕ} {w : Arrays} {y₀ : List ℕ}
     (f : FillAsks laws bytes q m k kinds numbers ramps w y₀) where
   abbrev row : List ℕ
   row = recordRow bytes (q .n) k

@@ -3,7 +3,7 @@ ghost use mathlib.Core.Path.{_≡_};
 ghost use Prim.Native.Nat.{_-_, _≤_};
 ghost use Rattle.model.specs.Numbers.{fillOf};
 ghost use Rattle.model.specs.Flow.{whole, enteringOf};
-ghost use Rattle.model.specs.Places.{releaseAt};
+ghost use Rattle.model.specs.Flow.{releaseAt};
 ghost use Rattle.model.specs.Record.{recordRow};
 ghost use Rattle.fields.specs.FieldsLaws.{HoldsRow};
 ghost use Rattle.filling.specs.LastStep.{enteredIn, EntriesAsk};

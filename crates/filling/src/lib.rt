@@ -18,7 +18,8 @@ ghost use Rattle.model.specs.declared.Road.{Road};
 ghost use Rattle.model.specs.declared.Law.{Law};
 ghost use Rattle.outflows.specs.Columns.{roadOf, stateOf};
 ghost use Rattle.model.specs.Reading.{studyBy};
-ghost use Rattle.model.specs.Ramps.{putTable, metered};
+ghost use Rattle.model.specs.Filling.{meterState};
+ghost use Rattle.model.specs.Put.{putTable};
 ghost use Rattle.model.specs.Running.{ended, endAnswer, tableOf};
 ghost use Rattle.model.specs.Demand.{Taken, Promised};
 ghost use Rattle.model.specs.Longest.{longestQueues, longestFill};
@@ -28,7 +29,7 @@ ghost use Prim.Native.Nat.{_+_, _-_, _≤_};
 ghost use lib.Dec.{leb};
 ghost use Rattle.model.specs.Numbers.{at, allOf, fillOf, rowAt};
 ghost use Rattle.model.specs.Road.{mostCells, zeros, withoutState};
-ghost use Rattle.model.specs.Places.{releaseAt};
+ghost use Rattle.model.specs.Flow.{releaseAt};
 ghost use Rattle.model.specs.Record.{recordRow};
 ghost use Rattle.counts.specs.Longest.{noQueues};
 ghost use Rattle.filling.specs.LastStep.{enteredIn, LastAsks};
@@ -68,11 +69,11 @@ fn fill_row<'a, 'b>(
         (arrays (now cell) (now rest) (now room) (now release) (now waiting) (now came) (now demand)) (now y) ⌝ }
     ensures { λ t. ⌜ ((laws : List Law) (r : Road) (releases entries : List ℕ) → FillAsks laws (now (bytes .entry))
         (roadOf r n «gate_capacity» (now (speed .entry)) (now (wave .entry)) (now (share .entry)) (now (jam .entry)) (now (capacity .entry)))
-        (metered (stateOf l (now (held .entry)) (now (queue .entry)) (now (cumulative .entry))) releases entries) k (now (kinds .entry)) (now (numbers .entry)) ramps
+        (meterState (stateOf l (now (held .entry)) (now (queue .entry)) (now (cumulative .entry))) releases entries) k (now (kinds .entry)) (now (numbers .entry)) ramps
         (arrays (now (cell .entry)) (now (rest .entry)) (now (room .entry)) (now (release .entry)) (now (waiting .entry)) (now (came .entry)) (now (demand .entry)))
         (now (y .entry)) → FilledRow laws (now (bytes .entry))
         (roadOf r n «gate_capacity» (now (speed .entry)) (now (wave .entry)) (now (share .entry)) (now (jam .entry)) (now (capacity .entry)))
-        (metered (stateOf l (now (held .entry)) (now (queue .entry)) (now (cumulative .entry))) releases entries) k
+        (meterState (stateOf l (now (held .entry)) (now (queue .entry)) (now (cumulative .entry))) releases entries) k
         (now (bytes .exit)) (stateOf t (now (held .exit)) (now (queue .exit)) (now (cumulative .exit))) ramps
         (arrays (now (cell .entry)) (now (rest .exit)) (now (room .exit)) (now (release .exit)) (now (waiting .exit)) (now (came .exit)) (now (demand .exit)))
         (now (y .exit))) ⌝ }
@@ -352,7 +353,7 @@ pub fn fill_on(
     ensures bytes { λ e. ⌜ now (bytes .exit) ≡ recordOn laws (now (bytes .entry)) (now (table .entry)) (progressed from) (now (out .entry)) ⌝ }
     ensures list { λ e. ⌜ now (out .exit) ≡ filledListOn laws (now (bytes .entry)) (now (table .entry)) (progressed from) (now (out .entry)) ⌝ }
     ensures longest { λ e. ⌜ longestQueues (e .longest) ≡ longestFillOn laws (now (bytes .entry)) (now (table .entry)) (progressed from) (now (out .entry)) ⌝ }
-    ensures progress { λ e. ⌜ metered (e .longest .ended .state) (e .releases) (e .entries)
+    ensures progress { λ e. ⌜ meterState (e .longest .ended .state) (e .releases) (e .entries)
         ≡ progressOn laws (now (bytes .entry)) (now (table .entry)) (progressed from) (now (out .entry)) ⌝ }
 {
     let a = reading::read(bytes);

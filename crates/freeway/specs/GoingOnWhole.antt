@@ -20,27 +20,28 @@ use Rattle.model.specs.Limits.{stateOk}
 use Rattle.numbers.specs.Tests.{unless-elim}
 use Rattle.numbers.specs.FirstLaws.{all-true}
 use Rattle.numbers.specs.RowsLaws.{fill-at, length-fill}
-use Rattle.model.specs.Places.{gateArrivals, arrivalsAt, enteringAt}
+use Rattle.model.specs.Flow.{gateArrivals, arrivalsAt, enteringAt}
 use Rattle.limits.specs.LimitsLaws.{RoadOk, StateOk, RowOk, state-ok, row-ok}
-use Rattle.model.specs.Schedules.{Study, roadAt, outflowsOf, engineAfter, Obeying, proposedAt, scheduledAt}
+use Rattle.model.specs.Schedules.{Study, roadAt, outflowsOf, engineAfter, ObeysUpTo, proposedAt, scheduledAt}
 use Rattle.model.specs.Reading.{readingOf, studyOf}
 use Rattle.reading.specs.Within.{read-within}
 use Rattle.reading.specs.Numbers.{read-numbers}
 use Rattle.model.specs.Running.{EndAnswer, runSays, firstStep, lanesFault, runningOf}
 use Rattle.model.specs.GoingOn.{studyAfter, stateFault, runningOn, judgingOn, entriesOk, progressFault, fillingOn, recordOn}
 use Rattle.model.specs.Judging.{judgingOf}
-use Rattle.model.specs.Ramps.{Metered, unmetered, putTable, releasedRow, filledRow, meteredOf}
+use Rattle.model.specs.Filling.{MeterState, meterStart, filledRow, meteredOf}
+use Rattle.model.specs.Put.{putTable, releasedRow}
 use Rattle.model.specs.Record.{recordRow}
 use Rattle.model.specs.Filling.{meteredFrom, grantedFrom, rowsFrom, filledFrom, lawPlace, fillingOf, OnlyReleases}
 use Rattle.model.specs.Weights.{weightedPresent, weightedTotal}
-use Rattle.model.specs.Longest.{greatestOf, stayedOf, Queues, longestOf}
+use Rattle.model.specs.Longest.{maximumOf, stayedOf, Queues, longestOf}
 use Rattle.model.specs.Demand.{Taken, Ahead}
 use Rattle.numbers.specs.Zeros.{length-zeros, zeros-at}
 use Rattle.theory.specs.RulesLaws.{Sized, demand-at-cell, outflows-obey}
 use Rattle.theory.specs.MoveLaws.{next-held}
 use Rattle.theory.specs.Roads.{StepRoad, step-alike, step-row, row-back, sized-alike}
 use Rattle.theory.specs.Readable.{Readable, readable}
-use Rattle.theory.specs.Started.{same-roads}
+use Rattle.theory.specs.StartingState.{same-roads}
 use Rattle.theory.specs.RunsLaws.{StudyOk}
 use Rattle.theory.specs.SchedulesLaws.{run-reached, step-within}
 use Rattle.theory.specs.WeightsLaws.{weighted-total-none, weighted-total-more}
@@ -57,7 +58,7 @@ unfolding stateFault
 starts-within b road state few = rw (state-ok (b .road) (b .start) road state, le-leb (b .start .done + b .steps) mostSteps few) refl
 
 -- filling releases does not change the road of a step
-filled-roads : (laws : List Law) (a : Study) (m : Metered) (j : ℕ) → roadAt (filledFrom laws a m) j ≡ roadAt a j
+filled-roads : (laws : List Law) (a : Study) (m : MeterState) (j : ℕ) → roadAt (filledFrom laws a m) j ≡ roadAt a j
 unfolding roadAt
 filled-roads laws a m j = refl
 
@@ -72,7 +73,7 @@ module _ {a b : Study} {k : ℕ} (h : Rest a b k) where
       (omega (arith, done, h .steps, ok .steps))
 
   -- the rest of a filled study is the study that filling gives when it goes on
-  pub filled-rest : (laws : List Law) (m p : Metered) → p ≡ meteredFrom laws a m k → Rest (filledFrom laws a m) (filledFrom laws b p) k
+  pub filled-rest : (laws : List Law) (m p : MeterState) → p ≡ meteredFrom laws a m k → Rest (filledFrom laws a m) (filledFrom laws b p) k
   filled-rest laws m p e = record {
     road = h .road;
     steps = h .steps;
@@ -93,11 +94,11 @@ module _ (after then : ℕ → State) (k T : ℕ) (states : (j : ℕ) → j ≤ 
       ∙ omega (arith, weighted-total-more w u n after (k + j), weighted-total-more w u n then j, weighted-states w u n j (omega arith), e)
 
 -- the greatest of the first k + j values is the greater of two: of the first k, and of the j after them
-pub greatest-rest : (f g : ℕ → ℕ) (k j : ℕ) → ((i : ℕ) → i < j → g i ≡ f (k + i)) → greatestOf f (k + j) ≡ max (greatestOf f k) (greatestOf g j)
-unfolding greatestOf
-greatest-rest f g k zero same = ap (greatestOf f) (add-zero k) ∙ omega arith
+pub greatest-rest : (f g : ℕ → ℕ) (k j : ℕ) → ((i : ℕ) → i < j → g i ≡ f (k + i)) → maximumOf f (k + j) ≡ max (maximumOf f k) (maximumOf g j)
+unfolding maximumOf
+greatest-rest f g k zero same = ap (maximumOf f) (add-zero k) ∙ omega arith
 greatest-rest f g k (suc j) same =
-    ap (greatestOf f) (add-suc k j)
+    ap (maximumOf f) (add-suc k j)
     ∙ omega (arith, greatest-rest f g k j (λ i l. same i (omega arith)), same j (le-refl (suc j)))
 
 -- each of the longest queues is the greater of two
@@ -110,9 +111,9 @@ module _ (after then : ℕ → State) (k T : ℕ) (states : (j : ℕ) → j ≤ 
   next : (i : ℕ) → suc i ≤ T → then (suc i) ≡ after (suc (k + i))
   next i l = states (suc i) l ∙ ap after (add-suc k i)
 
-  ramp-of : (n : ℕ) → n ≤ mostCells → (s : ℕ → State) (m i : ℕ) → i < n → at (longestOf n s m .ramps) i ≡ greatestOf (λ j. at (s (suc j) .queue) i) m
+  ramp-of : (n : ℕ) → n ≤ mostCells → (s : ℕ → State) (m i : ℕ) → i < n → at (longestOf n s m .ramps) i ≡ maximumOf (λ j. at (s (suc j) .queue) i) m
   unfolding longestOf
-  ramp-of n few s m i l = fill-at (λ i. greatestOf (λ j. at (s (suc j) .queue) i) m) n zeros i l (omega (arith, length-zeros))
+  ramp-of n few s m i l = fill-at (λ i. maximumOf (λ j. at (s (suc j) .queue) i) m) n zeros i l (omega (arith, length-zeros))
 
   -- the longest queues of the whole
   pub longest-states : (n j : ℕ) → n ≤ mostCells → j ≤ T → Greater n (longestOf n after (k + j)) (longestOf n after k) (longestOf n then j)
@@ -126,7 +127,7 @@ module _ (after then : ℕ → State) (k T : ℕ) (states : (j : ℕ) → j ≤ 
         ramp-of n few after (k + j) i m
         ∙ greatest-rest (λ t. at (after (suc t) .queue) i) (λ t. at (then (suc t) .queue) i) k j
         (λ t o. ap (λ (s : State). at (s .queue) i) (next t (omega arith)))
-        ∙ ap (λ (x : ℕ). max x (greatestOf (λ t. at (then (suc t) .queue) i) j)) (sym (ramp-of n few after k i m))
+        ∙ ap (λ (x : ℕ). max x (maximumOf (λ t. at (then (suc t) .queue) i) j)) (sym (ramp-of n few after k i m))
         ∙ ap (max (at (longestOf n after k .ramps) i)) (sym (ramp-of n few then j i m));
   }
 
@@ -141,19 +142,19 @@ module _ {a b : Study} {k : ℕ} (h : Rest a b k) (s : b .start ≡ engineAfter 
 
   -- demand 3: no schedule of the whole study is ahead of a run in stretches, after k + j steps that both reach
   pub best-rest : StudyOk a → ((j : ℕ) → j < k → runSays a j .number ≡ 0) → (zs : List ℕ) (j : ℕ) → j ≤ firstStep (runSays b) (b .steps)
-      → Obeying a (proposedAt a zs) (k + j) → Ahead (a .road) (engineAfter b j) (scheduledAt a zs (k + j))
+      → ObeysUpTo a (proposedAt a zs) (k + j) → Ahead (a .road) (engineAfter b j) (scheduledAt a zs (k + j))
   best-rest ok none zs j l obeys =
       let e = first-rest h (runSays a) (runSays b) (engineAfter a) (engineAfter b) none (says-rest h s) (engine-rest h s) in
       subst⁻¹ (λ (u : State). Ahead (a .road) u (scheduledAt a zs (k + j))) (engine-rest h s j (omega (arith, step-within (runSays b) (b .steps))))
       (engine-best a ok zs (k + j) (omega (arith, e)) obeys)
 
 -- the same for filling, whose states go on from a progress
-module _ {a b : Study} {k : ℕ} (h : Rest a b k) (laws : List Law) (m p : Metered) (e : p ≡ meteredFrom laws a m k) where
+module _ {a b : Study} {k : ℕ} (h : Rest a b k) (laws : List Law) (m p : MeterState) (e : p ≡ meteredFrom laws a m k) where
   pub longest-filled : (n j : ℕ) → n ≤ mostCells → j ≤ b .steps
       → Greater n (longestOf n (λ i. meteredFrom laws a m i .state) (k + j)) (longestOf n (λ i. meteredFrom laws a m i .state) k)
       (longestOf n (λ i. meteredFrom laws b p i .state) j)
   longest-filled = longest-states (λ i. meteredFrom laws a m i .state) (λ i. meteredFrom laws b p i .state) k (b .steps)
-      (λ j l. ap (λ (x : Metered). x .state) (metered-rest h laws m p e j l))
+      (λ j l. ap (λ (x : MeterState). x .state) (metered-rest h laws m p e j l))
 
 -- from a record's own start, going on is running, judging and filling
 module _ (bytes lanes : List ℕ) (reads : readingOf bytes .number ≡ 0) where
@@ -169,11 +170,11 @@ module _ (bytes lanes : List ℕ) (reads : readingOf bytes .number ≡ 0) where
   unfolding stateFault
   starts-fresh = rw (state-within, le-leb (readingOf bytes .state .done + readingOf bytes .steps) mostSteps few) refl
 
-  entries-fresh : entriesOk (unmetered (readingOf bytes .state)) (readingOf bytes .road .n) ≡ true
+  entries-fresh : entriesOk (meterStart (readingOf bytes .state)) (readingOf bytes .road .n) ≡ true
   unfolding entriesOk
   entries-fresh = all-true _ (readingOf bytes .road .n) (λ i l. le-leb (at zeros i) (at (readingOf bytes .state .held) i) (omega (arith, zeros-at i)))
 
-  progress-fresh : progressFault (studyOf bytes lanes) (unmetered (readingOf bytes .state)) ≡ 0
+  progress-fresh : progressFault (studyOf bytes lanes) (meterStart (readingOf bytes .state)) ≡ 0
   unfolding progressFault
   progress-fresh = rw (state-within, entries-fresh, le-leb (readingOf bytes .state .done + readingOf bytes .steps) mostSteps few) refl
 
@@ -186,12 +187,12 @@ module _ (bytes lanes : List ℕ) (reads : readingOf bytes .number ≡ 0) where
   fresh-judge zs = rw (eq-eqb (stateFault (studyOf bytes lanes)) 0 starts-fresh) refl
 
   pub fresh-fill : (laws : List Law) (list : List ℕ)
-      → fillingOn laws bytes lanes (unmetered (readingOf bytes .state)) list ≡ fillingOf laws bytes lanes list
+      → fillingOn laws bytes lanes (meterStart (readingOf bytes .state)) list ≡ fillingOf laws bytes lanes list
   unfolding fillingOn fillingOf
-  fresh-fill laws list = rw (eq-eqb (progressFault (studyOf bytes lanes) (unmetered (readingOf bytes .state))) 0 progress-fresh) refl
+  fresh-fill laws list = rw (eq-eqb (progressFault (studyOf bytes lanes) (meterStart (readingOf bytes .state))) 0 progress-fresh) refl
 
 -- filling that goes on is not refused: what entered a cell in a step is at most what the cell then holds
-module _ (laws : List Law) (a : Study) (m : Metered) (starts : a .start ≡ m .state) (ok : StudyOk a) (long : a .road .n ≤ length (m .entries)) where
+module _ (laws : List Law) (a : Study) (m : MeterState) (starts : a .start ≡ m .state) (ok : StudyOk a) (long : a .road .n ≤ length (m .entries)) where
   entries-long : (k : ℕ) → length (meteredFrom laws a m k .entries) ≡ length (m .entries)
   unfolding meteredFrom meteredOf
   entries-long zero = refl
@@ -201,7 +202,7 @@ module _ (laws : List Law) (a : Study) (m : Metered) (starts : a .start ≡ m .s
     abbrev q : Road
     q = roadAt a k
 
-    abbrev M : Metered
+    abbrev M : MeterState
     M = meteredFrom laws a m k
 
     abbrev row : List ℕ
@@ -234,25 +235,25 @@ module _ (laws : List Law) (a : Study) (m : Metered) (starts : a .start ≡ m .s
     entries-rest = all-true _ (a .road .n) (λ i l. le-leb _ _ (entry-within i l))
 
 -- so 7 and 8 never apply to a progress that filling left
-pub progress-rest : {a b : Study} {k : ℕ} → Rest a b (suc k) → StudyOk a → (laws : List Law) (m p : Metered) → a .start ≡ m .state → b .start ≡ p .state
+pub progress-rest : {a b : Study} {k : ℕ} → Rest a b (suc k) → StudyOk a → (laws : List Law) (m p : MeterState) → a .start ≡ m .state → b .start ≡ p .state
     → a .road .n ≤ length (m .entries) → p ≡ meteredFrom laws a m (suc k) → progressFault b p ≡ 0
 unfolding progressFault
 progress-rest {a} {b} {k} h ok laws m p starts s long e =
     let left : suc k ≤ a .steps = omega (arith, h .steps) in
     let r = filled-reached laws a m starts ok (suc k) left in
-    let own : p .state ≡ engineAfter (filledFrom laws a m) (suc k) = ap (λ (x : Metered). x .state) e ∙ sym (filled-run laws a m starts (suc k)) in
+    let own : p .state ≡ engineAfter (filledFrom laws a m) (suc k) = ap (λ (x : MeterState). x .state) e ∙ sym (filled-run laws a m starts (suc k)) in
     let done : b .start .done ≡ a .start .done + suc k = ap (λ (u : State). u .done) (s ∙ own) ∙ r .done in
     let state : stateOk (b .road) (p .state) ≡ true =
     ap (λ (x : Road). stateOk x (p .state)) (h .road) ∙ state-ok (a .road) (p .state) (ok .road) (subst⁻¹ (StateOk (a .road)) own (r .state)) in
     let entries : entriesOk p (b .road .n) ≡ true =
-    ap (λ (x : Road). entriesOk p (x .n)) (h .road) ∙ ap (λ (x : Metered). entriesOk x (a .road .n)) e ∙ entries-rest laws a m starts ok long k left in
+    ap (λ (x : Road). entriesOk p (x .n)) (h .road) ∙ ap (λ (x : MeterState). entriesOk x (a .road .n)) e ∙ entries-rest laws a m starts ok long k left in
     rw (state, entries, le-leb (b .start .done + b .steps) mostSteps (omega (arith, done, h .steps, ok .steps))) refl
 
 -- filling that goes on changes only the record's releases
 unchanged : (bytes : List ℕ) → OnlyReleases bytes bytes
 unchanged bytes = record { size = refl; byte = λ b o. refl; reads = refl; gate = λ t l. refl; arrivals = λ t i l. refl }
 
-module _ (laws : List Law) (bytes lanes : List ℕ) (m : Metered) (taken : Taken bytes lanes) where
+module _ (laws : List Law) (bytes lanes : List ℕ) (m : MeterState) (taken : Taken bytes lanes) where
   abbrev a : Study
   a = studyAfter bytes lanes m
 
@@ -291,7 +292,7 @@ module _ (laws : List Law) (bytes lanes : List ℕ) (m : Metered) (taken : Taken
   }
 
 -- if it is not refused, no refusal of the record or the table applies
-taken-on : (laws : List Law) (bytes lanes : List ℕ) (m : Metered) (list : List ℕ) → fillingOn laws bytes lanes m list .number ≡ 0 → Taken bytes lanes
+taken-on : (laws : List Law) (bytes lanes : List ℕ) (m : MeterState) (list : List ℕ) → fillingOn laws bytes lanes m list .number ≡ 0 → Taken bytes lanes
 unfolding fillingOn
 taken-on laws bytes lanes m list =
     let a = studyAfter bytes lanes m in
@@ -301,7 +302,7 @@ taken-on laws bytes lanes m list =
     unless-elim P (eqb (lanesFault a .number) 0) (λ f z. absurd (eqb-false (lanesFault a .number) 0 f z)) (λ o _.
     record { reads = eqb-true (readingOf bytes .number) 0 r; opens = eqb-true (lanesFault a .number) 0 o })))
 
-pub only-releases-on : (laws : List Law) (bytes lanes : List ℕ) (m : Metered) (list : List ℕ) → OnlyReleases bytes (recordOn laws bytes lanes m list)
+pub only-releases-on : (laws : List Law) (bytes lanes : List ℕ) (m : MeterState) (list : List ℕ) → OnlyReleases bytes (recordOn laws bytes lanes m list)
 unfolding recordOn
 only-releases-on laws bytes lanes m list =
     unless-elim (OnlyReleases bytes) (eqb (fillingOn laws bytes lanes m list .number) 0) (λ _. unchanged bytes)

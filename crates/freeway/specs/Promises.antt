@@ -31,19 +31,19 @@ use Rattle.meter.specs.MeterLaws as meters
 use Rattle.model.specs.declared.Law.{Law}
 use Rattle.model.specs.Move.{presentOf, exitsOf, nextOf}
 use Rattle.theory.specs.Conservation.{arrivalsOf}
-use Rattle.model.specs.Schedules.{Study, Released, outflowsOf, scheduleAfter, engineAfter, Obeying, proposedAt, scheduledAt}
+use Rattle.model.specs.Schedules.{Study, ReleasesFit, outflowsOf, scheduleAfter, engineAfter, ObeysUpTo, proposedAt, scheduledAt}
 use Rattle.theory.specs.RulesLaws.{Sized}
-use Rattle.theory.specs.RunsLaws.{Fitting, StudyOk}
+use Rattle.theory.specs.RunsLaws.{ReleasesFitUpTo, StudyOk}
 use Rattle.theory.specs.BetterRoad.{Improved}
 use Rattle.theory.specs.Conservation as conservation
 use Rattle.theory.specs.Edges as edges
 use Rattle.model.specs.Reading.{cellsOf, readingOf, readingWithin, refusedOf, acceptedOf, studyOf}
 use Rattle.reading.specs.Versions.{firstReadingOf}
-use Rattle.reading.specs.Cases.{Accepted}
+use Rattle.reading.specs.Cases.{AcceptedRecord}
 use Rattle.reading.specs.Within as within
 use Rattle.reading.specs.Versions as versions
 use Rattle.reading.specs.Caller as callers
-use Rattle.model.specs.Put.{puttingOf, releasedRecord, Ramp, Stands, PutEnds, PutRequest}
+use Rattle.model.specs.Put.{puttingOf, releasedRecord, Ramp, ReleasePut, PutEnds, PutRequest}
 use Rattle.put.specs.Theorems as puts
 use Rattle.model.specs.Writing.{writingOf, targetAfter}
 use Rattle.writing.specs.Theorems as saving
@@ -69,7 +69,7 @@ use Rattle.theory.specs.AnyShares.{Most}
 use Rattle.theory.specs.NearRuns.{Deciding}
 use Rattle.theory.specs.Rounding as rounds
 use Rattle.theory.specs.Totals as totals
-use Rattle.model.specs.Ramps.{Metered}
+use Rattle.model.specs.Filling.{MeterState}
 use Rattle.model.specs.Filling.{meteredFrom, fillingOf, recordAfter, filledList, OnlyReleases}
 use Rattle.filling.specs.Theorems as filling
 use Rattle.freeway.specs.Answers as answers
@@ -95,7 +95,7 @@ pub outflow-allowed : (b F room d : ℕ) → (outflowOf b F room d ≤ d) × (en
 outflow-allowed b F room d = (flow.outflow-le b F room d, flow.outflow-fits b F room d)
 
 -- a step loses nobody: present, exits and the step's arrivals before it are present and exits after it. For whole tables: `conserved` of `accounts`
-pub conserved : (r : Road) (s : State) (row : List ℕ) → RoadOk r → Sized r s → Released r s row
+pub conserved : (r : Road) (s : State) (row : List ℕ) → RoadOk r → Sized r s → ReleasesFit r s row
     → presentOf r s + exitsOf r s + arrivalsOf r row
     ≡ presentOf r (nextOf r s row (outflowsOf r s row)) + exitsOf r (nextOf r s row (outflowsOf r s row))
 conserved = conservation.engine-conserved
@@ -105,32 +105,32 @@ pub starred : edges.StarredEdges
 starred = edges.starred-edges
 
 -- 01, reading. A record that reads is within every limit
-pub read-within : (s : List ℕ) → readingOf s .number ≡ 0 → Accepted s (readingOf s .steps) (readingOf s .road) (readingOf s .state)
+pub read-within : (s : List ℕ) → readingOf s .number ≡ 0 → AcceptedRecord s (readingOf s .steps) (readingOf s .road) (readingOf s .state)
 read-within s h = within.read-within s (readingOf s) refl h
 
 -- 'the rounding decides where they say nothing': how far F is from that of the same study counted K times finer. After every step that both reach
 -- the difference is at most 2 k parts, divided by the part of the traffic that reaches the end; less if all that leaves a cell goes on
 pub rounding : (bytes lanes : List ℕ) → Taken bytes lanes → (K : ℕ) → 0 < K → rounds.Within lanes K → (k : ℕ)
-    → Fitting (studyOf bytes lanes) k → Fitting (scaled K (studyOf bytes lanes)) k
+    → ReleasesFitUpTo (studyOf bytes lanes) k → ReleasesFitUpTo (scaled K (studyOf bytes lanes)) k
     → rounds.Near K k (studyOf bytes lanes .road) (engineAfter (studyOf bytes lanes) k) (engineAfter (scaled K (studyOf bytes lanes)) k)
 rounding bytes lanes taken K some within k own fine = rounds.rounding (rounds.countable bytes lanes taken K some within) k own fine
 
 pub rounding-whole : (bytes lanes : List ℕ) → Taken bytes lanes → (K : ℕ) → 0 < K → rounds.Within lanes K → (k : ℕ)
-    → Fitting (studyOf bytes lanes) k → AllOn (studyOf bytes lanes .road) → Fitting (scaled K (studyOf bytes lanes)) k
+    → ReleasesFitUpTo (studyOf bytes lanes) k → AllOn (studyOf bytes lanes .road) → ReleasesFitUpTo (scaled K (studyOf bytes lanes)) k
     → rounds.NearWhole K k (studyOf bytes lanes .road) (engineAfter (studyOf bytes lanes) k) (engineAfter (scaled K (studyOf bytes lanes)) k)
 rounding-whole bytes lanes taken K some within k own on fine =
     rounds.rounding-whole (rounds.countable bytes lanes taken K some within) k own on fine
 
 -- present and the total, if some of what leaves each cell goes on
 pub rounding-total : (bytes lanes : List ℕ) → Taken bytes lanes → (K : ℕ) → 0 < K → rounds.Within lanes K → totals.SomeOn (studyOf bytes lanes .road)
-    → (k : ℕ) → Fitting (studyOf bytes lanes) k → Fitting (scaled K (studyOf bytes lanes)) k
+    → (k : ℕ) → ReleasesFitUpTo (studyOf bytes lanes) k → ReleasesFitUpTo (scaled K (studyOf bytes lanes)) k
     → totals.NearTotal K k (studyOf bytes lanes .road) (engineAfter (studyOf bytes lanes) k) (engineAfter (scaled K (studyOf bytes lanes)) k)
 rounding-total bytes lanes taken K some within on k own fine =
     totals.rounding-total (rounds.countable bytes lanes taken K some within) on k own fine
 
 -- the same bound for every schedule of the finer study in which demand or room decides, as in the papers' rules
 pub rounding-papers : (bytes lanes : List ℕ) → Taken bytes lanes → (K : ℕ) → 0 < K → rounds.Within lanes K → (k : ℕ)
-    → Fitting (studyOf bytes lanes) k → (zs : ℕ → List ℕ) → Obeying (scaled K (studyOf bytes lanes)) zs k
+    → ReleasesFitUpTo (studyOf bytes lanes) k → (zs : ℕ → List ℕ) → ObeysUpTo (scaled K (studyOf bytes lanes)) zs k
     → Deciding (scaled K (studyOf bytes lanes)) zs k
     → rounds.Near K k (studyOf bytes lanes .road) (engineAfter (studyOf bytes lanes) k) (scheduleAfter (scaled K (studyOf bytes lanes)) zs k)
 rounding-papers bytes lanes taken K some within k own zs fine decide =
@@ -138,13 +138,13 @@ rounding-papers bytes lanes taken K some within k own zs fine decide =
 
 -- demand 3 within that bound: no schedule of the finer study is further ahead
 pub rounding-schedules : (bytes lanes : List ℕ) → Taken bytes lanes → (K : ℕ) → 0 < K → rounds.Within lanes K → (k : ℕ)
-    → Fitting (studyOf bytes lanes) k → (zs : List ℕ) → Reaches (scaled K (studyOf bytes lanes)) zs k
+    → ReleasesFitUpTo (studyOf bytes lanes) k → (zs : List ℕ) → Reaches (scaled K (studyOf bytes lanes)) zs k
     → Most K (2 * k * K) (studyOf bytes lanes .road) (engineAfter (studyOf bytes lanes) k) (scheduledAt (scaled K (studyOf bytes lanes)) zs k)
 rounding-schedules bytes lanes taken K some within k own zs reaches =
     rounds.finer-schedules (rounds.countable bytes lanes taken K some within) k own zs reaches
 
 pub rounding-schedules-total : (bytes lanes : List ℕ) → Taken bytes lanes → (K : ℕ) → 0 < K → rounds.Within lanes K
-    → totals.SomeOn (studyOf bytes lanes .road) → (k : ℕ) → Fitting (studyOf bytes lanes) k
+    → totals.SomeOn (studyOf bytes lanes .road) → (k : ℕ) → ReleasesFitUpTo (studyOf bytes lanes) k
     → (zs : List ℕ) → Reaches (scaled K (studyOf bytes lanes)) zs k
     → totals.SoonerOn K k (studyOf bytes lanes .road) (engineAfter (studyOf bytes lanes) k) (scheduledAt (scaled K (studyOf bytes lanes)) zs k)
 rounding-schedules-total bytes lanes taken K some within on k own zs reaches =
@@ -165,7 +165,7 @@ demand-three = whole.promised
 
 -- request 1. A written record reads back as given; bytes beyond it are unchanged
 pub written-back : (road : Road) (T : ℕ) (start : Start) (rows target : List ℕ) → writingOf road T start rows target .number ≡ 0
-    → saving.Saved road T start rows target
+    → saving.SavedRecord road T start rows target
 written-back = saving.saved
 
 -- a record that was read and is written again has the same bytes, with its rows taken into any list that has room for them
@@ -258,14 +258,14 @@ pub joined : (up down : List ℕ) (share : ℕ) (target : List ℕ) → joiningO
 joined = joins.joined-reads
 
 -- 'the second gate is dropped, and all else stands as it was', place by place
-pub joined-stands : (up down : List ℕ) (share : ℕ) (target : List ℕ) → joiningOf up down share target .number ≡ 0
-    → joins.Stands share (readingOf up) (readingOf down) (readingOf (joins.joinedBytes up down share target))
-joined-stands = joins.joined-stands
+pub joined-reading : (up down : List ℕ) (share : ℕ) (target : List ℕ) → joiningOf up down share target .number ≡ 0
+    → joins.JoinedReading share (readingOf up) (readingOf down) (readingOf (joins.joinedBytes up down share target))
+joined-reading = joins.joined-reading
 
 -- rows joined step by step
 pub joined-row : (up down : List ℕ) (share : ℕ) (target : List ℕ) → joiningOf up down share target .number ≡ 0 → (t : ℕ) → t < readingOf up .steps
-    → joins.RowStands up down (joins.joinedBytes up down share target) t
-joined-row = joins.joined-row-stands
+    → joins.RowJoined up down (joins.joinedBytes up down share target) t
+joined-row = joins.joined-row-numbers
 
 -- the refusals of joining, each with everything before it; no refusal changes the target
 pub joined-ends : (up down : List ℕ) (share : ℕ) (target : List ℕ)
@@ -356,7 +356,7 @@ granted-put = putting.granted-put
 
 -- putting a release into a record changes nothing else in it
 pub put : (bytes : List ℕ) (step cell release : ℕ) → puttingOf bytes step cell release .number ≡ 0
-    → PutRequest bytes step cell release × Stands bytes (releasedRecord bytes step cell release) step cell release
+    → PutRequest bytes step cell release × ReleasePut bytes (releasedRecord bytes step cell release) step cell release
 put = puts.puts
 
 -- each refusal with everything before it, and the record that it leaves
@@ -367,7 +367,7 @@ put-ends = puts.ends
 -- a run that makes that step has checked the release against queue and supply
 pub put-checked : (bytes lanes : List ℕ) → Taken bytes lanes → (step cell release : ℕ) → puttingOf bytes step cell release .number ≡ 0 → (list : List ℕ)
     → step < stepsMade (studyOf (releasedRecord bytes step cell release) lanes) (runningOf (releasedRecord bytes step cell release) lanes list)
-    → (i : ℕ) → i + 1 ≡ cell → putting.Checked (studyOf (releasedRecord bytes step cell release) lanes)
+    → (i : ℕ) → i + 1 ≡ cell → putting.ReleaseChecked (studyOf (releasedRecord bytes step cell release) lanes)
     (listAfter (releasedRecord bytes step cell release) lanes list) step release i
 put-checked = putting.put-checked
 
@@ -424,11 +424,11 @@ pub stretch-ends : {a b : Study} {k : ℕ} → onward.Rest a b k → b .start �
 stretch-ends h s none = onward.run-rest h s none
 
 pub stretch-best : {a b : Study} {k : ℕ} → onward.Rest a b k → b .start ≡ engineAfter a k → StudyOk a → ((j : ℕ) → j < k → runSays a j .number ≡ 0)
-    → (zs : List ℕ) (j : ℕ) → j ≤ firstStep (runSays b) (b .steps) → Obeying a (proposedAt a zs) (k + j)
+    → (zs : List ℕ) (j : ℕ) → j ≤ firstStep (runSays b) (b .steps) → ObeysUpTo a (proposedAt a zs) (k + j)
     → Ahead (a .road) (engineAfter b j) (scheduledAt a zs (k + j))
 stretch-best h s ok none zs j l obeys = stretches.best-rest h s ok none zs j l obeys
 
 -- filling's wishes are computed from the same numbers in the rest as in the whole
-pub stretch-filled : {a b : Study} {k : ℕ} → onward.Rest a b k → (laws : List Law) (m p : Metered) → p ≡ meteredFrom laws a m k
+pub stretch-filled : {a b : Study} {k : ℕ} → onward.Rest a b k → (laws : List Law) (m p : MeterState) → p ≡ meteredFrom laws a m k
     → (j : ℕ) → j ≤ b .steps → meteredFrom laws b p j ≡ meteredFrom laws a m (k + j)
 stretch-filled = onward.metered-rest

@@ -15,13 +15,13 @@ use Rattle.model.specs.Road.{mostRate}
 use Rattle.model.specs.Refusals.{FaultAnswer, fault}
 use Rattle.model.specs.Schedules.{Study, scheduleAfter}
 use Rattle.model.specs.Wanted.{TableObeys, wantedOf, tableAfter}
-use Rattle.wanted.specs.Theorems.{found-least, found-asked}
-use Rattle.model.specs.Places.{arrivalsAt, releaseAt}
+use Rattle.wanted.specs.Theorems.{found-least, found-request}
+use Rattle.model.specs.Flow.{arrivalsAt, releaseAt}
 use Rattle.model.specs.Record.{numberSize, versionOf, entryStart, recordRow}
 use Rattle.fields.specs.FieldsLaws.{length-row}
 use Rattle.model.specs.Reading.{ReadAnswer, readingOf, studyBy, studyOf}
-use Rattle.model.specs.Filling.{Outside}
-use Rattle.model.specs.Put.{puttingOf, releasedRecord, Ramp, Stands}
+use Rattle.model.specs.Put.{Outside}
+use Rattle.model.specs.Put.{puttingOf, releasedRecord, Ramp, ReleasePut}
 use Rattle.put.specs.Theorems.{puts, put-if}
 use Rattle.model.specs.Running.{runningOf}
 use Rattle.model.specs.Demand.{Taken}
@@ -59,7 +59,7 @@ module _ (bytes : List ℕ) (cell : ℕ) (table : List ℕ) (reads : readingOf b
         before = subst⁻¹ (λ (x : ReadAnswer). k < x .steps) same l;
         rate = rates k l;
       }) in
-      let s : Stands u (releasedRecord u k cell (at table k)) k cell (at table k) =
+      let s : ReleasePut u (releasedRecord u k cell (at table k)) k cell (at table k) =
       puts u k cell (at table k) (ap (λ (q : FaultAnswer). q .number) ok) .1 in
       let put = rw same at (s .put) in
       record {
@@ -162,7 +162,7 @@ module _ (bytes lanes : List ℕ) (taken : Taken bytes lanes) (i : ℕ)
     rates : (t : ℕ) → t < readingOf bytes .steps
         → at (tableAfter (at (readingOf bytes .state .queue) i) ceiling rate (rampArrivals bytes i) lent) t ≤ mostRate
     rates t l =
-        omega (arith, obeys .slow t (omega (arith, arrivals-length)), found-asked start ceiling rate arrivals lent found .limits .rates)
+        omega (arith, obeys .slow t (omega (arith, arrivals-length)), found-request start ceiling rate arrivals lent found .limits .rates)
 
     pub found-kept : QueueKept bytes lanes i ceiling
         (tableAfter (at (readingOf bytes .state .queue) i) ceiling rate (rampArrivals bytes i) lent)

@@ -13,7 +13,7 @@ use Rattle.model.specs.Refusals.{fault, FaultAnswer}
 use Rattle.model.specs.Numbers.{at, unless, firstFault}
 use Rattle.numbers.specs.Tests.{order}
 use Rattle.model.specs.Schedules.{Study, roadAt, tableSize, scheduleAfter, engineAfter, outflowsAt}
-use Rattle.model.specs.Places.{arrivalsAt, releaseAt, mostReleaseAt, supplyAt}
+use Rattle.model.specs.Flow.{arrivalsAt, releaseAt, mostReleaseAt, supplyAt}
 use Rattle.theory.specs.MoveLaws.{next-queue}
 use Rattle.theory.specs.RulesLaws.{Sized}
 use Rattle.model.specs.Stepping.{lowestOf, releaseFault, releaseFaultAt}

@@ -5,9 +5,9 @@ use Prim.Native.Nat.{ℕ, _<_}
 use Rattle.model.specs.declared.Road.{Road}
 use Rattle.model.specs.declared.Start.{Start}
 use Rattle.model.specs.Reading.{ReadAnswer, studyOf}
-use Rattle.theory.specs.VersionUnread.{stamped, Restamped}
+use Rattle.theory.specs.VersionUnread.{stamped, OtherVersion}
 use Rattle.model.specs.Writing.{writingOf}
-use Rattle.writing.specs.Theorems.{Saved, savedOf, saved, saved-rows}
+use Rattle.writing.specs.Theorems.{SavedRecord, savedOf, saved, saved-rows}
 use Rattle.model.specs.Running.{runningOf, listAfter}
 use Rattle.model.specs.Judging.{judgingOf}
 use Rattle.model.specs.Demand.{Taken}
@@ -22,14 +22,14 @@ module _ (road : Road) (version seconds T : ℕ) (start : Start) (rows target ot
   abbrev t : List ℕ
   t = savedOf (stamped version seconds road) T start rows other
 
-  keptS : Saved road T start rows target
+  keptS : SavedRecord road T start rows target
   keptS = saved road T start rows target first
 
-  keptT : Saved (stamped version seconds road) T start rows other
+  keptT : SavedRecord (stamped version seconds road) T start rows other
   keptT = saved (stamped version seconds road) T start rows other second
 
   -- the records differ only in version and seconds
-  pub written-restamped : Restamped (studyOf (savedOf road T start rows target) lanes) (studyOf (savedOf (stamped version seconds road) T start rows other) lanes)
+  pub written-restamped : OtherVersion (studyOf (savedOf road T start rows target) lanes) (studyOf (savedOf (stamped version seconds road) T start rows other) lanes)
   written-restamped = record {
     road = rw (keptS .back .reads, keptT .back .reads) refl;
     start = rw (keptS .back .reads, keptT .back .reads) refl;

@@ -34,10 +34,10 @@ ghost use Rattle.model.specs.Demand.{Taken, Promised, WeightedDemand, AcceptsEx
 ghost use Rattle.model.specs.Longest.{longestQueues, longestRun, longestFill};
 ghost use Rattle.model.specs.Many.{manyFault, runAnswers, runLists, runRecord, fillAnswers, fillLists, fillRecord};
 ghost use Rattle.model.specs.Judging.{judgingOf};
-ghost use Rattle.model.specs.History.{historyOf, heldAfter, queueAfter};
+ghost use Rattle.model.specs.Judging.{historyOf, heldAfter, queueAfter};
 ghost use Rattle.model.specs.GoingOn.{runningOn, listOn, weightedTotalOn, longestOn, judgingOn, historyOn, heldOn, queueOn};
 ghost use Rattle.model.specs.GoingOn.{progressed, fillingOn, recordOn, filledListOn, longestFillOn, progressOn};
-ghost use Rattle.model.specs.Ramps.{metered};
+ghost use Rattle.model.specs.Filling.{meterState};
 ghost use Rattle.model.specs.Writing.{writeAnswer, writingOf, targetAfter, ReadsBack};
 ghost use Rattle.model.specs.RowNumbers.{rowArray, takenCount, takenList};
 ghost use Rattle.model.specs.Joining.{joiningOf, joinedTarget, ReadsJoined};
@@ -369,7 +369,7 @@ pub fn fill_on(
     ensures bytes { λ e. ⌜ now (bytes .exit) ≡ recordOn laws (now (bytes .entry)) (now (table .entry)) (progressed from) (now (out .entry)) ⌝ }
     ensures list { λ e. ⌜ now (out .exit) ≡ filledListOn laws (now (bytes .entry)) (now (table .entry)) (progressed from) (now (out .entry)) ⌝ }
     ensures longest { λ e. ⌜ longestQueues (e .longest) ≡ longestFillOn laws (now (bytes .entry)) (now (table .entry)) (progressed from) (now (out .entry)) ⌝ }
-    ensures progress { λ e. ⌜ metered (e .longest .ended .state) (e .releases) (e .entries)
+    ensures progress { λ e. ⌜ meterState (e .longest .ended .state) (e .releases) (e .entries)
         ≡ progressOn laws (now (bytes .entry)) (now (table .entry)) (progressed from) (now (out .entry)) ⌝ }
 {
     filling::fill_on(bytes, laws, table, from, out)

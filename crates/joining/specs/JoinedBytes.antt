@@ -21,7 +21,7 @@ use Rattle.fields.specs.HeaderLaws.{Counts}
 use Rattle.reading.specs.Headers.{Steps}
 use Rattle.model.specs.Encoding.{numbersOf, headerBytes, cellBytes, rowBytes, recordOf}
 use Rattle.encoding.specs.Encoding as encoding
-use Rattle.encoding.specs.Encoding.{Putting, putting-none, putting-more, putting-end, putting-fits, length-cell, header-ends, cells-end, record-puts}
+use Rattle.encoding.specs.Encoding.{PuttingLists, putting-none, putting-more, putting-end, putting-fits, length-cell, header-ends, cells-end, record-puts}
 use Rattle.model.specs.Joining.{joinedShare, joinedRoad, joinedStart, joinedRow, joinedStudy}
 use Rattle.joining.specs.JoinedColumns.{column-joined, shares-joined, row-joined}
 
@@ -147,22 +147,22 @@ abbrev pub joinedRows : List ℕ → ℕ → List ℕ → ℕ → ℕ → List �
 joinedRows up n down m t = joinedRow (recordRow up n t) (recordRow down m t)
 
 -- the loop over the steps: the joined rows of the first t are put
-pub record JoinedRowing (before : List ℕ) (start : ℕ) (up : List ℕ) (n : ℕ) (down : List ℕ) (m T t : ℕ) (after : List ℕ) (end : ℕ) : Type 0 where
+pub record JoinedRowsSoFar (before : List ℕ) (start : ℕ) (up : List ℕ) (n : ℕ) (down : List ℕ) (m T t : ℕ) (after : List ℕ) (end : ℕ) : Type 0 where
   pub within : t ≤ T
-  pub put : Putting before start (rowBytes (n + m) (joinedRows up n down m)) (rowSize (n + m)) t after end
+  pub put : PuttingLists before start (rowBytes (n + m) (joinedRows up n down m)) (rowSize (n + m)) t after end
 
 module _ {before : List ℕ} {start : ℕ} {up : List ℕ} {n : ℕ} {down : List ℕ} {m T : ℕ} where
-  pub rowing-none : JoinedRowing before start up n down m T 0 before start
+  pub rowing-none : JoinedRowsSoFar before start up n down m T 0 before start
   rowing-none = record { within = omega arith; put = putting-none before start _ (rowSize (n + m)) }
 
-  module _ {t : ℕ} {after : List ℕ} {end : ℕ} (h : JoinedRowing before start up n down m T t after end) where
+  module _ {t : ℕ} {after : List ℕ} {end : ℕ} (h : JoinedRowsSoFar before start up n down m T t after end) where
     pub rowing-room : (row next : List ℕ) → t < T → start + T * rowSize (n + m) ≤ length before → length row ≡ rowNumbers n → length next ≡ rowNumbers m
         → end + length (joinedRow row next) * numberSize ≤ length after
     rowing-room row next l r e k =
         omega (arith, row-joined n m row next e k .numbers, putting-fits before start _ (rowSize (n + m)) t T (h .put) l r)
 
     pub rowing-more : {row next more : List ℕ} {to : ℕ} → t < T → row ≡ recordRow up n t → next ≡ recordRow down m t
-        → Puts after end (numbersOf (joinedRow row next) (length (joinedRow row next))) more to → JoinedRowing before start up n down m T (t + 1) more to
+        → Puts after end (numbersOf (joinedRow row next) (length (joinedRow row next))) more to → JoinedRowsSoFar before start up n down m T (t + 1) more to
     rowing-more {row} {next} {more} {to} l e k p =
         let size = row-joined n m (recordRow up n t) (recordRow down m t) (length-row up n t) (length-row down m t) .numbers in
         let q : Puts after end (rowBytes (n + m) (joinedRows up n down m) t) more to = rw (e, k, size) at p in
@@ -175,7 +175,7 @@ module _ {before : List ℕ} {start : ℕ} {up : List ℕ} {n : ℕ} {down : Lis
     rowing-end l = putting-end before start _ (rowSize (n + m)) t T (omega (arith, h .within)) (h .put)
 
 -- what putting the joined record requires
-pub record Joins (up : List ℕ) (road : Road) (T : ℕ) (down : List ℕ) (next : Road) (target : List ℕ) : Type 0 where
+pub record JoinNeeds (up : List ℕ) (road : Road) (T : ℕ) (down : List ℕ) (next : Road) (target : List ℕ) : Type 0 where
   pub some : 1 ≤ road .n
   pub counts : Counts (road .n + next .n) T
   pub upstream : Steps up (road .n) T
@@ -191,7 +191,7 @@ cells-there r s n b p c u h = (
 )
 
 -- the parts of the joined record, one after the other: the header, the cells of both roads and the rows
-module _ (a b : Study) (share : ℕ) {up down target : List ℕ} (j : Joins up (a .road) (a .steps) down (b .road) target) where
+module _ (a b : Study) (share : ℕ) {up down target : List ℕ} (j : JoinNeeds up (a .road) (a .steps) down (b .road) target) where
   abbrev joint : Study
   joint = joinedStudy a b share
 

@@ -30,7 +30,7 @@ use Rattle.writing.specs.ReadBack.{Recordable, reads-back, rows-read}
 use Rattle.writing.specs.ReadStudy.{read-recordable, read-kept}
 use Rattle.model.specs.Joining.{joiningOf, joinedTarget}
 use Rattle.joining.specs.JoinedColumns.{Joined, JoinedShares, JoinedNumbers, cut-own}
-use Rattle.joining.specs.Theorems.{Stands}
+use Rattle.joining.specs.Theorems.{JoinedReading}
 use Rattle.joining.specs.JoinedParts.{Parts, parts-answer, parts-joined}
 
 -- the m entries of a column from cell k on, and 0 past them
@@ -327,7 +327,7 @@ module _ (s : List ℕ) (reads : readingOf s .number ≡ 0) (k : ℕ) (some : 1 
     past = λ i b. numbers .share .past i (omega (arith, less));
   }
 
-  stands : Stands (at (readingOf s .road .share) (k - 1)) upperRead lowerRead (readingOf s)
+  stands : JoinedReading (at (readingOf s .road .share) (k - 1)) upperRead lowerRead (readingOf s)
   stands = record {
     cells = omega (arith, less);
     steps = (refl, refl);
@@ -374,8 +374,8 @@ module _ (s : List ℕ) (reads : readingOf s .number ≡ 0) (k : ℕ) (some : 1 
     reads = reads;
     both = record { upper = ap (λ (x : ReadAnswer). x .number) upper-reads; lower = ap (λ (x : ReadAnswer). x .number) lower-reads };
     stands =
-        subst (λ (x : ReadAnswer). Stands (at (r .share) (k - 1)) x (readingOf down) z) (sym upper-reads)
-        (subst (λ (y : ReadAnswer). Stands (at (r .share) (k - 1)) upperRead y z) (sym lower-reads) stands);
+        subst (λ (x : ReadAnswer). JoinedReading (at (r .share) (k - 1)) x (readingOf down) z) (sym upper-reads)
+        (subst (λ (y : ReadAnswer). JoinedReading (at (r .share) (k - 1)) upperRead y z) (sym lower-reads) stands);
     row = λ t l.
         subst (λ (x : List ℕ). JoinedNumbers (readingOf up .road .n) (readingOf down .road .n) x (recordRow down (readingOf down .road .n) t) (recordRow s (r .n) t))
         (sym (upper-taken t l))

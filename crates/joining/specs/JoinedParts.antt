@@ -19,7 +19,7 @@ use Rattle.model.specs.Record.{rowNumbers, recordRow}
 use Rattle.fields.specs.FieldsLaws.{length-row}
 use Rattle.model.specs.Reading.{sizeOf, ReadAnswer, readingOf, studyOf}
 use Rattle.reading.specs.Numbers.{Numbers, read-numbers}
-use Rattle.reading.specs.Cases.{Accepted}
+use Rattle.reading.specs.Cases.{AcceptedRecord}
 use Rattle.reading.specs.Within.{read-within}
 use Rattle.model.specs.Encoding.{recordSize, recordOf}
 use Rattle.model.specs.Writing.{WriteAnswer, written}
@@ -28,7 +28,7 @@ use Rattle.writing.specs.WrittenAgain.{same-bytes}
 use Rattle.model.specs.Joining.{joinedEntry, joinedColumn, joinedShare, joinedRoad, joinedStart, joinedRow, joinedOf, joiningOf, joinedTarget}
 use Rattle.joining.specs.JoinedColumns.{halves, Joined, JoinedShares, JoinedNumbers, column-joined, shares-joined, row-joined}
 use Rattle.joining.specs.JoinedTests.{Idle}
-use Rattle.joining.specs.Theorems.{Both, Asked, Stands, RowStands, joins-if, joined-bytes}
+use Rattle.joining.specs.Theorems.{Both, JoinRequest, JoinedReading, RowJoined, joins-if, joined-bytes}
 
 -- the joined columns, shares and rows are those of the record
 module _ (n m : ℕ) {l r : List ℕ} (long : length l ≡ length r) where
@@ -95,8 +95,8 @@ same-road r n v s g speed wave share ramp jam capacity = rw (n, v, s, g, speed, 
 pub record Parts (s up down : List ℕ) (share : ℕ) : Type 0 where
   pub reads : readingOf s .number ≡ 0
   pub both : Both up down
-  pub stands : Stands share (readingOf up) (readingOf down) (readingOf s)
-  pub row : (t : ℕ) → t < readingOf s .steps → RowStands up down s t
+  pub stands : JoinedReading share (readingOf up) (readingOf down) (readingOf s)
+  pub row : (t : ℕ) → t < readingOf s .steps → RowJoined up down s t
   pub idle : Idle (studyOf down [])
 
 module _ (s up down : List ℕ) (share : ℕ) (small : (i : ℕ) → at s i < 256) (p : Parts s up down share) where
@@ -118,7 +118,7 @@ module _ (s up down : List ℕ) (share : ℕ) (small : (i : ℕ) → at s i < 25
   numbers : Numbers s (readingOf s .steps) (readingOf s .road) (readingOf s .state)
   numbers = read-numbers s (readingOf s) refl (p .reads)
 
-  accepted : Accepted s (readingOf s .steps) (readingOf s .road) (readingOf s .state)
+  accepted : AcceptedRecord s (readingOf s .steps) (readingOf s .road) (readingOf s .state)
   accepted = read-within s (readingOf s) refl (p .reads)
 
   most : readingOf up .road .n + readingOf down .road .n ≤ mostCells
@@ -182,8 +182,8 @@ module _ (s up down : List ℕ) (share : ℕ) (small : (i : ℕ) → at s i < 25
 
   -- joining isn't refused if the record has room, and counts its bytes
   module _ (target : List ℕ) (room : length s ≤ length target) where
-    asked : Asked up down share target
-    asked =
+    request : JoinRequest up down share target
+    request =
         let k = p .stands in
         let first = read-within up (readingOf up) refl (p .both .upper) .road .some in
         let i : n - 1 + 1 ≡ n = omega (arith, first) in
@@ -201,7 +201,7 @@ module _ (s up down : List ℕ) (share : ℕ) (small : (i : ℕ) → at s i < 25
         }
 
     pub parts-answer : joiningOf up down share target ≡ written (length s)
-    parts-answer = joins-if up down share target asked ∙ ap written size
+    parts-answer = joins-if up down share target request ∙ ap written size
 
     -- the target then begins with exactly these bytes
     pub parts-joined : take (length s) (joinedTarget up down share target) ≡ s

@@ -21,11 +21,11 @@ use Rattle.model.specs.Reading.{sizeOf, ReadAnswer, readingOf, studyBy}
 use Rattle.reading.specs.Within.{read-within}
 use Rattle.reading.specs.Headers.{Steps}
 use Rattle.model.specs.Encoding.{recordSize, recordOf}
-use Rattle.encoding.specs.Encoding.{length-record, record-stands}
+use Rattle.encoding.specs.Encoding.{length-record, record-in-target}
 use Rattle.model.specs.Writing.{WriteAnswer, unwritten, written}
 use Rattle.model.specs.Joining.{joinedStudy, alike, gateIdle, joinedFits, joiningBy, joiningOf, joinedTarget, ReadsJoined}
 use Rattle.joining.specs.Theorems.{joins-only, reads-as-joined}
-use Rattle.joining.specs.JoinedBytes.{Joins}
+use Rattle.joining.specs.JoinedBytes.{JoinNeeds}
 
 -- 21 in the bytes: the gate has no arrival in step t; it has no queue, and no arrival in any step
 abbrev pub noArrival : List ℕ → ℕ → ℕ → Bool
@@ -93,11 +93,11 @@ module _ (a b : Study) (share room : ℕ) where
           answer-written l = rw (le-leb share whole h, k, g, f, le-leb (recordSize joined) room l)
 
 -- joining's answer, and the target that it leaves; without a refusal the target reads as the joined road
-pub record Left (up down : List ℕ) (share : ℕ) (target : List ℕ) (a : WriteAnswer) (left : List ℕ) : Type 0 where
+pub record JoinOutcome (up down : List ℕ) (share : ℕ) (target : List ℕ) (a : WriteAnswer) (left : List ℕ) : Type 0 where
   pub says : a ≡ joiningOf up down share target
   pub leaves : left ≡ joinedTarget up down share target
 
-pub promise : {up down : List ℕ} {share : ℕ} {target : List ℕ} {a b : WriteAnswer} {left : List ℕ} → Left up down share target a left → b ≡ a
+pub promise : {up down : List ℕ} {share : ℕ} {target : List ℕ} {a b : WriteAnswer} {left : List ℕ} → JoinOutcome up down share target a left → b ≡ a
     → (b ≡ joiningOf up down share target)
     × ((left ≡ joinedTarget up down share target) × (b .number ≡ 0 → ReadsJoined up down share (b .count) left))
 promise {up} {down} {share} {target} h e =
@@ -106,17 +106,17 @@ promise {up} {down} {share} {target} h e =
 
 -- each case of the answer
 module _ (up down : List ℕ) (share : ℕ) (target : List ℕ) where
-  left-refused : (a : WriteAnswer) → (a .number ≡ 0 → ⊥) → a ≡ joiningOf up down share target → Left up down share target a target
+  left-refused : (a : WriteAnswer) → (a .number ≡ 0 → ⊥) → a ≡ joiningOf up down share target → JoinOutcome up down share target a target
   unfolding joinedTarget
   left-refused a n e = record { says = e; leaves = rw (← e, ne-eqb (a .number) 0 n) }
 
   module _ {x : ReadAnswer} (e : x ≡ readingOf up) where
-    pub ends-upstream : (x .number ≡ 0 → ⊥) → Left up down share target (unwritten (x .number) (x .place)) target
+    pub ends-upstream : (x .number ≡ 0 → ⊥) → JoinOutcome up down share target (unwritten (x .number) (x .place)) target
     unfolding joiningOf
     ends-upstream n = left-refused (unwritten (x .number) (x .place)) n (rw (← e, ne-eqb (x .number) 0 n))
 
     module _ (z : x .number ≡ 0) {y : ReadAnswer} (f : y ≡ readingOf down) where
-      pub ends-downstream : (y .number ≡ 0 → ⊥) → Left up down share target (unwritten (y .number) (y .place)) target
+      pub ends-downstream : (y .number ≡ 0 → ⊥) → JoinOutcome up down share target (unwritten (y .number) (y .place)) target
       unfolding joiningOf
       ends-downstream n =
           left-refused (unwritten (y .number) (y .place)) n (rw (← e, ← f, eq-eqb (x .number) 0 z, ne-eqb (y .number) 0 n))
@@ -133,7 +133,7 @@ module _ (up down : List ℕ) (share : ℕ) (target : List ℕ) where
         by-studies = rw (← e, ← f, eq-eqb (x .number) 0 z, eq-eqb (y .number) 0 w)
 
         pub ends-refused : {a : WriteAnswer} → a ≡ joiningBy first second share (length target) → (a .number ≡ 0 → ⊥)
-            → Left up down share target a target
+            → JoinOutcome up down share target a target
         ends-refused {a} k n = left-refused a n (k ∙ by-studies)
 
         pub joinable : Joinable (x .road) (x .steps) down (y .road) (y .steps)
@@ -149,7 +149,7 @@ module _ (up down : List ℕ) (share : ℕ) (target : List ℕ) where
           enough : recordSize (joinedStudy first second share) ≤ length target
           enough = rw (e, f) (joins-only up down share target unrefused .room)
 
-          pub joins : Joins up (x .road) (x .steps) down (y .road) target
+          pub joins : JoinNeeds up (x .road) (x .steps) down (y .road) target
           joins =
               let u = read-within up x e z in
               let v = read-within down y f w in
@@ -173,11 +173,11 @@ module _ (up down : List ℕ) (share : ℕ) (target : List ℕ) where
           pub ends-joined : {s q : Start} {after : List ℕ} {end : ℕ} → s ≡ startIn (x .state) → q ≡ startIn (y .state)
               → Puts target 0 (recordOf (joinedStudy (studyBy up [] (x .road) (startState s) (x .steps))
               (studyBy down [] (y .road) (startState q) (x .steps)) share)) after end
-              → Left up down share target a after
+              → JoinOutcome up down share target a after
           ends-joined {s} {q} {after} {end} es eq p =
               let j = joinedStudy first second share in
               let r : Puts target 0 (recordOf j) after end = rw (es, eq) at p in
               record {
                 says = k ∙ by-studies;
-                leaves = record-stands j target after end (length-record j) enough r .1 ∙ sym target-joined;
+                leaves = record-in-target j target after end (length-record j) enough r .1 ∙ sym target-joined;
               }

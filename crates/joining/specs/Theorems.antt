@@ -30,7 +30,7 @@ pub record Both (up down : List ℕ) : Type 0 where
   pub lower : readingOf down .number ≡ 0
 
 -- what holds if nothing is refused
-pub record Asked (up down : List ℕ) (share : ℕ) (target : List ℕ) : Type 0 where
+pub record JoinRequest (up down : List ℕ) (share : ℕ) (target : List ℕ) : Type 0 where
   pub both : Both up down
   pub stated : share ≤ whole
   pub alike : Alike (studyOf up []) (studyOf down [])
@@ -52,7 +52,7 @@ pub data Ends (up down : List ℕ) (share : ℕ) (target : List ℕ) : WriteAnsw
       → Ends up down share target (unwritten 22 0) target
   short : Both up down → share ≤ whole → Alike (studyOf up []) (studyOf down []) → Idle (studyOf down []) → Small (joinedOf up down share)
       → length target < recordSize (joinedOf up down share) → Ends up down share target (unwritten 15 0) target
-  joined : Asked up down share target
+  joined : JoinRequest up down share target
       → Ends up down share target (written (recordSize (joinedOf up down share)))
       (recordOf (joinedOf up down share) ++ drop (recordSize (joinedOf up down share)) target)
 
@@ -97,7 +97,7 @@ module _ (up down : List ℕ) (share : ℕ) (target : List ℕ) where
 
 -- there is no refusal exactly if all of these conditions hold
 joined-asked : {up down : List ℕ} {share : ℕ} {target : List ℕ} {a : WriteAnswer} {after : List ℕ} → Ends up down share target a after → a .number ≡ 0
-    → Asked up down share target
+    → JoinRequest up down share target
     × ((a ≡ written (recordSize (joinedOf up down share)))
     × (after ≡ recordOf (joinedOf up down share) ++ drop (recordSize (joinedOf up down share)) target))
 joined-asked (Ends.upperUnread h) e = absurd (h e)
@@ -110,7 +110,7 @@ joined-asked (Ends.short q s l i m h) e = absurd (omega arith)
 joined-asked (Ends.joined q) e = (q, (refl, refl))
 
 asked-joined : {up down : List ℕ} {share : ℕ} {target : List ℕ} {a : WriteAnswer} {after : List ℕ} → Ends up down share target a after
-    → Asked up down share target → a ≡ written (recordSize (joinedOf up down share))
+    → JoinRequest up down share target → a ≡ written (recordSize (joinedOf up down share))
 asked-joined (Ends.upperUnread h) k = absurd (h (k .both .upper))
 asked-joined (Ends.lowerUnread q h) k = absurd (h (k .both .lower))
 asked-joined (Ends.above q h) k = absurd (omega (arith, k .stated))
@@ -120,7 +120,7 @@ asked-joined (Ends.large q s l i h) k = absurd (h (k .small))
 asked-joined (Ends.short q s l i m h) k = absurd (omega (arith, k .room))
 asked-joined (Ends.joined q) k = refl
 
-pub joins-if : (up down : List ℕ) (share : ℕ) (target : List ℕ) → Asked up down share target
+pub joins-if : (up down : List ℕ) (share : ℕ) (target : List ℕ) → JoinRequest up down share target
     → joiningOf up down share target ≡ written (recordSize (joinedOf up down share))
 joins-if up down share target = asked-joined (ends up down share target)
 
@@ -146,7 +146,7 @@ joinedBytes up down share target = take (joiningOf up down share target .count) 
 
 -- 'Upstream cells, then downstream cells, with a stated onward share for the joint. The second gate is dropped, and all else stands as it was':
 -- the reading z of the joined record, compared with the readings x of upstream and y of downstream
-pub record Stands (share : ℕ) (x y z : ReadAnswer) : Type 0 where
+pub record JoinedReading (share : ℕ) (x y z : ReadAnswer) : Type 0 where
   pub cells : z .road .n ≡ x .road .n + y .road .n
   pub steps : (z .steps ≡ x .steps) × (z .steps ≡ y .steps)
   pub version : (z .road .version ≡ x .road .version) × (z .road .version ≡ y .road .version)
@@ -166,8 +166,8 @@ pub record Stands (share : ℕ) (x y z : ReadAnswer) : Type 0 where
   pub queue : Joined (x .road .n) (y .road .n) (x .state .queue) (y .state .queue) (z .state .queue)
 
 -- 'rows joined step by step': each row of the bytes, compared with those of both records
-abbrev pub RowStands : List ℕ → List ℕ → List ℕ → ℕ → Type 0
-RowStands up down bytes t =
+abbrev pub RowJoined : List ℕ → List ℕ → List ℕ → ℕ → Type 0
+RowJoined up down bytes t =
     JoinedNumbers (readingOf up .road .n) (readingOf down .road .n)
     (recordRow up (readingOf up .road .n) t) (recordRow down (readingOf down .road .n) t) (recordRow bytes (readingOf bytes .road .n) t)
 
@@ -188,7 +188,7 @@ module _ (up down : List ℕ) (share : ℕ) (target : List ℕ) (h : joiningOf u
   abbrev result : Study
   result = joinedOf up down share
 
-  pub joins-only : Asked up down share target
+  pub joins-only : JoinRequest up down share target
   joins-only = joined-asked (ends up down share target) h .0
 
   -- 'What is returned and the bytes beyond are as in writing': the record's bytes are counted, and the bytes beyond them are unchanged
@@ -234,11 +234,11 @@ module _ (up down : List ℕ) (share : ℕ) (target : List ℕ) (h : joiningOf u
   joined-rows t l = ap (λ (s : List ℕ). recordRow s (n + m) t) joined-bytes ∙ rows-read result within t l
 
   -- 'all else stands as it was'
-  pub joined-stands : Stands share (readingOf up) (readingOf down) (readingOf (joinedBytes up down share target))
-  joined-stands =
+  pub joined-reading : JoinedReading share (readingOf up) (readingOf down) (readingOf (joinedBytes up down share target))
+  joined-reading =
       let k = joins-only in
       let most = k .small .cells in
-      subst (λ (z : ReadAnswer). Stands share (readingOf up) (readingOf down) z) (sym joined-reads) (record {
+      subst (λ (z : ReadAnswer). JoinedReading share (readingOf up) (readingOf down) z) (sym joined-reads) (record {
         cells = refl;
         steps = (refl, k .alike .steps);
         version = (refl, k .alike .version);
@@ -255,11 +255,11 @@ module _ (up down : List ℕ) (share : ℕ) (target : List ℕ) (h : joiningOf u
         queue = column-joined n m most (x .state .queue) (y .state .queue);
       })
 
-  pub joined-row-stands : (t : ℕ) → t < readingOf up .steps → RowStands up down (joinedBytes up down share target) t
-  joined-row-stands t l =
+  pub joined-row-numbers : (t : ℕ) → t < readingOf up .steps → RowJoined up down (joinedBytes up down share target) t
+  joined-row-numbers t l =
       let rows : recordRow (joinedBytes up down share target) (readingOf (joinedBytes up down share target) .road .n) t
       ≡ joinedRow (recordRow up n t) (recordRow down m t) =
-      ap (λ (c : ℕ). recordRow (joinedBytes up down share target) c t) (joined-stands .cells) ∙ joined-rows t l in
+      ap (λ (c : ℕ). recordRow (joinedBytes up down share target) c t) (joined-reading .cells) ∙ joined-rows t l in
       subst (λ (row : List ℕ). JoinedNumbers n m (recordRow up n t) (recordRow down m t) row) (sym rows)
       (row-joined n m (recordRow up n t) (recordRow down m t) (length-row up n t) (length-row down m t))
 

@@ -21,7 +21,7 @@ ghost use Rattle.reading.specs.Headers.{Steps};
 ghost use Rattle.model.specs.Encoding.{numbersOf, rowBytes, recordOf};
 ghost use Rattle.model.specs.Writing.{writeAnswer};
 ghost use Rattle.model.specs.Joining.{joinedRow, joinedStudy, joiningBy, joiningOf, joinedTarget, ReadsJoined};
-ghost use Rattle.joining.specs.JoinedBytes.{withShare, joinedRows, Joins};
+ghost use Rattle.joining.specs.JoinedBytes.{withShare, joinedRows, JoinNeeds};
 ghost use Rattle.joining.specs.JoiningLaws.{idleBy, Joinable};
 
 // The gate's arrivals in step t.
@@ -170,7 +170,7 @@ fn put_joined(
     steps: usize,
     share: u16,
 ) -> usize
-    requires { ⌜ Joins (now upstream) road steps (now downstream) next (now target) ⌝ }
+    requires { ⌜ JoinNeeds (now upstream) road steps (now downstream) next (now target) ⌝ }
     ensures { λ e. ⌜ Puts (now (target .entry)) 0
         (recordOf (joinedStudy (studyBy (now (upstream .entry)) [] road (startState start) steps)
         (studyBy (now (downstream .entry)) [] next (startState «next_start») steps) share))

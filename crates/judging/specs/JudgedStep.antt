@@ -15,7 +15,7 @@ use Rattle.model.specs.Judging.{verdictOf}
 use Rattle.theory.specs.VerdictLaws.{verdict-obeys}
 use Rattle.outflows.specs.Columns.{roadOf}
 use Rattle.stepping.specs.StepNeeds.{Movable}
-use Rattle.verdict.specs.ProposedRow.{Proposed}
+use Rattle.judging.specs.ProposedRow.{Proposed}
 
 -- it requires that on some road with these columns all is within the limits, that steps are left, and that the rows are whole
 pub record Judges (n gate : ℕ) (speed wave share jam capacity : List ℕ) (s : State) (row room y : List ℕ) : Type 0 where

@@ -23,14 +23,14 @@ use Rattle.theory.specs.JudgingExact.{accepts-exactly}
 use Rattle.judging.specs.JudgedStep.{Judges, JudgedStep}
 
 -- the schedule obeys in the first k steps, and u is its own state after them
-pub record Obeyed (a : Study) (zs : List ℕ) (u : State) (k : ℕ) : Type 0 where
+pub record ObeyedSteps (a : Study) (zs : List ℕ) (u : State) (k : ℕ) : Type 0 where
   pub state : u ≡ scheduledAt a zs k
   pub faultless : Faultless (λ j. judgeSays a zs j .number) (a .steps) k
 
 -- a turn of it: q is the step's road, and the code holds the row of step k and the schedule's row of outflows
 pub record JudgeTurn (a : Study) (zs : List ℕ) (u : State) (k : ℕ) (q : Road) (row y : List ℕ) : Type 0 where
   pub ok : StudyOk a
-  pub obeyed : Obeyed a zs u k
+  pub obeyed : ObeyedSteps a zs u k
   pub left : k < a .steps
   pub road : q ≡ roadAt a k
   pub numbers : row ≡ a .rows k
@@ -38,12 +38,12 @@ pub record JudgeTurn (a : Study) (zs : List ℕ) (u : State) (k : ℕ) (q : Road
   pub size : length y ≡ places a
 
 module _ {a : Study} {zs : List ℕ} where
-  pub obeyed-none : Obeyed a zs (a .start) 0
+  pub obeyed-none : ObeyedSteps a zs (a .start) 0
   unfolding scheduleAfter
   obeyed-none = record { state = refl; faultless = faultless-none }
 
   -- the end after all steps
-  pub obeyed-end : {u : State} {k : ℕ} → Obeyed a zs u k → {e : EndAnswer} → a .steps ≤ k → e ≡ ended 0 0 0 (a .road) u → e ≡ judgeEnd a zs
+  pub obeyed-end : {u : State} {k : ℕ} → ObeyedSteps a zs u k → {e : EndAnswer} → a .steps ≤ k → e ≡ ended 0 0 0 (a .road) u → e ≡ judgeEnd a zs
   obeyed-end h l g = g ∙ ends-all a (judgeSays a zs) (scheduledAt a zs) (h .faultless) (h .state) l
 
   module _ {u : State} {k : ℕ} {q : Road} {row y : List ℕ} (t : JudgeTurn a zs u k q row y) where
@@ -78,7 +78,7 @@ module _ {a : Study} {zs : List ℕ} where
           g ∙ ends-at a (judgeSays a zs) (scheduledAt a zs) (t .obeyed .faultless) (j .kept n ∙ t .obeyed .state) (t .left) says n
 
       -- no fault: the next turn follows
-      pub obeyed-more : f .number ≡ 0 → Obeyed a zs v (k + 1)
+      pub obeyed-more : f .number ≡ 0 → ObeyedSteps a zs v (k + 1)
       unfolding scheduleAfter
       obeyed-more z = record {
         state = rw (j .moved z, t .road, t .obeyed .state, t .numbers, t .outflows, add-one k);

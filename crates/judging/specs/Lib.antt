@@ -1,3 +1,4 @@
+pub mod ProposedRow
 pub mod JudgedStep
 pub mod JudgingLoop
 pub mod WrittenStates

@@ -10,7 +10,7 @@ use Rattle.model.specs.Schedules.{Study, places, engineAfter, outflowsAt, propo
 use Rattle.theory.specs.RunsLaws.{StudyOk}
 use Rattle.model.specs.Running.{runSays, firstStep}
 use Rattle.theory.specs.DemandLaws.{own-state}
-use Rattle.model.specs.History.{placesOf, heldRow, queueRow, heldTable, queueTable}
+use Rattle.model.specs.Judging.{placesOf, heldRow, queueRow, heldTable, queueTable}
 
 -- after step k of the engine's run: the gate's queue and what each cell holds; and 0 and each ramp's queue
 abbrev pub engineHeld : Study → ℕ → List ℕ

@@ -11,10 +11,10 @@ use Rattle.model.specs.Schedules.{Study, places, tableSize, scheduledAt}
 use Rattle.model.specs.Reading.{ReadAnswer, studyBy}
 use Rattle.model.specs.Running.{EndAnswer, noState, stepsMade}
 use Rattle.model.specs.Judging.{judgeSays, judgeEnd}
-use Rattle.model.specs.History.{heldTable, queueTable, heldRow, queueRow}
+use Rattle.model.specs.Judging.{heldTable, queueTable, heldRow, queueRow}
 use Rattle.model.specs.GoingOn.{studyFrom, judgingOn, historyOn, heldOn, queueOn}
 use Rattle.theory.specs.SchedulesLaws.{end-made}
-use Rattle.theory.specs.Started.{startingOf, found-refuses, found-starts, found-study}
+use Rattle.theory.specs.StartingState.{startingOf, found-refuses, found-starts, found-study}
 use Rattle.judging.specs.WrittenStates.{passedSteps, heldEnd, queueEnd}
 
 module _ (bytes lanes : List ℕ) (s : State) (zs : List ℕ) where

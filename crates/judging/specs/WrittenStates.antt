@@ -12,7 +12,7 @@ use borrow.Author.Tests.{eq-eqb, ne-eqb, le-leb, lt-leb}
 use Rattle.model.specs.Schedules.{Study, places, tableSize, scheduledAt}
 use Rattle.model.specs.Judging.{judgeSays, judgeEnd}
 use Rattle.model.specs.Running.{firstStep, EndAnswer, ended, noState, stepsMade, openingOf}
-use Rattle.model.specs.History.{heldTable, queueTable, placesOf, heldRow, queueRow, historyOf, heldAfter, queueAfter}
+use Rattle.model.specs.Judging.{heldTable, queueTable, placesOf, heldRow, queueRow, historyOf, heldAfter, queueAfter}
 use Rattle.numbers.specs.FirstLaws.{faultless-stop, faultless-end}
 use Rattle.numbers.specs.RowsLaws.{length-list}
 use Rattle.model.specs.Numbers.{placed, frontOf}
@@ -27,7 +27,7 @@ use Rattle.theory.specs.SchedulesLaws.{end-made}
 use Rattle.theory.specs.Opening.{opened-reads}
 use Rattle.theory.specs.Readable.{Readable}
 use Rattle.judging.specs.JudgedStep.{JudgedStep}
-use Rattle.judging.specs.JudgingLoop.{Obeyed, JudgeTurn, obeyed-none, obeyed-end, obeyed-more, says, ends-fault}
+use Rattle.judging.specs.JudgingLoop.{ObeyedSteps, JudgeTurn, obeyed-none, obeyed-end, obeyed-more, says, ends-fault}
 
 -- the steps before a schedule's first fault, and the lists after them
 abbrev pub passedSteps : Study → List ℕ → ℕ
@@ -50,11 +50,11 @@ pub row-ends-by : (a : Study) (k most : ℕ) → tableSize a ≤ most → k < a 
 row-ends-by a k most m l = omega (arith, row-ends k (a .steps) (places a) l)
 
 -- a lent list with k rows of w numbers in front, where states are written, and as long as before
-pub record Written (writes : Bool) (rows : ℕ → List ℕ) (w : ℕ) (list₀ list : List ℕ) (k : ℕ) : Type 0 where
+pub record WrittenRows (writes : Bool) (rows : ℕ → List ℕ) (w : ℕ) (list₀ list : List ℕ) (k : ℕ) : Type 0 where
   pub rows-there : writes ≡ true → list ≡ frontOf rows w list₀ k
   pub same : length list ≡ length list₀
 
-pub written-none : {writes : Bool} (rows : ℕ → List ℕ) (w : ℕ) (list : List ℕ) → Written writes rows w list list 0
+pub written-none : {writes : Bool} (rows : ℕ → List ℕ) (w : ℕ) (list : List ℕ) → WrittenRows writes rows w list list 0
 written-none rows w list = record { rows-there = λ e. sym (front-none rows w list); same = refl }
 
 length-cond : (b : Bool) (x y : List ℕ) → length x ≡ length y → length (cond b x y) ≡ length y
@@ -63,8 +63,8 @@ length-cond false x y e = refl
 
 module _ {writes : Bool} (rows : ℕ → List ℕ) (w : ℕ) (wide : (k : ℕ) → length (rows k) ≡ w) {list₀ list : List ℕ} {k : ℕ} where
   -- one more row
-  pub written-more : Written writes rows w list₀ list k → (writes ≡ true → k * w + w ≤ length list₀) → {next row : List ℕ} → row ≡ rows k
-      → next ≡ cond writes (placed list (k * w) row) list → Written writes rows w list₀ next (k + 1)
+  pub written-more : WrittenRows writes rows w list₀ list k → (writes ≡ true → k * w + w ≤ length list₀) → {next row : List ℕ} → row ≡ rows k
+      → next ≡ cond writes (placed list (k * w) row) list → WrittenRows writes rows w list₀ next (k + 1)
   written-more h fits {next} {row} er e = record {
     rows-there = λ on.
         let size : length row ≡ w = ap length er ∙ wide k in
@@ -88,9 +88,9 @@ queue-wide a zs k = length-list _ (places a)
 
 -- a schedule judged up to step k, with its states in the lists where they are written
 pub record JudgedTo (a : Study) (zs : List ℕ) (writes : Bool) (held₀ queue₀ held queue : List ℕ) (u : State) (k : ℕ) : Type 0 where
-  pub obeyed : Obeyed a zs u k
-  pub helds : Written writes (heldRow a zs) (places a) held₀ held k
-  pub queues : Written writes (queueRow a zs) (places a) queue₀ queue k
+  pub obeyed : ObeyedSteps a zs u k
+  pub helds : WrittenRows writes (heldRow a zs) (places a) held₀ held k
+  pub queues : WrittenRows writes (queueRow a zs) (places a) queue₀ queue k
 
 -- the answer of judging and the lists at its end
 abbrev pub Ends : Study → List ℕ → Bool → List ℕ → List ℕ → EndAnswer → List ℕ → List ℕ → Type 0

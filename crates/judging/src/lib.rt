@@ -1,5 +1,7 @@
 // Judging: whether a proposed schedule obeys the rules of a record, step by step in its own states. History writes these states into lent
 // lists too, as plots need them.
+mod verdict;
+
 use model::Ended;
 use model::Refusal;
 use model::Road;
@@ -20,7 +22,7 @@ ghost use Rattle.model.specs.Running.{endAnswer};
 ghost use Rattle.model.specs.Judging.{judgeEnd, judgingOf};
 ghost use Rattle.model.specs.Demand.{AcceptsExactly};
 ghost use Rattle.judging.specs.JudgedStep.{Judges, JudgedStep};
-ghost use Rattle.model.specs.History.{placesOf, historyOf, heldAfter, queueAfter};
+ghost use Rattle.model.specs.Judging.{placesOf, historyOf, heldAfter, queueAfter};
 ghost use Rattle.judging.specs.WrittenStates.{heldEnd, queueEnd, Judgeable};
 ghost use Rattle.model.specs.GoingOn.{judgingOn, historyOn, heldOn, queueOn};
 
@@ -56,7 +58,7 @@ fn judge_step<'a>(
         (fault (refusalNumber (j .refusal)) (j .place)) (stateOf (j .ledger) (now (held .exit)) (now (queue .exit)) (now (cumulative .exit)))) ⌝ }
     ensures length { λ j. ⌜ length (now (room .exit)) ≡ mostCells ⌝ }
 {
-    let q = verdict::lent::verdict(
+    let q = verdict::verdict(
         n,
         gate_capacity,
         speed,

@@ -9,7 +9,7 @@ use Rattle.model.specs.declared.State.{State}
 use Rattle.model.specs.Numbers.{at}
 use Rattle.numbers.specs.PlacedText.{Puts, placed-none, puts-more, Room, room, room-more, Text}
 use Rattle.model.specs.Words.{blank, newline, wordOf, namedOf}
-use Rattle.listing.specs.WordsLaws.{word-length, named-length, Word, Named}
+use Rattle.listing.specs.WordsLaws.{word-length, named-length, Word, NamedNumber}
 use Rattle.model.specs.Listing.{mostLine, mostLast, mostTime, refusedWord, totalWord, gateWord, roadWord, rampWord, exitsWord, secondsWord, headerLine, lineOf, cellLines}
 use Rattle.model.specs.Listing.{linesOf, totalLine, secondsLine, refusedLine}
 
@@ -137,11 +137,11 @@ module _ {a : List ℕ} {start : ℕ} {b : List ℕ} {p : ℕ} {c : List ℕ} {q
       puts-more a start _ b p _ f w h (puts-more b p _ c q _ f w i (puts-more c q _ d u _ f w j (puts-more d u _ e v _ f w k l)))
 
   pub total-put : {total gate road ramp exits : ℕ} {f : List ℕ} {w : ℕ}
-      → Named a start totalWord total blank b p → Named b p gateWord gate blank c q → Named c q roadWord road blank d u
-      → Named d u rampWord ramp blank e v → Named e v exitsWord exits newline f w
+      → NamedNumber a start totalWord total blank b p → NamedNumber b p gateWord gate blank c q → NamedNumber c q roadWord road blank d u
+      → NamedNumber d u rampWord ramp blank e v → NamedNumber e v exitsWord exits newline f w
       → Puts a start (totalLine total gate road ramp exits) f w
   unfolding totalLine
-  total-put {f = f} {w = w} (Named.put h) (Named.put i) (Named.put j) (Named.put k) (Named.put l) =
+  total-put {f = f} {w = w} (NamedNumber.put h) (NamedNumber.put i) (NamedNumber.put j) (NamedNumber.put k) (NamedNumber.put l) =
       puts-more a start _ b p _ f w h (puts-more b p _ c q _ f w i (puts-more c q _ d u _ f w j (puts-more d u _ e v _ f w k l)))
 
   pub refused-put : {number step place : ℕ} → Text a start refusedWord b p → Word b p number blank c q → Word c q step blank d u → Word d u place newline e v
@@ -151,13 +151,13 @@ module _ {a : List ℕ} {start : ℕ} {b : List ℕ} {p : ℕ} {c : List ℕ} {q
       puts-more a start _ b p _ e v h (puts-more b p _ c q _ e v i (puts-more c q _ d u _ e v j k))
 
 -- the lines of i cells are put after those before, for every state with these columns
-pub record Listed (a : List ℕ) (start step n : ℕ) (y : List ℕ) (gate : ℕ) (held queue b : List ℕ) (end i : ℕ) : Type 0 where
+pub record ListedCells (a : List ℕ) (start step n : ℕ) (y : List ℕ) (gate : ℕ) (held queue b : List ℕ) (end i : ℕ) : Type 0 where
   pub within : i ≤ n
   pub puts : (s : State) → Puts a start (cellLines step y (showing s gate held queue) i) b end
   pub room : Room a start b end (mostLine * i)
 
 module _ {a : List ℕ} {start step n : ℕ} {y : List ℕ} {gate : ℕ} {held queue : List ℕ} where
-  pub listed-none : Listed a start step n y gate held queue a start 0
+  pub listed-none : ListedCells a start step n y gate held queue a start 0
   unfolding cellLines
   listed-none = record {
     within = omega arith;
@@ -165,9 +165,9 @@ module _ {a : List ℕ} {start step n : ℕ} {y : List ℕ} {gate : ℕ} {held q
     room = record { end = omega arith; same = refl };
   }
 
-  module _ {b : List ℕ} {end i : ℕ} (h : Listed a start step n y gate held queue b end i) where
+  module _ {b : List ℕ} {end i : ℕ} (h : ListedCells a start step n y gate held queue b end i) where
     pub listed-more : {c : List ℕ} {m : ℕ} → i < n
-        → Puts b end (lineOf step (i + 1) (at y (i + 1)) (at held i) (at queue i)) c m → Listed a start step n y gate held queue c m (i + 1)
+        → Puts b end (lineOf step (i + 1) (at y (i + 1)) (at held i) (at queue i)) c m → ListedCells a start step n y gate held queue c m (i + 1)
     unfolding cellLines
     listed-more {c} {m} l p =
         let z = line-room b end _ _ _ _ _ c m p in

@@ -80,15 +80,15 @@ pub word-room : {a : List ℕ} {start n after : ℕ} {b : List ℕ} {m : ℕ} �
 word-room {a} {start} {n} {after} {b} {m} (Word.put p) = room a start (wordOf n after) b m mostWord p (word-length n after)
 
 -- the same for a name and a number
-pub data Named (a : List ℕ) (start : ℕ) (name : List ℕ) (n after : ℕ) (b : List ℕ) (m : ℕ) : Type 0 where
-  put : Puts a start (namedOf name n after) b m → Named a start name n after b m
+pub data NamedNumber (a : List ℕ) (start : ℕ) (name : List ℕ) (n after : ℕ) (b : List ℕ) (m : ℕ) : Type 0 where
+  put : Puts a start (namedOf name n after) b m → NamedNumber a start name n after b m
 
 pub named-length : (name : List ℕ) (n after : ℕ) → length (namedOf name n after) ≤ length name + mostWord
 named-length name n after = omega (arith, length-append name (wordOf n after), word-length n after)
 
-pub number-room : {a : List ℕ} {start : ℕ} {name : List ℕ} {n after : ℕ} {b : List ℕ} {m : ℕ} → Named a start name n after b m
+pub number-room : {a : List ℕ} {start : ℕ} {name : List ℕ} {n after : ℕ} {b : List ℕ} {m : ℕ} → NamedNumber a start name n after b m
     → Room a start b m (length name + mostWord)
-number-room {a} {start} {name} {n} {after} {b} {m} (Named.put p) =
+number-room {a} {start} {name} {n} {after} {b} {m} (NamedNumber.put p) =
     room a start (namedOf name n after) b m (length name + mostWord) p (named-length name n after)
 
 pub named-put : {a : List ℕ} {start : ℕ} {name : List ℕ} {n after : ℕ} {b : List ℕ} {p : ℕ} {c : List ℕ} {q : ℕ}

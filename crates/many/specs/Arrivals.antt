@@ -13,8 +13,8 @@ use Rattle.numbers.specs.PlacedText.{length-placed}
 use Rattle.model.specs.Record.{numberSize, versionOffset, versionOf, rowSize, rowStart, bytesOf, entryStart, entryOf}
 use Rattle.fields.specs.FieldsLaws.{HoldsRow, row-within}
 use Rattle.fields.specs.BytesLaws.{length-bytes, number-same}
-use Rattle.model.specs.Ramps.{putEntry, releaseNumber}
-use Rattle.model.specs.Filling.{Outside}
+use Rattle.model.specs.Put.{putEntry, releaseNumber}
+use Rattle.model.specs.Put.{Outside}
 use Rattle.put.specs.Bytes.{compare, apart-outside, placed-other, placed-at, byte-other, number-apart}
 use Rattle.model.specs.Many.{arrivalNumber, putArrivals, putArrivalRows}
 

@@ -13,7 +13,7 @@ use Rattle.numbers.specs.Zeros.{length-zeros}
 use Rattle.model.specs.declared.Law.{Law}
 use Rattle.model.specs.Record.{versionOf, entryOf, recordRow}
 use Rattle.fields.specs.FieldsLaws.{length-row, row-at}
-use Rattle.model.specs.Places.{arrivalsAt}
+use Rattle.model.specs.Flow.{arrivalsAt}
 use Rattle.model.specs.Reading.{ReadAnswer, readingOf, studyOf}
 use Rattle.reading.specs.Within.{read-row}
 use Rattle.theory.specs.VersionUnread.{stamped}
@@ -27,11 +27,11 @@ use Rattle.model.specs.Many.{fillEntry, listAfterFillings, recordAfterFillings}
 use Rattle.many.specs.Arrivals.{arrivals-same}
 use Rattle.many.specs.Studies.{Studies, length-entry}
 use Rattle.many.specs.RunStudies.{arrived-is}
-use Rattle.many.specs.KeptRecord.{Kept, kept-none, arrived-kept, kept-reads, kept-alike, filled-kept}
+use Rattle.many.specs.KeptRecord.{KeptRecord, kept-none, arrived-kept, kept-reads, kept-alike, filled-kept}
 use Rattle.many.specs.FilledAlike.{fills-alike, queues-alike, lists-alike, room-same, room-queues, room-record}
 
 -- a record that the studies before have left, with the arrivals of study k, compared with that study
-module _ (bytes arrivals : List ℕ) (reads : readingOf bytes .number ≡ 0) {u : List ℕ} (h : Kept bytes u) (k : ℕ) where
+module _ (bytes arrivals : List ℕ) (reads : readingOf bytes .number ≡ 0) {u : List ℕ} (h : KeptRecord bytes u) (k : ℕ) where
   abbrev n : ℕ
   n = readingOf bytes .road .n
 
@@ -41,10 +41,10 @@ module _ (bytes arrivals : List ℕ) (reads : readingOf bytes .number ≡ 0) {u 
   abbrev v : List ℕ
   v = withStudyArrivals bytes arrivals k u
 
-  study-kept : Kept bytes (studyRecord bytes arrivals k)
+  study-kept : KeptRecord bytes (studyRecord bytes arrivals k)
   study-kept = arrived-kept bytes reads (kept-none bytes reads) arrivals k
 
-  put-kept : Kept bytes (withStudyArrivals bytes arrivals k u)
+  put-kept : KeptRecord bytes (withStudyArrivals bytes arrivals k u)
   put-kept = arrived-kept bytes reads h arrivals k
 
   place : (t p : ℕ) → t < readingOf bytes .steps → p < n + 1 → entryOf v n t (arrivalNumber p) ≡ entryOf s n t (arrivalNumber p)
@@ -105,21 +105,21 @@ fill-numbers laws bytes lanes arrivals list k =
     length-entry (fillingOf laws s lanes list) (longestFill laws s lanes list) (fill-ramps laws s lanes list)
 
 -- the loop over studies
-module _ (laws : List Law) {bytes arrivals : List ℕ} {n T count : ℕ} {answers : List ℕ} (asked : Studies bytes arrivals n T count answers) (lanes list : List ℕ) where
+module _ (laws : List Law) {bytes arrivals : List ℕ} {n T count : ℕ} {answers : List ℕ} (studies : Studies bytes arrivals n T count answers) (lanes list : List ℕ) where
   abbrev left : ℕ → List ℕ
   left k = recordAfterFillings laws bytes lanes arrivals list k
 
   -- the record that k studies leave
-  pub left-kept : (k : ℕ) → Kept bytes (recordAfterFillings laws bytes lanes arrivals list k)
+  pub left-kept : (k : ℕ) → KeptRecord bytes (recordAfterFillings laws bytes lanes arrivals list k)
   unfolding recordAfterFillings recordAfter
-  left-kept zero = kept-none bytes (asked .reads)
+  left-kept zero = kept-none bytes (studies .reads)
   left-kept (suc k) =
       let v = withStudyArrivals bytes arrivals k (left k) in
-      let h : Kept bytes v = arrived-kept bytes (asked .reads) (left-kept k) arrivals k in
+      let h : KeptRecord bytes v = arrived-kept bytes (studies .reads) (left-kept k) arrivals k in
       let e = fillingOf laws v lanes list in
       fault-elim (e .number)
       (λ d. rw (ne-eqb (e .number) 0 d) h)
-      (λ z. filled-kept bytes (asked .reads) h (filled-taken-by laws v lanes list z .reads) (only-releases laws v lanes list))
+      (λ z. filled-kept bytes (studies .reads) h (filled-taken-by laws v lanes list z .reads) (only-releases laws v lanes list))
 
   module _ (k : ℕ) {after : List ℕ} (e : after ≡ recordAfterFillings laws bytes lanes arrivals list k) where
     pub left-size : length after ≡ length bytes
@@ -131,7 +131,7 @@ module _ (laws : List Law) {bytes arrivals : List ℕ} {n T count : ℕ} {answer
     -- the record that is filled
     pub left-arrived : {table s : List ℕ} → table ≡ rowAt arrivals (arrivalsSize n T) k → s ≡ withArrivals after n T table
         → s ≡ withStudyArrivals bytes arrivals k (recordAfterFillings laws bytes lanes arrivals list k)
-    left-arrived et es = es ∙ ap (withArrivals after n T) et ∙ arrived-is asked k after ∙ ap (withStudyArrivals bytes arrivals k) e
+    left-arrived et es = es ∙ ap (withArrivals after n T) et ∙ arrived-is studies k after ∙ ap (withStudyArrivals bytes arrivals k) e
 
   -- its answer, record and list
   module _ (k : ℕ) (out : List ℕ) (size : length out ≡ length list) {s : List ℕ}
@@ -143,10 +143,10 @@ module _ (laws : List Law) {bytes arrivals : List ℕ} {n T count : ℕ} {answer
     found = withStudyArrivals bytes arrivals k (left k)
 
     alike : readingOf found ≡ readingOf study
-    alike = studies-alike bytes arrivals (asked .reads) (left-kept k) k
+    alike = studies-alike bytes arrivals (studies .reads) (left-kept k) k
 
     same : readingOf study .number ≡ 0 → SameArrivals (studyOf study lanes) (studyOf found lanes)
-    same = studies-same bytes arrivals (asked .reads) (left-kept k) k lanes
+    same = studies-same bytes arrivals (studies .reads) (left-kept k) k lanes
 
     pub fill-entry : {e : EndAnswer} {q : Queues} → e ≡ fillingOf laws s lanes out → q ≡ longestFill laws s lanes out
         → answerEntry e q ≡ fillEntry laws bytes lanes arrivals list k

@@ -21,9 +21,9 @@ use Rattle.model.specs.Meter.{lawFaultOf}
 use Rattle.model.specs.Demand.{Taken}
 use Rattle.theory.specs.Readable.{readable}
 use Rattle.theory.specs.RunsLaws.{StudyOk}
-use Rattle.model.specs.Ramps.{Metered}
+use Rattle.model.specs.Filling.{MeterState}
 use Rattle.model.specs.Running.{EndAnswer, ended, noState, lanesFault, stepsMade}
-use Rattle.model.specs.Longest.{greatestOf, stayedOf, longestOf, filledAfter, longestFill}
+use Rattle.model.specs.Longest.{maximumOf, stayedOf, longestOf, filledAfter, longestFill}
 use Rattle.model.specs.Filling.{meteredAfter, meteredFrom, filledBytes, fillingOf, recordAfter, filledList}
 use Rattle.filling.specs.FillingAgain.{SameArrivals, metered-same, filled-alike-by, filled-taken-by}
 
@@ -59,8 +59,8 @@ fills-step laws s lanes list =
     unless-elim (λ (e : EndAnswer). e .step ≡ 0) (leb (x .steps * (x .road .n + 1)) (length list)) (λ _. refl) (λ _. refl))))
 
 -- the longest queues depend on the states of the steps
-greatest-same : (f g : ℕ → ℕ) (k : ℕ) → ((j : ℕ) → j < k → f j ≡ g j) → greatestOf f k ≡ greatestOf g k
-unfolding greatestOf
+greatest-same : (f g : ℕ → ℕ) (k : ℕ) → ((j : ℕ) → j < k → f j ≡ g j) → maximumOf f k ≡ maximumOf g k
+unfolding maximumOf
 greatest-same f g zero h = refl
 greatest-same f g (suc k) h = rw (greatest-same f g k (λ j l. h j (omega arith)), h k (le-refl (suc k)))
 
@@ -72,7 +72,7 @@ longest-same n f g k h =
     greatest-same (λ j. stayedOf (f j) (f (suc j))) (λ j. stayedOf (g j) (g (suc j))) k
     (λ j l. ap (λ (s : State). stayedOf s (f (suc j))) (h j (omega arith)) ∙ ap (stayedOf (g j)) (h (suc j) l)) in
     let ramps =
-    fill-same (λ i. greatestOf (λ j. at (f (suc j) .queue) i) k) (λ i. greatestOf (λ j. at (g (suc j) .queue) i) k) n zeros
+    fill-same (λ i. maximumOf (λ j. at (f (suc j) .queue) i) k) (λ i. maximumOf (λ j. at (g (suc j) .queue) i) k) n zeros
     (λ i _. greatest-same (λ j. at (f (suc j) .queue) i) (λ j. at (g (suc j) .queue) i) k (λ j l. ap (λ (s : State). at (s .queue) i) (h (suc j) l))) in
     rw (at-gate, stayed, ramps) refl
 
@@ -89,7 +89,7 @@ module _ (laws : List Law) (lanes s u : List ℕ) (alike : readingOf u ≡ readi
   states : Taken s lanes → (k : ℕ) → k ≤ readingOf s .steps → filledAfter laws (studyOf u lanes) k ≡ filledAfter laws (studyOf s lanes) k
   states h k l =
       let ok : StudyOk (studyOf s lanes) = readable s lanes (readingOf s) refl (h .reads) (h .opens) .ok in
-      ap (λ (m : Metered). m .state) (metered-same laws ok (same (h .reads)) k l)
+      ap (λ (m : MeterState). m .state) (metered-same laws ok (same (h .reads)) k l)
 
   last-same : Taken s lanes → lastOf laws lanes u ≡ lastOf laws lanes s
   last-same h =

@@ -22,20 +22,20 @@ use Rattle.fields.specs.FieldsLaws.{HoldsRow, row-at}
 use Rattle.model.specs.Limits.{atRamp, ratesOk, ratesAt, rowOk}
 use Rattle.limits.specs.LimitsLaws.{row-ok}
 use Rattle.model.specs.Reading.{cellsOf, stepsOf, ReadAnswer, roadOf, stepOk, readingOf}
-use Rattle.reading.specs.Cases.{Accepted, Found, read-found, early-refused}
+use Rattle.reading.specs.Cases.{AcceptedRecord, ReadingEnds, read-found, early-refused}
 use Rattle.reading.specs.Within.{read-within, read-row}
 use Rattle.put.specs.SameReading.{reading-alike}
-use Rattle.model.specs.Ramps.{releaseNumber}
+use Rattle.model.specs.Put.{releaseNumber}
 use Rattle.model.specs.Filling.{OnlyReleases}
 use Rattle.model.specs.Many.{arrivalNumber, putArrivalRows, studyArrivals, withStudyArrivals, studyRecord}
 use Rattle.many.specs.Arrivals.{holds-on, ArrivedRows, rows-put, releases-kept, head-kept, arrivals-same}
 
 -- a record that reads has the road and T of its header and cells
-read-parts : {s : List ℕ} {a : ReadAnswer} → Found s a → a .number ≡ 0 → (a .road ≡ roadOf s) × (a .steps ≡ stepsOf s)
-read-parts (Found.early k l) h = absurd (early-refused l h)
-read-parts (Found.atPlace p l) h = absurd (omega arith)
-read-parts (Found.atStep t l) h = absurd (omega arith)
-read-parts (Found.clear w) h = (refl, refl)
+read-parts : {s : List ℕ} {a : ReadAnswer} → ReadingEnds s a → a .number ≡ 0 → (a .road ≡ roadOf s) × (a .steps ≡ stepsOf s)
+read-parts (ReadingEnds.early k l) h = absurd (early-refused l h)
+read-parts (ReadingEnds.atPlace p l) h = absurd (omega arith)
+read-parts (ReadingEnds.atStep t l) h = absurd (omega arith)
+read-parts (ReadingEnds.clear w) h = (refl, refl)
 
 -- the release of the cell at i in step t is within the limits of a road's ramps
 abbrev ReleaseOk : List ℕ → ℕ → List ℕ → ℕ → ℕ → Type 0
@@ -55,7 +55,7 @@ read-release s reads t i l m =
     ∙ and-true (leb (at row (2 * i + 1)) (atRamp mostRate (at (r .ramp) i))) (leb (at row (2 * i + 2)) (atRamp mostRate (at (r .ramp) i))) one .1
 
 -- u has everything before the rows of the record given, and releases within its limits
-pub record Kept (bytes u : List ℕ) : Type 0 where
+pub record KeptRecord (bytes u : List ℕ) : Type 0 where
   pub size : length u ≡ length bytes
   pub version : versionOf u ≡ versionOf bytes
   pub head : (b : ℕ) → b < rowStart (versionOf bytes) (readingOf bytes .road .n) 0 → at u b ≡ at bytes b
@@ -78,10 +78,10 @@ module _ (bytes : List ℕ) (reads : readingOf bytes .number ≡ 0) where
   held : (t : ℕ) → t < readingOf bytes .steps → HoldsRow bytes (readingOf bytes .road .n) t
   held = read-row bytes (readingOf bytes) refl reads
 
-  pub kept-none : Kept bytes bytes
+  pub kept-none : KeptRecord bytes bytes
   kept-none = record { size = refl; version = refl; head = λ b l. refl; release = read-release bytes reads }
 
-  module _ {u : List ℕ} (h : Kept bytes u) where
+  module _ {u : List ℕ} (h : KeptRecord bytes u) where
     -- n and T in the header, and the ramp marks, are those of the record given
     number : (i w : ℕ) → i + w ≤ 16 → numberOf u i w ≡ numberOf bytes i w
     number i w l = number-same u bytes i i w (λ k m. h .head (i + k) (omega arith))
@@ -120,7 +120,7 @@ module _ (bytes : List ℕ) (reads : readingOf bytes .number ≡ 0) where
       changed : ArrivedRows u (withStudyArrivals bytes arrivals k u) (readingOf bytes .road .n) (readingOf bytes .steps)
       changed = rows-put u n tables T kept-held
 
-      pub arrived-kept : Kept bytes (withStudyArrivals bytes arrivals k u)
+      pub arrived-kept : KeptRecord bytes (withStudyArrivals bytes arrivals k u)
       arrived-kept = record {
         size = changed .size ∙ h .size;
         version = changed .version ∙ h .version;
@@ -130,7 +130,7 @@ module _ (bytes : List ℕ) (reads : readingOf bytes .number ≡ 0) where
       }
 
 -- two such records with the same arrivals
-module _ (bytes : List ℕ) (reads : readingOf bytes .number ≡ 0) (s u : List ℕ) (hs : Kept bytes s) (hu : Kept bytes u)
+module _ (bytes : List ℕ) (reads : readingOf bytes .number ≡ 0) (s u : List ℕ) (hs : KeptRecord bytes s) (hu : KeptRecord bytes u)
     (gate : (t : ℕ) → t < readingOf bytes .steps → entryOf u (readingOf bytes .road .n) t 0 ≡ entryOf s (readingOf bytes .road .n) t 0)
     (arrival : (t i : ℕ) → t < readingOf bytes .steps → i < readingOf bytes .road .n
     → entryOf u (readingOf bytes .road .n) t (2 * i + 1) ≡ entryOf s (readingOf bytes .road .n) t (2 * i + 1)) where
@@ -143,7 +143,7 @@ module _ (bytes : List ℕ) (reads : readingOf bytes .number ≡ 0) (s u : List 
   -- the same rows of both pass
   rates : (t i : ℕ) → t < readingOf bytes .steps → i < m → ratesAt marks (recordRow u m t) i ≡ ratesAt marks (recordRow s m t) i
   rates t i l j =
-      let f : (x : List ℕ) → Kept bytes x → leb (at (recordRow x m t) (2 * i + 2)) (atRamp mostRate (at marks i)) ≡ true =
+      let f : (x : List ℕ) → KeptRecord bytes x → leb (at (recordRow x m t) (2 * i + 2)) (atRamp mostRate (at marks i)) ≡ true =
       λ x h. ap (λ (y : ℕ). leb y (atRamp mostRate (at marks i))) (row-at x m t (releaseNumber i) (omega arith)) ∙ h .release t i l j in
       let e : at (recordRow u m t) (2 * i + 1) ≡ at (recordRow s m t) (2 * i + 1) =
       row-at u m t (2 * i + 1) (omega arith) ∙ arrival t i l j ∙ sym (row-at s m t (2 * i + 1) (omega arith)) in
@@ -174,8 +174,8 @@ module _ (bytes : List ℕ) (reads : readingOf bytes .number ≡ 0) (s u : List 
       (λ t l. row-test u t ∙ rows-alike t (omega (arith, kept-steps bytes reads hs)) ∙ sym (row-test s t))
 
 -- filling such a record leaves such a record
-pub filled-kept : (bytes : List ℕ) → readingOf bytes .number ≡ 0 → {u after : List ℕ} → Kept bytes u → readingOf u .number ≡ 0 → OnlyReleases u after
-    → Kept bytes after
+pub filled-kept : (bytes : List ℕ) → readingOf bytes .number ≡ 0 → {u after : List ℕ} → KeptRecord bytes u → readingOf u .number ≡ 0 → OnlyReleases u after
+    → KeptRecord bytes after
 filled-kept bytes reads {u} {after} h z o =
     let q = kept-reads bytes reads h z in
     let same : (b : ℕ) → b < rowStart (versionOf bytes) (readingOf bytes .road .n) 0 → at after b ≡ at bytes b =

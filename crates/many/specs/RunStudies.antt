@@ -50,9 +50,9 @@ run-entry bytes lanes arrivals list k out {s} {e} {q} es eo ee eq =
 -- the code's slice of the arrivals, put into any record
 pub arrived-is : {bytes arrivals : List ℕ} {n T count : ℕ} {answers : List ℕ} → Studies bytes arrivals n T count answers → (k : ℕ) (s : List ℕ)
     → withArrivals s n T (rowAt arrivals (arrivalsSize n T) k) ≡ withStudyArrivals bytes arrivals k s
-arrived-is {bytes} {arrivals} {n} {T} asked k s =
-    ap (λ (m : ℕ). withArrivals s m T (rowAt arrivals (arrivalsSize m T) k)) (asked .cells)
-    ∙ ap (λ (m : ℕ). withArrivals s (readingOf bytes .road .n) m (rowAt arrivals (arrivalsSize (readingOf bytes .road .n) m) k)) (asked .steps)
+arrived-is {bytes} {arrivals} {n} {T} studies k s =
+    ap (λ (m : ℕ). withArrivals s m T (rowAt arrivals (arrivalsSize m T) k)) (studies .cells)
+    ∙ ap (λ (m : ℕ). withArrivals s (readingOf bytes .road .n) m (rowAt arrivals (arrivalsSize (readingOf bytes .road .n) m) k)) (studies .steps)
 
 -- the record after k studies
 module _ (bytes arrivals : List ℕ) (reads : readingOf bytes .number ≡ 0) where
@@ -81,21 +81,21 @@ module _ (bytes arrivals : List ℕ) (reads : readingOf bytes .number ≡ 0) whe
   ran-next (suc k) = arrived-again bytes n (tables k) (tables (suc k)) T held
 
 -- the record in the loop: it has the size and version of the record given, and is the next study once the next table is put
-module _ {bytes arrivals : List ℕ} {n T count : ℕ} {answers : List ℕ} (asked : Studies bytes arrivals n T count answers) (k : ℕ) {after : List ℕ}
+module _ {bytes arrivals : List ℕ} {n T count : ℕ} {answers : List ℕ} (studies : Studies bytes arrivals n T count answers) (k : ℕ) {after : List ℕ}
     (e : after ≡ recordAfterRuns bytes arrivals k) where
   pub ran-size : length after ≡ length bytes
-  ran-size = ap length e ∙ ran-kept bytes arrivals (asked .reads) k .size
+  ran-size = ap length e ∙ ran-kept bytes arrivals (studies .reads) k .size
 
   pub ran-version : versionOf after ≡ versionOf bytes
-  ran-version = ap versionOf e ∙ ran-kept bytes arrivals (asked .reads) k .version
+  ran-version = ap versionOf e ∙ ran-kept bytes arrivals (studies .reads) k .version
 
   pub ran-study : {table s : List ℕ} → table ≡ rowAt arrivals (arrivalsSize n T) k → s ≡ withArrivals after n T table → s ≡ studyRecord bytes arrivals k
   ran-study et es =
       es
       ∙ ap (withArrivals after n T) et
-      ∙ arrived-is asked k after
+      ∙ arrived-is studies k after
       ∙ ap (withStudyArrivals bytes arrivals k) e
-      ∙ ran-next bytes arrivals (asked .reads) k
+      ∙ ran-next bytes arrivals (studies .reads) k
 
 -- one more study, for the record and for the list
 pub ran-more : (bytes arrivals : List ℕ) (k : ℕ) {s : List ℕ} → s ≡ studyRecord bytes arrivals k → s ≡ recordAfterRuns bytes arrivals (suc k)

@@ -13,7 +13,7 @@ use Rattle.numbers.specs.TablesLaws.{row-ends, row-length, mul-more, part-row, 
 use Rattle.model.specs.Record.{versionOf}
 use Rattle.fields.specs.FieldsLaws.{HoldsRow}
 use Rattle.model.specs.Reading.{readingOf}
-use Rattle.reading.specs.Cases.{Accepted}
+use Rattle.reading.specs.Cases.{AcceptedRecord}
 use Rattle.reading.specs.Within.{read-within, read-row}
 use Rattle.model.specs.Running.{EndAnswer}
 use Rattle.model.specs.Longest.{Queues}
@@ -32,10 +32,10 @@ pub record Studies (bytes arrivals : List ℕ) (n T count : ℕ) (answers : List
 -- the size of a table of arrivals fits a machine number
 pub table-small : {bytes arrivals : List ℕ} {n T count : ℕ} {answers : List ℕ} → Studies bytes arrivals n T count answers
     → (n + 1 ≤ 65) × (arrivalsSize n T ≤ 93600)
-table-small {bytes} {n = n} {T = T} asked =
-    let w = read-within bytes (readingOf bytes) refl (asked .reads) in
-    let k : n + 1 ≤ 65 = omega (arith, asked .cells, w .road .cells) in
-    let t : T ≤ 1440 = omega (arith, asked .steps, w .steps) in
+table-small {bytes} {n = n} {T = T} studies =
+    let w = read-within bytes (readingOf bytes) refl (studies .reads) in
+    let k : n + 1 ≤ 65 = omega (arith, studies .cells, w .road .cells) in
+    let t : T ≤ 1440 = omega (arith, studies .steps, w .steps) in
     (k, omega (arith, mul-le-mul t k))
 
 -- an entry has 73 numbers if there is a queue for each of 64 ramps
@@ -44,7 +44,7 @@ unfolding answerEntry
 length-entry e q h = omega (arith, h)
 
 -- the record, the list and the answers after k studies; the arrivals of the next begin at `from`, and its entry at `to`
-pub record Done (entries records lists : ℕ → List ℕ) (size count : ℕ) (answers after out left : List ℕ) (from to k : ℕ) : Type 0 where
+pub record DoneSoFar (entries records lists : ℕ → List ℕ) (size count : ℕ) (answers after out left : List ℕ) (from to k : ℕ) : Type 0 where
   pub within : k ≤ count
   pub place : from ≡ k * size
   pub entry : to ≡ k * entrySize
@@ -52,18 +52,18 @@ pub record Done (entries records lists : ℕ → List ℕ) (size count : ℕ) (a
   pub list-is : out ≡ lists k
   pub answers-are : left ≡ frontOf entries entrySize answers k
 
-module _ (entries records lists : ℕ → List ℕ) {bytes arrivals : List ℕ} {n T count : ℕ} {answers : List ℕ} (asked : Studies bytes arrivals n T count answers)
+module _ (entries records lists : ℕ → List ℕ) {bytes arrivals : List ℕ} {n T count : ℕ} {answers : List ℕ} (studies : Studies bytes arrivals n T count answers)
     (numbers : (k : ℕ) → length (entries k) ≡ entrySize) where
   abbrev After : List ℕ → List ℕ → List ℕ → ℕ → ℕ → ℕ → Type 0
-  After after out left from to k = Done entries records lists (arrivalsSize n T) count answers after out left from to k
+  After after out left from to k = DoneSoFar entries records lists (arrivalsSize n T) count answers after out left from to k
 
-  pub accepted : Accepted bytes (readingOf bytes .steps) (readingOf bytes .road) (readingOf bytes .state)
-  accepted = read-within bytes (readingOf bytes) refl (asked .reads)
+  pub accepted : AcceptedRecord bytes (readingOf bytes .steps) (readingOf bytes .road) (readingOf bytes .state)
+  accepted = read-within bytes (readingOf bytes) refl (studies .reads)
 
   pub rows-held : (t : ℕ) → t < T → HoldsRow bytes n t
   rows-held t l =
-      let h : HoldsRow bytes (readingOf bytes .road .n) t = read-row bytes (readingOf bytes) refl (asked .reads) t (omega (arith, asked .steps)) in
-      rw (asked .cells) h
+      let h : HoldsRow bytes (readingOf bytes .road .n) t = read-row bytes (readingOf bytes) refl (studies .reads) t (omega (arith, studies .steps)) in
+      rw (studies .cells) h
 
   pub done-none : {list : List ℕ} → bytes ≡ records 0 → list ≡ lists 0 → After bytes list answers 0 0 0
   done-none eb el = record {
@@ -80,26 +80,26 @@ module _ (entries records lists : ℕ → List ℕ) {bytes arrivals : List ℕ} 
     pub answers-size : length left ≡ length answers
     answers-size =
         ap length (h .answers-are)
-        ∙ length-front entries entrySize numbers answers k (omega (arith, asked .room, h .within))
+        ∙ length-front entries entrySize numbers answers k (omega (arith, studies .room, h .within))
 
     pub entry-fits : k < count → to + entrySize ≤ length left
-    entry-fits l = omega (arith, h .entry, asked .room, answers-size)
+    entry-fits l = omega (arith, h .entry, studies .room, answers-size)
 
     -- the next table of arrivals is within the tables, and is that of study k
     pub table-fits : k < count → from + arrivalsSize n T ≤ length arrivals
-    table-fits l = omega (arith, row-ends k count (arrivalsSize n T) l, h .place, asked .whole)
+    table-fits l = omega (arith, row-ends k count (arrivalsSize n T) l, h .place, studies .whole)
 
     pub table-is : take (from + arrivalsSize n T - from) (drop from arrivals) ≡ rowAt arrivals (arrivalsSize n T) k
     table-is = part-row arrivals (arrivalsSize n T) k from (h .place)
 
     -- it can be put into the record
-    pub table-asked : k < count → length after ≡ length bytes → versionOf after ≡ versionOf bytes
+    pub table-into-record : k < count → length after ≡ length bytes → versionOf after ≡ versionOf bytes
         → TableFits after n T (take (from + arrivalsSize n T - from) (drop from arrivals))
-    table-asked l size version =
+    table-into-record l size version =
         let w = accepted in
         record {
-          cells = omega (arith, asked .cells, w .road .cells);
-          steps = omega (arith, asked .steps, w .steps);
+          cells = omega (arith, studies .cells, w .road .cells);
+          steps = omega (arith, studies .steps, w .steps);
           header = omega (arith, size, w .size);
           holds = λ t m. holds-on size version (rows-held t m);
           size = part-length arrivals from (arrivalsSize n T) (table-fits l);

@@ -53,8 +53,8 @@ module _ (bytes arrivals answers : List ℕ) {x : ReadAnswer} (e : x ≡ reading
         many-none = rw (← e, eq-eqb (x .number) 0 z, eq-eqb (length arrivals % size) 0 m, le-leb (length arrivals / size * entrySize) (length answers) room)
 
         -- the loops may begin
-        pub many-asked : Studies bytes arrivals (x .road .n) (x .steps) (length arrivals / arrivalsSize (x .road .n) (x .steps)) answers
-        many-asked = record {
+        pub studies-begin : Studies bytes arrivals (x .road .n) (x .steps) (length arrivals / arrivalsSize (x .road .n) (x .steps)) answers
+        studies-begin = record {
           reads = ap (λ (y : ReadAnswer). y .number) (sym e) ∙ z;
           cells = ap (λ (y : ReadAnswer). y .road .n) e;
           steps = ap (λ (y : ReadAnswer). y .steps) e;

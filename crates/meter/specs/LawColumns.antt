@@ -33,17 +33,17 @@ abbrev pub InColumns : List Law → List ℕ → List Float → Type 0
 InColumns laws kinds numbers = (i : ℕ) → i < mostCells → lawIn kinds numbers i ≡ lawAt laws i
 
 -- the laws of the first i cells are stored
-pub record Split (laws : List Law) (kinds : List ℕ) (numbers : List Float) (i : ℕ) : Type 0 where
+pub record SplitLaws (laws : List Law) (kinds : List ℕ) (numbers : List Float) (i : ℕ) : Type 0 where
   pub within : i ≤ mostCells
   pub cells : length kinds ≡ mostCells
   pub threes : length numbers ≡ 3 * mostCells
   pub stored : (j : ℕ) → j < i → lawIn kinds numbers j ≡ lawAt laws j
 
 pub split-none : {laws : List Law} {kinds : List ℕ} {numbers : List Float} → length kinds ≡ mostCells → length numbers ≡ 3 * mostCells
-    → Split laws kinds numbers 0
+    → SplitLaws laws kinds numbers 0
 split-none e f = record { within = omega arith; cells = e; threes = f; stored = λ j l. absurd (omega arith) }
 
-module _ {laws : List Law} {kinds : List ℕ} {numbers : List Float} {i : ℕ} (h : Split laws kinds numbers i) where
+module _ {laws : List Law} {kinds : List ℕ} {numbers : List Float} {i : ℕ} (h : SplitLaws laws kinds numbers i) where
   -- storing the numbers of one more law leaves those before it unchanged
   module _ (first second third : Float) where
     abbrev next : List Float
@@ -74,7 +74,7 @@ module _ {laws : List Law} {kinds : List ℕ} {numbers : List Float} {i : ℕ} (
 
       -- one more law is stored
       pub split-more : (kind : ℕ) (d : Law) → i < length laws → lawBy kind first second third ≡ getD laws i d
-          → Split laws (set kinds i kind) (set (set (set numbers (3 * i) first) (3 * i + 1) second) (3 * i + 2) third) (i + 1)
+          → SplitLaws laws (set kinds i kind) (set (set (set numbers (3 * i) first) (3 * i + 1) second) (3 * i + 2) third) (i + 1)
       split-more kind d inside e = record {
         within = omega arith;
         cells = simp length-set (h .cells);

@@ -19,7 +19,7 @@ use lib.Ieee.Positive.{above, positive as positive-float, positive-of-value, abo
 use lib.Ieee.Scale.{finite, round-same}
 use Rattle.model.specs.Numbers.{at, unless, firstOf, allOf}
 use Rattle.numbers.specs.Tests.{order}
-use Rattle.numbers.specs.FirstLaws.{First, Passed, first, first-is, all-at, all-true, passed-stop, passed-fails, passed-all}
+use Rattle.numbers.specs.FirstLaws.{First, PassedTests, first, first-is, all-at, all-true, passed-stop, passed-fails, passed-all}
 use Rattle.model.specs.declared.DemandCapacity.{DemandCapacity}
 use Rattle.model.specs.declared.Law.{Law}
 use Rattle.model.specs.Meter.{count, demandCapacityOf, wholeBelow, lawFinite, lawAt, lawOk, lawFaultOf}
@@ -263,7 +263,7 @@ unfolding lawOk
 ok-is laws ramp i d h e = rw (e, law-at laws i d h)
 
 -- the loop over the cells ends at the first that fails, after the last, or past the arrays, where there is no ramp
-module _ (laws : List Law) (ramp : List ℕ) {n i : ℕ} (h : Passed (lawOk laws ramp) n i) where
+module _ (laws : List Law) (ramp : List ℕ) {n i : ℕ} (h : PassedTests (lawOk laws ramp) n i) where
   pub fault-stop : {t : Bool} → i < n → t ≡ lawOk laws ramp i → t ≡ false → i + 1 ≡ lawFaultOf laws ramp n
   unfolding lawFaultOf
   fault-stop l e z = rw (← passed-fails h l e z, ← passed-stop h l e z)

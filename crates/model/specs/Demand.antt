@@ -8,7 +8,7 @@ use Rattle.model.specs.declared.State.{State}
 use Rattle.model.specs.declared.Road.{Road}
 use Rattle.model.specs.Numbers.{at}
 use Rattle.model.specs.Road.{totalOf}
-use Rattle.model.specs.Schedules.{Study, roadAt, tableSize, Greatest, Obeying, proposedAt, scheduledAt}
+use Rattle.model.specs.Schedules.{Study, roadAt, tableSize, Greatest, ObeysUpTo, proposedAt, scheduledAt}
 use Rattle.model.specs.Weights.{Falling, weightedTotalOfSchedule}
 use Rattle.model.specs.Refusals.{began}
 use Rattle.model.specs.Reading.{readingOf, studyOf}
@@ -27,7 +27,7 @@ pub record Ahead (r : Road) (s t : State) : Type 0 where
 -- a schedule reaches k steps: it obeys the rules in its own states in each of them; its later rows may be anything
 pub record Reaches (a : Study) (zs : List ℕ) (k : ℕ) : Type 0 where
   pub within : k ≤ a .steps
-  pub obeys : Obeying a (proposedAt a zs) k
+  pub obeys : ObeysUpTo a (proposedAt a zs) k
 
 -- row k of a table holds the greatest outflows in the table's own state
 abbrev pub GreatestIn : Study → List ℕ → ℕ → Type 0

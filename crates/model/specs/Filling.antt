@@ -1,50 +1,95 @@
--- docs/MODEL.md, 'Filling': all steps of a record filled one after the other, the answer, and the record and list afterwards. Assumes nothing.
-use mathlib.Core.Path.{_≡_}
-use mathlib.Core.Logic.{_⊎_}
+-- docs/MODEL.md, 'Filling': what meter laws grant in one step, all steps filled one after the other, and what filling answers and leaves.
+-- Assumes nothing.
+use mathlib.Core.Bool.{cond}
 use mathlib.Core.List.{List}
-use Prim.Native.Nat.{ℕ, _+_, _≤_, _<_, zero, suc}
-use lib.Dec.{leb, eqb}
+use mathlib.Core.Path.{_≡_}
+use Prim.Native.Nat.{ℕ, zero, suc, min, _<_}
 use lib.ListN.{length}
+use lib.Dec.{eqb, leb}
+use lib.Ieee.{Float}
+use Rattle.model.specs.declared.State.{State}
 use Rattle.model.specs.declared.Law.{Law}
-use Rattle.model.specs.Numbers.{unless, at}
-use Rattle.model.specs.Places.{gateArrivals, arrivalsAt}
-use Rattle.model.specs.Schedules.{Study, study, roadAt, tableSize}
+use Rattle.model.specs.declared.Road.{Road}
+use Rattle.model.specs.Numbers.{at, fillOf, unless}
+use Rattle.model.specs.Road.{zeros, mostRate}
+use Rattle.model.specs.Flow.{mostReleaseAt, supplyAt, enteringAt, gateArrivals, arrivalsAt}
+use Rattle.model.specs.Move.{nextOf}
+use Rattle.model.specs.Schedules.{outflowsOf, Study, study, roadAt, tableSize}
 use Rattle.model.specs.Record.{numberSize, versionOf, entryStart, recordRow}
 use Rattle.model.specs.Reading.{readingOf, studyOf}
 use Rattle.model.specs.Running.{EndAnswer, ended, noState, lanesFault, tableOf}
-use Rattle.model.specs.Meter.{lawFaultOf}
-use Rattle.model.specs.Ramps.{putTable, Metered, unmetered, grantedAt, filledRow, meteredOf, releaseNumber}
+use Rattle.model.specs.Meter.{wishOf, wholeBelow, lawAt, lawFaultOf}
+use Rattle.model.specs.Put.{putTable, releaseNumber, releasedRow, Outside}
 
--- k is outside the w places from i on
-abbrev pub Outside : ℕ → ℕ → ℕ → Type 0
-Outside k i w = (k < i) ⊎ (i + w ≤ k)
+-- what the wishes of a step are computed from: the state before it, and from the last step each release granted and what entered each cell from upstream
+pub record MeterState : Type 0 where
+  pub state : State
+  pub releases : List ℕ
+  pub entries : List ℕ
+
+abbrev pub meterState : State → List ℕ → List ℕ → MeterState
+meterState s releases entries = record { state = s; releases = releases; entries = entries }
+
+-- before the first step the last release and last entry are 0
+abbrev pub meterStart : State → MeterState
+meterStart s = meterState s zeros zeros
+
+-- the wish of the law of the cell at i
+abbrev pub wishAt : List Law → MeterState → ℕ → Float
+wishAt laws m i = wishOf (lawAt laws i) (at (m .releases) i) (at (m .entries) i) (at (m .state .held) i)
+
+-- the cap of a release: queue plus arrivals, supply and 1,000,000
+abbrev pub capAt : Road → State → List ℕ → ℕ → ℕ
+capAt r s row i = min (mostReleaseAt s row i) (min (supplyAt r s i) mostRate)
+
+-- the release is the greatest whole number not above the wish, at most the cap; it is 0 at a cell without a ramp, whose law is ignored
+unfoldable pub releaseOf : ℕ → Float → ℕ → ℕ
+releaseOf ramp wish cap = cond (eqb ramp 0) 0 (wholeBelow wish cap)
+
+-- the release granted to the cell at i
+unfoldable pub grantedAt : List Law → Road → MeterState → List ℕ → ℕ → ℕ
+grantedAt laws r m row i = releaseOf (at (r .ramp) i) (wishAt laws m i) (capAt r (m .state) row i)
+
+-- the row with the releases granted instead of its own
+unfoldable pub filledRow : List Law → Road → MeterState → List ℕ → List ℕ
+filledRow laws r m row = releasedRow (grantedAt laws r m row) (r .n) row
+
+-- a step with a row whose releases are given: what the next step's wishes are computed from
+abbrev pub nextMetered : Road → MeterState → List ℕ → List ℕ → MeterState
+nextMetered r m row given =
+    meterState (nextOf r (m .state) row (outflowsOf r (m .state) row)) given
+    (fillOf (enteringAt r (m .state) (outflowsOf r (m .state) row)) (r .n) (m .entries))
+
+-- a step with the filled row
+unfoldable pub meteredOf : List Law → Road → MeterState → List ℕ → MeterState
+meteredOf laws r m row = nextMetered r m (filledRow laws r m row) (fillOf (grantedAt laws r m row) (r .n) (m .releases))
 
 -- what the wishes of step k are computed from, if those of step 0 are computed from m: the state is the one before step k
-unfoldable pub meteredFrom : List Law → Study → Metered → ℕ → Metered
+unfoldable pub meteredFrom : List Law → Study → MeterState → ℕ → MeterState
 meteredFrom laws a m zero = m
 meteredFrom laws a m (suc k) = meteredOf laws (roadAt a k) (meteredFrom laws a m k) (a .rows k)
 
 -- the release of the cell at i in step k
-abbrev pub grantedFrom : List Law → Study → Metered → ℕ → ℕ → ℕ
+abbrev pub grantedFrom : List Law → Study → MeterState → ℕ → ℕ → ℕ
 grantedFrom laws a m k i = grantedAt laws (roadAt a k) (meteredFrom laws a m k) (a .rows k) i
 
 -- the row of step k with its releases filled
-abbrev pub rowsFrom : List Law → Study → Metered → ℕ → List ℕ
+abbrev pub rowsFrom : List Law → Study → MeterState → ℕ → List ℕ
 rowsFrom laws a m k = filledRow laws (roadAt a k) (meteredFrom laws a m k) (a .rows k)
 
 -- the study with its releases filled: road, start, T, arrivals and lanes stay
-abbrev pub filledFrom : List Law → Study → Metered → Study
+abbrev pub filledFrom : List Law → Study → MeterState → Study
 filledFrom laws a m = study (a .road) (a .start) (a .steps) (rowsFrom laws a m) (a .lanes)
 
 -- the same from the record's start; the last release and last entry before it are 0
-abbrev pub meteredAfter : List Law → Study → ℕ → Metered
-meteredAfter laws a k = meteredFrom laws a (unmetered (a .start)) k
+abbrev pub meteredAfter : List Law → Study → ℕ → MeterState
+meteredAfter laws a k = meteredFrom laws a (meterStart (a .start)) k
 
 abbrev pub grantedIn : List Law → Study → ℕ → ℕ → ℕ
-grantedIn laws a k i = grantedFrom laws a (unmetered (a .start)) k i
+grantedIn laws a k i = grantedFrom laws a (meterStart (a .start)) k i
 
 abbrev pub filledStudy : List Law → Study → Study
-filledStudy laws a = filledFrom laws a (unmetered (a .start))
+filledStudy laws a = filledFrom laws a (meterStart (a .start))
 
 -- filling changes only the record's releases
 unfoldable pub filledBytes : List Law → List ℕ → List ℕ → List ℕ

@@ -15,8 +15,9 @@ use Rattle.model.specs.Reading.{readingOf, studyBy}
 use Rattle.model.specs.Running.{EndAnswer, ended, noState, unlessOpened, lanesFault, runEnd, stepsMade, tableOf}
 use Rattle.model.specs.Weights.{weightedTotal}
 use Rattle.model.specs.Judging.{judgeEnd}
-use Rattle.model.specs.History.{heldTable, queueTable}
-use Rattle.model.specs.Ramps.{putTable, Metered, metered, unmetered}
+use Rattle.model.specs.Judging.{heldTable, queueTable}
+use Rattle.model.specs.Filling.{MeterState, meterState, meterStart}
+use Rattle.model.specs.Put.{putTable}
 use Rattle.model.specs.Filling.{lawPlace, meteredFrom, grantedFrom, filledFrom}
 use Rattle.model.specs.Longest.{Queues, longestOf}
 
@@ -83,22 +84,22 @@ queueOn bytes lanes s zs held queue =
     queueTable (studyFrom bytes lanes s) zs queue (stepsMade (studyFrom bytes lanes s) (historyOn bytes lanes s zs held queue))
 
 -- filling goes on from a state, with the last releases and entries
-abbrev pub progressed : Progress → Metered
-progressed p = metered (p .state) (p .releases) (p .entries)
+abbrev pub progressed : Progress → MeterState
+progressed p = meterState (p .state) (p .releases) (p .entries)
 
-abbrev pub studyAfter : List ℕ → List ℕ → Metered → Study
+abbrev pub studyAfter : List ℕ → List ℕ → MeterState → Study
 studyAfter bytes lanes m = studyFrom bytes lanes (m .state)
 
 -- a last entry is at most what its cell holds, because what entered in a step is in the cell after it
-unfoldable pub entriesOk : Metered → ℕ → Bool
+unfoldable pub entriesOk : MeterState → ℕ → Bool
 entriesOk m n = allOf (λ i. leb (at (m .entries) i) (at (m .state .held) i)) n
 
 -- 7 in filling: a limit of the state, or this one
-unfoldable pub progressFault : Study → Metered → ℕ
+unfoldable pub progressFault : Study → MeterState → ℕ
 progressFault a m = startFault (stateOk (a .road) (m .state) && entriesOk m (a .road .n)) a
 
 -- the refusals of reading, 16, 17, 18, 7, 8, 11
-unfoldable pub fillingOn : List Law → List ℕ → List ℕ → Metered → List ℕ → EndAnswer
+unfoldable pub fillingOn : List Law → List ℕ → List ℕ → MeterState → List ℕ → EndAnswer
 fillingOn laws bytes lanes m list =
     let a = studyAfter bytes lanes m in
     unless (eqb (readingOf bytes .number) 0) (noState (readingOf bytes .number) (readingOf bytes .place))
@@ -109,23 +110,23 @@ fillingOn laws bytes lanes m list =
     (ended 0 0 0 (a .road) (meteredFrom laws a m (a .steps) .state))))))
 
 -- what filling the next record goes on from; all zero after a refusal
-unfoldable pub progressOn : List Law → List ℕ → List ℕ → Metered → List ℕ → Metered
+unfoldable pub progressOn : List Law → List ℕ → List ℕ → MeterState → List ℕ → MeterState
 progressOn laws bytes lanes m list =
-    unless (eqb (fillingOn laws bytes lanes m list .number) 0) (unmetered emptyState)
+    unless (eqb (fillingOn laws bytes lanes m list .number) 0) (meterStart emptyState)
     (meteredFrom laws (studyAfter bytes lanes m) m (readingOf bytes .steps))
 
 -- the record and the list afterwards, and the longest queues over the steps of this record
-unfoldable pub recordOn : List Law → List ℕ → List ℕ → Metered → List ℕ → List ℕ
+unfoldable pub recordOn : List Law → List ℕ → List ℕ → MeterState → List ℕ → List ℕ
 recordOn laws bytes lanes m list =
     unless (eqb (fillingOn laws bytes lanes m list .number) 0) bytes
     (putTable bytes (readingOf bytes .road .n) (grantedFrom laws (studyAfter bytes lanes m) m) (readingOf bytes .steps))
 
-unfoldable pub filledListOn : List Law → List ℕ → List ℕ → Metered → List ℕ → List ℕ
+unfoldable pub filledListOn : List Law → List ℕ → List ℕ → MeterState → List ℕ → List ℕ
 filledListOn laws bytes lanes m list =
     unless (eqb (fillingOn laws bytes lanes m list .number) 0) list
     (tableOf (filledFrom laws (studyAfter bytes lanes m) m) list (readingOf bytes .steps))
 
-unfoldable pub longestFillOn : List Law → List ℕ → List ℕ → Metered → List ℕ → Queues
+unfoldable pub longestFillOn : List Law → List ℕ → List ℕ → MeterState → List ℕ → Queues
 longestFillOn laws bytes lanes m list =
     longestOf (readingOf bytes .road .n) (λ k. meteredFrom laws (studyAfter bytes lanes m) m k .state)
     (stepsMade (studyAfter bytes lanes m) (fillingOn laws bytes lanes m list))

@@ -1,7 +1,6 @@
 pub mod Numbers
 pub mod Road
 pub mod Flow
-pub mod Places
 pub mod Move
 pub mod Lanes
 pub mod Schedules
@@ -14,13 +13,11 @@ pub mod Reading
 pub mod Stepping
 pub mod Running
 pub mod Judging
-pub mod History
 pub mod Encoding
 pub mod Writing
 pub mod RowNumbers
 pub mod Joining
 pub mod Meter
-pub mod Ramps
 pub mod Filling
 pub mod Longest
 pub mod GoingOn

@@ -12,9 +12,9 @@ use Rattle.model.specs.Running.{stepsMade, runningOf}
 use Rattle.model.specs.Filling.{meteredAfter, fillingOf}
 
 -- the greatest of the first k values of f, 0 if there is none
-unfoldable pub greatestOf : (ℕ → ℕ) → ℕ → ℕ
-greatestOf f zero = 0
-greatestOf f (suc k) = max (greatestOf f k) (f k)
+unfoldable pub maximumOf : (ℕ → ℕ) → ℕ → ℕ
+maximumOf f zero = 0
+maximumOf f (suc k) = max (maximumOf f k) (f k)
 
 -- the queue that was at the gate before a step and did not leave in it: s is the state before the step, t the state after it
 abbrev pub stayedOf : State → State → ℕ
@@ -38,9 +38,9 @@ longestQueues e = queuesOf (e .gate) (e .waiting) (e .ramps)
 unfoldable pub longestOf : ℕ → (ℕ → State) → ℕ → Queues
 longestOf n after k =
     queuesOf
-    (greatestOf (λ j. after (suc j) .«gate_queue») k)
-    (greatestOf (λ j. stayedOf (after j) (after (suc j))) k)
-    (fillOf (λ i. greatestOf (λ j. at (after (suc j) .queue) i) k) n zeros)
+    (maximumOf (λ j. after (suc j) .«gate_queue») k)
+    (maximumOf (λ j. stayedOf (after j) (after (suc j))) k)
+    (fillOf (λ i. maximumOf (λ j. at (after (suc j) .queue) i) k) n zeros)
 
 -- a run with its longest queues gives those over the steps done
 unfoldable pub longestRun : List ℕ → List ℕ → List ℕ → Queues

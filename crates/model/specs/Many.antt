@@ -9,7 +9,7 @@ use Rattle.model.specs.Move.{exitsOf}
 use Rattle.model.specs.Refusals.{FaultAnswer, fault}
 use Rattle.model.specs.Reading.{readingOf}
 use Rattle.model.specs.Running.{EndAnswer, runningOf, listAfter}
-use Rattle.model.specs.Ramps.{putEntry}
+use Rattle.model.specs.Put.{putEntry}
 use Rattle.model.specs.Filling.{fillingOf, recordAfter, filledList}
 use Rattle.model.specs.Longest.{Queues, longestRun, longestFill}
 

@@ -6,7 +6,7 @@ use Rattle.model.specs.declared.State.{State}
 use Rattle.model.specs.declared.Road.{Road}
 use Rattle.model.specs.Numbers.{sumOf, fillOf, listOf, at}
 use Rattle.model.specs.Flow.{onwardOf}
-use Rattle.model.specs.Places.{gateArrivals, arrivalsAt, releaseAt, enteringAt}
+use Rattle.model.specs.Flow.{gateArrivals, arrivalsAt, releaseAt, enteringAt}
 
 -- held becomes held + entering + release − outflow; 0 if the outflow is above these three together, which no demand within the limits is
 abbrev pub heldOf : Road → State → List ℕ → List ℕ → ℕ → ℕ

@@ -1,17 +1,21 @@
--- docs/MODEL.md, 'Putting a release': its refusals in order, and the record afterwards. Assumes nothing.
+-- docs/MODEL.md, 'Putting a release': its refusals in order, and the record afterwards; the releases of all cells and steps, as filling puts
+-- them. Assumes nothing.
 use mathlib.Core.Path.{_≡_}
 use mathlib.Core.Bool.{Bool, false, _&&_}
 use mathlib.Core.List.{List}
+use mathlib.Core.Logic.{_⊎_}
 use Prim.Native.Nat.{ℕ, zero, suc, _*_, _-_, _≤_, _+_, _<_}
 use lib.Dec.{leb, ltb, eqb}
 use lib.ListN.{length, set}
-use Rattle.model.specs.Numbers.{at, unless}
+use Rattle.model.specs.Numbers.{at, unless, placed}
 use Rattle.model.specs.Road.{mostRate}
-use Rattle.model.specs.Record.{numberSize, versionOf, entryStart, entryOf, recordRow}
+use Rattle.model.specs.Record.{numberSize, versionOf, entryStart, entryOf, recordRow, bytesOf}
 use Rattle.model.specs.Refusals.{FaultAnswer, fault}
 use Rattle.model.specs.Reading.{readingOf}
-use Rattle.model.specs.Ramps.{putEntry}
-use Rattle.model.specs.Filling.{Outside}
+
+-- x put as number k of the row of step t
+abbrev pub putEntry : List ℕ → ℕ → ℕ → ℕ → ℕ → List ℕ
+putEntry s n t k x = placed s (entryStart (versionOf s) n t k) (bytesOf numberSize x)
 
 -- 5 applies if this fails: the cell is one of 1 to n and has a ramp
 unfoldable pub rampOk : List ℕ → ℕ → ℕ → Bool
@@ -45,6 +49,10 @@ pub record Ramp (ramp : List ℕ) (n cell : ℕ) : Type 0 where
   pub within : cell ≤ n
   pub mark : at ramp (cell - 1) ≡ 1
 
+-- k is outside the w places from i on
+abbrev pub Outside : ℕ → ℕ → ℕ → Type 0
+Outside k i w = (k < i) ⊎ (i + w ≤ k)
+
 -- u is s with x put as number k of the row of step t: exactly that number changes
 pub record Put (s u : List ℕ) (n t k x : ℕ) : Type 0 where
   pub size : length u ≡ length s
@@ -66,7 +74,7 @@ pub record PutRequest (bytes : List ℕ) (step cell release : ℕ) : Type 0 wher
   pub rate : release ≤ mostRate
 
 -- the record after a release was put into it
-pub record Stands (bytes after : List ℕ) (step cell release : ℕ) : Type 0 where
+pub record ReleasePut (bytes after : List ℕ) (step cell release : ℕ) : Type 0 where
   -- exactly that number changes: every other byte, and every other number of every row, is unchanged
   pub put : Put bytes after (readingOf bytes .road .n) step (2 * cell) release
   -- it reads without refusal, as before: the same road, T and start
@@ -79,4 +87,23 @@ pub data PutEnds (bytes : List ℕ) (step cell release : ℕ) : FaultAnswer → 
       → PutEnds bytes step cell release (fault 5 cell) bytes
   noRate : readingOf bytes .number ≡ 0 → Ramp (readingOf bytes .road .ramp) (readingOf bytes .road .n) cell
       → (step < readingOf bytes .steps → release ≤ mostRate → ⊥) → PutEnds bytes step cell release (fault 6 step) bytes
-  put : PutRequest bytes step cell release → {after : List ℕ} → Stands bytes after step cell release → PutEnds bytes step cell release (fault 0 0) after
+  put : PutRequest bytes step cell release → {after : List ℕ} → ReleasePut bytes after step cell release → PutEnds bytes step cell release (fault 0 0) after
+
+-- the release of the cell at i is number 2i + 2 of a row
+abbrev pub releaseNumber : ℕ → ℕ
+releaseNumber i = 2 * i + 2
+
+-- the releases of the first c cells put into the row of step t; f i is that of the cell at i
+unfoldable pub putReleases : List ℕ → ℕ → ℕ → (ℕ → ℕ) → ℕ → List ℕ
+putReleases s n t f zero = s
+putReleases s n t f (suc c) = putEntry (putReleases s n t f c) n t (releaseNumber c) (f c)
+
+-- the releases of all n cells put into the rows of the first k steps; f t i is that of the cell at i in step t
+unfoldable pub putTable : List ℕ → ℕ → (ℕ → ℕ → ℕ) → ℕ → List ℕ
+putTable s n f zero = s
+putTable s n f (suc k) = putReleases (putTable s n f k) n k (f k) n
+
+-- a row with the releases of the first c cells given by f
+unfoldable pub releasedRow : (ℕ → ℕ) → ℕ → List ℕ → List ℕ
+releasedRow f zero row = row
+releasedRow f (suc c) row = set (releasedRow f c row) (releaseNumber c) (f c)

@@ -9,7 +9,7 @@ use Rattle.model.specs.declared.State.{State}
 use Rattle.model.specs.declared.Road.{Road}
 use Rattle.model.specs.Numbers.{listOf, at, rowAt}
 use Rattle.model.specs.Flow.{enteringOf}
-use Rattle.model.specs.Places.{releaseAt, mostReleaseAt, supplyAt, roomAt, demandAt, shareAt, cumulativeAt, enteringAt, outflowAt}
+use Rattle.model.specs.Flow.{releaseAt, mostReleaseAt, supplyAt, roomAt, demandAt, shareAt, cumulativeAt, enteringAt, outflowAt}
 use Rattle.model.specs.Move.{nextOf}
 use Rattle.model.specs.Lanes.{openCapacities, builtIn, openIn}
 
@@ -62,13 +62,13 @@ abbrev pub tableSize : Study → ℕ
 tableSize a = a .steps * places a
 
 -- each release fits: it is at most queue plus arrivals, and at most the supply of its cell
-pub record Released (r : Road) (s : State) (row : List ℕ) : Type 0 where
+pub record ReleasesFit (r : Road) (s : State) (row : List ℕ) : Type 0 where
   pub queue : (i : ℕ) → i < r .n → releaseAt row i ≤ mostReleaseAt s row i
   pub supply : (i : ℕ) → i < r .n → releaseAt row i ≤ supplyAt r s i
 
 -- the row y obeys the rules: each release fits, each outflow is at most the demand, and what enters each cell from upstream is at most its room
 pub record Obeys (r : Road) (s : State) (row y : List ℕ) : Type 0 where
-  pub released : Released r s row
+  pub released : ReleasesFit r s row
   pub demand : (p : ℕ) → p ≤ r .n → at y p ≤ demandAt r s p
   pub enters : (p : ℕ) → p < r .n → enteringAt r s y p ≤ roomAt r s row p
 
@@ -98,8 +98,8 @@ abbrev pub outflowsAt : Study → ℕ → List ℕ
 outflowsAt a k = outflowsOf (roadAt a k) (engineAfter a k) (a .rows k)
 
 -- a schedule obeys the rules in its own states in the first k steps
-abbrev pub Obeying : Study → (ℕ → List ℕ) → ℕ → Type 0
-Obeying a ys k = (j : ℕ) → j < k → Obeys (roadAt a j) (scheduleAfter a ys j) (a .rows j) (ys j)
+abbrev pub ObeysUpTo : Study → (ℕ → List ℕ) → ℕ → Type 0
+ObeysUpTo a ys k = (j : ℕ) → j < k → Obeys (roadAt a j) (scheduleAfter a ys j) (a .rows j) (ys j)
 
 -- a schedule is a table of outflows, gate first, one row per step: this is row k
 abbrev pub proposedAt : Study → List ℕ → ℕ → List ℕ

@@ -9,7 +9,7 @@ use Rattle.model.specs.declared.Stepped.{Stepped}
 use Rattle.model.specs.declared.Road.{Road}
 use Rattle.model.specs.Numbers.{unless, unlessFirst, firstFault}
 use Rattle.model.specs.Road.{mostSteps}
-use Rattle.model.specs.Places.{releaseAt, mostReleaseAt, supplyAt}
+use Rattle.model.specs.Flow.{releaseAt, mostReleaseAt, supplyAt}
 use Rattle.model.specs.Move.{nextOf}
 use Rattle.model.specs.Lanes.{lanesAt, tableAt, tableBytes}
 use Rattle.model.specs.Schedules.{openRoad, outflowsOf}

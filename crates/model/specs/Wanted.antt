@@ -29,14 +29,14 @@ abbrev pub runningSum : List ℕ → ℕ → ℕ
 runningSum table k = sumOf (take k table)
 
 -- the limits of refusal 23, as facts: of the arrivals, and of all arguments
-pub record Comes (start : ℕ) (arrivals : List ℕ) : Type 0 where
+pub record ArrivalsOk (start : ℕ) (arrivals : List ℕ) : Type 0 where
   pub most : length arrivals ≤ mostSteps
   pub starts : start ≤ mostStart
   pub each : (k : ℕ) → k < length arrivals → at arrivals k ≤ mostRate
 
 pub record Limits (start ceiling rate : ℕ) (arrivals : List ℕ) : Type 0 where
   pub some : 1 ≤ length arrivals
-  pub comes : Comes start arrivals
+  pub comes : ArrivalsOk start arrivals
   pub rates : rate ≤ mostRate
   pub ceilings : ceiling ≤ mostStart
 

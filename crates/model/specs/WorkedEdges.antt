@@ -9,7 +9,7 @@ use Rattle.model.specs.declared.State.{State}
 use Rattle.model.specs.Numbers.{sumOf, fillOf, listOf, at, firstFrom, firstOf, firstFault}
 use Rattle.model.specs.Road.{totalOf}
 use Rattle.model.specs.Flow.{thousandthsOf, demandOf, gateDemandOf, supplyOf, roomOf, onwardOf, enteringOf, greatestOf, outflowOf}
-use Rattle.model.specs.Places.{capacityAt, demandAt, mostReleaseAt, shareAt, cumulativeAt}
+use Rattle.model.specs.Flow.{capacityAt, demandAt, mostReleaseAt, shareAt, cumulativeAt}
 use Rattle.model.specs.Move.{movedTo, countedOf, exitsOf}
 use Rattle.model.specs.Lanes.{openCapacity, lanesOk}
 use Rattle.model.specs.Schedules.{outflowsOf}

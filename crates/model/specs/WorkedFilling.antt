@@ -7,7 +7,7 @@ use Rattle.model.specs.declared.Law.the-variants as law
 use Rattle.model.specs.Numbers.{oneOf, firstFrom, firstOf, firstFault, sumOf, fillOf, listOf, concatOf, rowAt, frontOf, placed}
 use Rattle.model.specs.Road.{totalOf}
 use Rattle.model.specs.Flow.{thousandthsOf, demandOf, gateDemandOf, supplyOf, roomOf, onwardOf, enteringOf, greatestOf, outflowOf}
-use Rattle.model.specs.Places.{capacityAt, demandAt, mostReleaseAt, shareAt, cumulativeAt}
+use Rattle.model.specs.Flow.{capacityAt, demandAt, mostReleaseAt, shareAt, cumulativeAt}
 use Rattle.model.specs.Move.{movedTo, countedOf}
 use Rattle.model.specs.Schedules.{roadAt, outflowsOf, scheduleAfter, engineAfter}
 use Rattle.model.specs.Record.{numberOf, secondsSize, bytesOf}
@@ -17,7 +17,8 @@ use Rattle.model.specs.Stepping.{lowestOf, tableFault}
 use Rattle.model.specs.Running.{endOf, openingOf}
 use Rattle.model.specs.Judging.{outflowFaultAt, verdictOf, judgingOf}
 use Rattle.model.specs.Meter.{alineaOf, wishOf, wholeBelow, lawFinite, lawOk, lawFaultOf}
-use Rattle.model.specs.Ramps.{putReleases, putTable, releasedRow, releaseOf, grantedAt, filledRow, meteredOf}
+use Rattle.model.specs.Filling.{releaseOf, grantedAt, filledRow, meteredOf}
+use Rattle.model.specs.Put.{putReleases, putTable, releasedRow}
 use Rattle.model.specs.Filling.{meteredFrom, filledBytes, fillingOf, recordAfter, filledList}
 use Rattle.model.specs.WorkedRecord.{sample, header, upstream, downstream, row}
 use Rattle.model.specs.WorkedSchedule.{still}

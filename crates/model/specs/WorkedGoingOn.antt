@@ -8,7 +8,7 @@ use Rattle.model.specs.declared.State.{State}
 use Rattle.model.specs.Numbers.{at, oneOf, firstFrom, firstOf, firstFault, sumOf, fillOf, listOf, concatOf, rowAt, frontOf, placed}
 use Rattle.model.specs.Road.{totalOf, zeros}
 use Rattle.model.specs.Flow.{thousandthsOf, demandOf, gateDemandOf, supplyOf, roomOf, onwardOf, enteringOf, greatestOf, outflowOf}
-use Rattle.model.specs.Places.{capacityAt, demandAt, mostReleaseAt, shareAt, cumulativeAt}
+use Rattle.model.specs.Flow.{capacityAt, demandAt, mostReleaseAt, shareAt, cumulativeAt}
 use Rattle.model.specs.Move.{movedTo, countedOf, exitsOf}
 use Rattle.model.specs.Schedules.{roadAt, outflowsOf, scheduleAfter, engineAfter}
 use Rattle.model.specs.Weights.{weightedPresent, weightedTotal}
@@ -19,9 +19,10 @@ use Rattle.model.specs.Stepping.{lowestOf, tableFault}
 use Rattle.model.specs.Running.{endOf, openingOf, runningOf}
 use Rattle.model.specs.Judging.{outflowFaultAt, verdictOf}
 use Rattle.model.specs.Meter.{alineaOf, wishOf, wholeBelow, lawFinite, lawOk, lawFaultOf}
-use Rattle.model.specs.Ramps.{putReleases, putTable, releasedRow, unmetered, metered, releaseOf, grantedAt, filledRow, meteredOf}
+use Rattle.model.specs.Filling.{meterStart, meterState, releaseOf, grantedAt, filledRow, meteredOf}
+use Rattle.model.specs.Put.{putReleases, putTable, releasedRow}
 use Rattle.model.specs.Filling.{meteredFrom}
-use Rattle.model.specs.Longest.{greatestOf as longestLength, queuesOf, longestOf}
+use Rattle.model.specs.Longest.{maximumOf as longestLength, queuesOf, longestOf}
 use Rattle.model.specs.GoingOn.{stateFault, runningOn, listOn, weightedTotalOn, longestOn, judgingOn, historyOn, heldOn, queueOn, entriesOk, progressFault}
 use Rattle.model.specs.GoingOn.{fillingOn, progressOn, recordOn, filledListOn, longestFillOn}
 use Rattle.model.specs.WorkedPrinted.{start as first}
@@ -104,14 +105,14 @@ judges-on = record { number = refl; step = refl; held = refl; queue = refl }
 
 -- filling in two stretches: the outflows and the total of 'Filling', and each release and entry of the last step
 pub record FillsOn : Type 0 where
-  pub total : totalOf (fillingOn laws two [] (progressOn laws one [] (unmetered first) still) still .state) ≡ 33002
-  pub outflows : filledListOn laws two [] (progressOn laws one [] (unmetered first) still) still ≡ 1375 ∷ 1047 ∷ 1000 ∷ 1293 ∷ 894 ∷ 1000 ∷ []
-  pub release : at (progressOn laws one [] (unmetered first) still .releases) 1 ≡ 100
-  pub entries : at (progressOn laws one [] (unmetered first) still .entries) 0 ≡ 1500
-  pub longest : longestFillOn laws two [] (progressOn laws one [] (unmetered first) still) still .gate ≡ 2125
-  pub bytes : at (recordOn laws one [] (unmetered first) still) 83 ≡ 100
+  pub total : totalOf (fillingOn laws two [] (progressOn laws one [] (meterStart first) still) still .state) ≡ 33002
+  pub outflows : filledListOn laws two [] (progressOn laws one [] (meterStart first) still) still ≡ 1375 ∷ 1047 ∷ 1000 ∷ 1293 ∷ 894 ∷ 1000 ∷ []
+  pub release : at (progressOn laws one [] (meterStart first) still .releases) 1 ≡ 100
+  pub entries : at (progressOn laws one [] (meterStart first) still .entries) 0 ≡ 1500
+  pub longest : longestFillOn laws two [] (progressOn laws one [] (meterStart first) still) still .gate ≡ 2125
+  pub bytes : at (recordOn laws one [] (meterStart first) still) 83 ≡ 100
   -- a last entry above what its cell holds is refused with 7
-  pub refused : fillingOn laws two [] (metered first zeros (2001 ∷ replicate 63 0)) still .number ≡ 7
+  pub refused : fillingOn laws two [] (meterState first zeros (2001 ∷ replicate 63 0)) still .number ≡ 7
 
 pub fills-on : FillsOn
 unfolding first one two header upstream downstream row readingBy oneOf numberOf secondsSize

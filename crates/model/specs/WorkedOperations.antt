@@ -11,7 +11,7 @@ use Rattle.model.specs.declared.Law.the-variants as law
 use Rattle.model.specs.Numbers.{at, oneOf, firstFrom, firstOf, firstFault, sumOf, fillOf, listOf}
 use Rattle.model.specs.Road.{zeros, emptyRoad, emptyState}
 use Rattle.model.specs.Flow.{thousandthsOf, demandOf, gateDemandOf, supplyOf, roomOf, onwardOf, enteringOf, greatestOf, outflowOf}
-use Rattle.model.specs.Places.{capacityAt, demandAt, mostReleaseAt, shareAt, cumulativeAt}
+use Rattle.model.specs.Flow.{capacityAt, demandAt, mostReleaseAt, shareAt, cumulativeAt}
 use Rattle.model.specs.Move.{movedTo, countedOf, exitsOf}
 use Rattle.model.specs.Lanes.{openCapacity, lanesOk}
 use Rattle.model.specs.Schedules.{Study, study, outflowsOf}
@@ -23,7 +23,8 @@ use Rattle.model.specs.Running.{ended}
 use Rattle.model.specs.Writing.{frameFault, writingBy}
 use Rattle.model.specs.Joining.{joiningBy, joiningOf}
 use Rattle.model.specs.Meter.{wishOf, wholeBelow, lawFinite, lawOk, lawFaultOf}
-use Rattle.model.specs.Ramps.{releasedRow, unmetered, releaseOf, grantedAt, filledRow, meteredOf}
+use Rattle.model.specs.Filling.{meterStart, releaseOf, grantedAt, filledRow, meteredOf}
+use Rattle.model.specs.Put.{releasedRow}
 use Rattle.model.specs.Filling.{fillingOf, filledList}
 use Rattle.model.specs.Put.{rampOk}
 use Rattle.model.specs.Words.{vehicleSeconds, digitsOf, decimalOf}
@@ -85,7 +86,7 @@ list-kept = refl
 unfoldable pub fixed : List Law
 fixed = law.Fixed (number 0 1) ∷ law.Fixed (number 300 1) ∷ []
 
-pub entries : at (meteredOf fixed road (unmetered start) (row 300) .entries) 0 ∷ at (meteredOf fixed road (unmetered start) (row 300) .entries) 1 ∷ []
+pub entries : at (meteredOf fixed road (meterStart start) (row 300) .entries) 0 ∷ at (meteredOf fixed road (meterStart start) (row 300) .entries) 1 ∷ []
     ≡ 1500 ∷ 700 ∷ []
 unfolding fixed number round road start row
     thousandthsOf demandOf gateDemandOf supplyOf roomOf onwardOf enteringOf greatestOf outflowOf

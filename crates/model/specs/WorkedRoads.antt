@@ -6,7 +6,7 @@ use lib.ListN.{replicate}
 use Rattle.model.specs.Numbers.{oneOf, firstFrom, firstOf, firstFault, sumOf, fillOf, listOf}
 use Rattle.model.specs.Road.{totalOf}
 use Rattle.model.specs.Flow.{thousandthsOf, demandOf, gateDemandOf, supplyOf, roomOf, onwardOf, enteringOf, greatestOf, outflowOf}
-use Rattle.model.specs.Places.{capacityAt, demandAt, mostReleaseAt, shareAt, cumulativeAt}
+use Rattle.model.specs.Flow.{capacityAt, demandAt, mostReleaseAt, shareAt, cumulativeAt}
 use Rattle.model.specs.Move.{movedTo, countedOf}
 use Rattle.model.specs.Schedules.{roadAt, outflowsOf, engineAfter}
 use Rattle.model.specs.Record.{numberOf, secondsSize}
@@ -45,7 +45,7 @@ hastened speed = header 100 2 ++ (cell speed (two 3 232) 0 1 0 ++ (cell (two 3 2
 abbrev pub list : List ℕ
 list = replicate 6 0
 
-pub record Raised : Type 0 where
+pub record RaisedNumbers : Type 0 where
   -- with share 0 and with share 1000 the run is not refused, and the total is 0 and 1
   pub left : runningOf (shared (two 0 0)) [] list .number ≡ 0
   pub gone-on : runningOf (shared (two 3 232)) [] list .number ≡ 0
@@ -57,10 +57,10 @@ pub record Raised : Type 0 where
   pub step : runningOf (hastened (two 3 232)) [] list .step ≡ 1
   pub place : runningOf (hastened (two 3 232)) [] list .place ≡ 2
 
-pub raised : Raised
+pub raised-numbers : RaisedNumbers
 unfolding two four header cell row shared hastened readingBy oneOf numberOf secondsSize
     thousandthsOf demandOf gateDemandOf supplyOf roomOf onwardOf enteringOf greatestOf outflowOf
     sumOf fillOf listOf firstFrom firstOf firstFault placeOk rowOk
     capacityAt demandAt mostReleaseAt shareAt cumulativeAt movedTo countedOf outflowsOf lowestOf
     tableFault roadAt engineAfter endOf openingOf runningOf
-raised = record { left = refl; gone-on = refl; small = refl; large = refl; slow = refl; fast = refl; step = refl; place = refl }
+raised-numbers = record { left = refl; gone-on = refl; small = refl; large = refl; slow = refl; fast = refl; step = refl; place = refl }

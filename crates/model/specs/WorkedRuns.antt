@@ -7,7 +7,7 @@ use Rattle.model.specs.declared.State.{State}
 use Rattle.model.specs.Numbers.{at, oneOf, firstFrom, firstOf, firstFault, sumOf, fillOf, listOf, concatOf, rowAt, frontOf}
 use Rattle.model.specs.Road.{zeros, emptyRoad, emptyState}
 use Rattle.model.specs.Flow.{thousandthsOf, demandOf, gateDemandOf, supplyOf, roomOf, onwardOf, enteringOf, greatestOf, outflowOf}
-use Rattle.model.specs.Places.{capacityAt, demandAt, mostReleaseAt, shareAt, cumulativeAt}
+use Rattle.model.specs.Flow.{capacityAt, demandAt, mostReleaseAt, shareAt, cumulativeAt}
 use Rattle.model.specs.Move.{movedTo, countedOf, exitsOf}
 use Rattle.model.specs.Lanes.{openCapacity, lanesOk}
 use Rattle.model.specs.Schedules.{roadAt, outflowsOf, scheduleAfter, engineAfter}
@@ -18,7 +18,7 @@ use Rattle.model.specs.Reading.{readingBy, studyOf}
 use Rattle.model.specs.Stepping.{lowestOf, steppingOf, tableFault}
 use Rattle.model.specs.Running.{ended, endOf, openingOf, runningOf, stepsMade}
 use Rattle.model.specs.Judging.{outflowFaultAt, verdictOf, judgingOf}
-use Rattle.model.specs.History.{historyOf, queueAfter}
+use Rattle.model.specs.Judging.{historyOf, queueAfter}
 use Rattle.model.specs.WorkedPrinted.{past, road, start, row, built, works}
 use Rattle.model.specs.WorkedEdges.{releasedBy}
 use Rattle.model.specs.WorkedRecord.{sample, header, upstream, downstream, row as bytes}
@@ -92,10 +92,10 @@ unfolding two four raisedHeader cell raisedRow hastened readingBy oneOf numberOf
 state-before = refl
 
 -- history: the ramps' queues after each step of the schedule that sends nothing
-pub told : queueAfter sample [] still still still ≡ 0 ∷ 0 ∷ 1700 ∷ 0 ∷ 0 ∷ 1900 ∷ 0 ∷ 0 ∷ 2100 ∷ []
+pub queues-after : queueAfter sample [] still still still ≡ 0 ∷ 0 ∷ 1700 ∷ 0 ∷ 0 ∷ 1900 ∷ 0 ∷ 0 ∷ 2100 ∷ []
 unfolding sample header upstream downstream bytes readingBy oneOf numberOf secondsSize
     thousandthsOf demandOf gateDemandOf supplyOf roomOf onwardOf enteringOf greatestOf outflowOf
     sumOf fillOf listOf concatOf firstFrom firstOf firstFault placeOk rowOk
     capacityAt demandAt mostReleaseAt shareAt cumulativeAt movedTo countedOf outflowsOf lowestOf outflowFaultAt verdictOf
     tableFault roadAt scheduleAfter rowAt frontOf endOf openingOf historyOf queueAfter
-told = refl
+queues-after = refl

@@ -7,7 +7,7 @@ use lib.ListN.{length, replicate}
 use Rattle.model.specs.Numbers.{oneOf, firstFrom, firstOf, firstFault, sumOf, fillOf, listOf, rowAt}
 use Rattle.model.specs.Road.{totalOf}
 use Rattle.model.specs.Flow.{thousandthsOf, demandOf, gateDemandOf, supplyOf, roomOf, onwardOf, enteringOf, greatestOf, outflowOf}
-use Rattle.model.specs.Places.{capacityAt, demandAt, mostReleaseAt, shareAt, cumulativeAt}
+use Rattle.model.specs.Flow.{capacityAt, demandAt, mostReleaseAt, shareAt, cumulativeAt}
 use Rattle.model.specs.Move.{movedTo, countedOf, exitsOf}
 use Rattle.model.specs.Lanes.{openCapacity, lanesOk}
 use Rattle.model.specs.Schedules.{roadAt, tableSize, outflowsOf, scheduleAfter, engineAfter}

@@ -4,7 +4,7 @@ use mathlib.Core.List.{[], _∷_}
 use Prim.Native.Nat.{ℕ}
 use Rattle.model.specs.Numbers.{at, oneOf, firstFrom, firstOf, firstFault, sumOf, fillOf, listOf, rowAt}
 use Rattle.model.specs.Flow.{thousandthsOf, demandOf, gateDemandOf, supplyOf, roomOf, onwardOf, enteringOf, greatestOf, outflowOf}
-use Rattle.model.specs.Places.{capacityAt, demandAt, mostReleaseAt, shareAt, cumulativeAt}
+use Rattle.model.specs.Flow.{capacityAt, demandAt, mostReleaseAt, shareAt, cumulativeAt}
 use Rattle.model.specs.Move.{movedTo, countedOf}
 use Rattle.model.specs.Schedules.{roadAt, outflowsOf, scheduleAfter, engineAfter}
 use Rattle.model.specs.Weights.{weightedPresent, weightedTotal, weightedTotalOfRun, weightedTotalOfSchedule}
@@ -20,18 +20,18 @@ use Rattle.model.specs.WorkedSchedule.{still}
 abbrev pub rising : ℕ → ℕ
 rising = at (0 ∷ 200 ∷ 255 ∷ [])
 
-abbrev pub unweighed : ℕ → ℕ
-unweighed i = 0
+abbrev pub zeroWeights : ℕ → ℕ
+zeroWeights i = 0
 
 -- the engine's total is larger than that of the schedule that sends nothing, which keeps vehicles at the gate, where the weight is 0
-pub record Beaten : Type 0 where
-  pub engine : weightedTotalOfRun rising unweighed sample [] still ≡ 4833200
-  pub schedule : weightedTotalOfSchedule rising unweighed (studyOf sample []) still 3 ≡ 4719000
+pub record ScheduleWeighsLess : Type 0 where
+  pub engine : weightedTotalOfRun rising zeroWeights sample [] still ≡ 4833200
+  pub schedule : weightedTotalOfSchedule rising zeroWeights (studyOf sample []) still 3 ≡ 4719000
 
-pub beaten : Beaten
+pub schedule-weighs-less : ScheduleWeighsLess
 unfolding sample header upstream downstream row readingBy oneOf numberOf secondsSize
     thousandthsOf demandOf gateDemandOf supplyOf roomOf onwardOf enteringOf greatestOf outflowOf
     sumOf fillOf listOf firstFrom firstOf firstFault placeOk rowOk
     capacityAt demandAt mostReleaseAt shareAt cumulativeAt movedTo countedOf outflowsOf lowestOf
     tableFault roadAt scheduleAfter engineAfter rowAt endOf openingOf runningOf weightedPresent weightedTotal weightedTotalOfRun
-beaten = record { engine = refl; schedule = refl }
+schedule-weighs-less = record { engine = refl; schedule = refl }

@@ -90,16 +90,16 @@ all-fails f n i l e = go (allOf f n) refl
     go false h = refl
 
 -- a loop over the numbers below n that has found no failure before i
-pub record Passed (f : ℕ → Bool) (n i : ℕ) : Type 0 where
+pub record PassedTests (f : ℕ → Bool) (n i : ℕ) : Type 0 where
   pub within : i ≤ n
   pub before : (j : ℕ) → j < i → f j ≡ true
 
 module _ {f : ℕ → Bool} {n : ℕ} where
-  pub passed-none : Passed f n 0
+  pub passed-none : PassedTests f n 0
   passed-none = record { within = omega arith; before = below-none _ }
 
-  module _ {i : ℕ} (h : Passed f n i) where
-    pub passed-more : {b : Bool} → i < n → b ≡ f i → b ≡ true → Passed f n (i + 1)
+  module _ {i : ℕ} (h : PassedTests f n i) where
+    pub passed-more : {b : Bool} → i < n → b ≡ f i → b ≡ true → PassedTests f n (i + 1)
     passed-more l e t = record { within = omega arith; before = below-more _ _ (h .before) (sym e ∙ t) }
 
     -- it ends at the first failure, or without one
@@ -147,7 +147,7 @@ module _ {f : ℕ → ℕ} {n : ℕ} where
     pub faultless-more : {m : ℕ} → i < n → m ≡ f i → m ≡ 0 → Faultless f n (i + 1)
     faultless-more l e z = record { within = omega arith; before = below-more _ _ (h .before) (sym e ∙ z) }
 
-    tests : Passed (λ j. eqb (f j) 0) n i
+    tests : PassedTests (λ j. eqb (f j) 0) n i
     tests = record { within = h .within; before = λ j l. eq-eqb (f j) 0 (h .before j l) }
 
     -- it ends at the first fault, or without one

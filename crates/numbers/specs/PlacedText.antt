@@ -52,19 +52,19 @@ placed-turn list at text i l =
     ∙ ap (placed list at) (sym (take-suc text i 0 l) ∙ ap (λ (k : ℕ). take k text) (sym (add-one i)))
 
 -- the loop that copies a text: its first i bytes are placed
-pub record Copied (a : List ℕ) (at : ℕ) (text b : List ℕ) (i : ℕ) : Type 0 where
+pub record CopiedText (a : List ℕ) (at : ℕ) (text b : List ℕ) (i : ℕ) : Type 0 where
   pub within : i ≤ length text
   pub bytes : b ≡ placed a at (take i text)
 
 module _ {a : List ℕ} {at : ℕ} {text : List ℕ} where
-  pub copied-none : Copied a at text a 0
+  pub copied-none : CopiedText a at text a 0
   copied-none = record { within = omega arith; bytes = sym (placed-none a at) }
 
-  module _ {b : List ℕ} {i : ℕ} (h : Copied a at text b i) where
+  module _ {b : List ℕ} {i : ℕ} (h : CopiedText a at text b i) where
     pub copied-length : length b ≡ length a
     copied-length = ap length (h .bytes) ∙ length-placed a at (take i text)
 
-    pub copied-more : i < length text → Copied a at text (set b (at + i) (getD text i 0)) (i + 1)
+    pub copied-more : i < length text → CopiedText a at text (set b (at + i) (getD text i 0)) (i + 1)
     copied-more l = record {
       within = omega arith;
       bytes = ap (λ (q : List ℕ). set q (at + i) (getD text i 0)) (h .bytes) ∙ placed-turn a at text i l;

@@ -57,13 +57,13 @@ sum-set l i x h =
     ∙ ap (λ (k : ℕ). sumOf (take i l) + k) (sum-one (x ∷ []) refl)
 
 -- a loop that stores a row of 32-bit numbers has added the first i of them
-pub record Summed (row : List ℕ) (sum i : ℕ) : Type 0 where
+pub record SummedRow (row : List ℕ) (sum i : ℕ) : Type 0 where
   pub is : sum ≡ sumOf (take i row)
   pub fits : sum ≤ (2 ^ 32 - 1) * i
 
-pub summed-none : {row : List ℕ} → Summed row 0 0
+pub summed-none : {row : List ℕ} → SummedRow row 0 0
 summed-none {row} = record { is = sym (sum-start row); fits = omega arith }
 
-pub summed-more : {row : List ℕ} {sum i : ℕ} → Summed row sum i → i < length row → {x y : ℕ} → y ≡ x → x ≤ 2 ^ 32 - 1
-    → Summed (set row i x) (sum + y) (i + 1)
+pub summed-more : {row : List ℕ} {sum i : ℕ} → SummedRow row sum i → i < length row → {x y : ℕ} → y ≡ x → x ≤ 2 ^ 32 - 1
+    → SummedRow (set row i x) (sum + y) (i + 1)
 summed-more {row} {i = i} h l {x} e m = record { is = omega (arith, sum-set row i x l, h .is); fits = omega (arith, h .fits) }

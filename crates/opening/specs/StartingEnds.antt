@@ -12,7 +12,7 @@ use Rattle.model.specs.Reading.{ReadAnswer, refusedOf, acceptedOf, readingOf}
 use Rattle.model.specs.Running.{openingOf}
 use Rattle.model.specs.GoingOn.{studyFrom, stateFault}
 use Rattle.theory.specs.Opening.{opened-reads}
-use Rattle.theory.specs.Started.{startingOf, starting-unopened, starting-refused, starting-starts}
+use Rattle.theory.specs.StartingState.{startingOf, starting-unopened, starting-refused, starting-starts}
 
 -- x is opening's answer
 module _ (bytes lanes : List ℕ) (s : State) {x : ReadAnswer} (ex : x ≡ openingOf bytes lanes) where

@@ -15,7 +15,7 @@ ghost use mathlib.Core.Bool.{true};
 ghost use Prim.Native.Nat.{_+_};
 ghost use lib.Dec.{leb};
 ghost use Rattle.model.specs.Numbers.{unless};
-ghost use Rattle.theory.specs.Started.{startingOf};
+ghost use Rattle.theory.specs.StartingState.{startingOf};
 
 fn made(refusal: Refusal, place: usize) -> Fault
     ensures { λ q. ⌜ faultAnswer q ≡ fault (refusalNumber refusal) place ⌝ }

@@ -6,10 +6,10 @@ use Rattle.model.specs.Flow.{whole, gateDemandOf, demandOf}
 use Rattle.model.specs.declared.Road.{Road}
 use Rattle.model.specs.declared.State.{State}
 use Rattle.model.specs.Numbers.{at}
-use Rattle.model.specs.Places.{capacityAt, demandAt, shareAt, cumulativeAt}
+use Rattle.model.specs.Flow.{capacityAt, demandAt, shareAt, cumulativeAt}
 use Rattle.theory.specs.RulesLaws.{share-cell, cumulative-cell, demand-cell}
 
-pub record Carried (r : Road) (s : State) (share cumulative demand i : ℕ) : Type 0 where
+pub record CarriedValues (r : Road) (s : State) (share cumulative demand i : ℕ) : Type 0 where
   pub within : i ≤ r .n
   pub shares : share ≡ shareAt r i
   pub cumulatives : cumulative ≡ cumulativeAt s i
@@ -17,14 +17,14 @@ pub record Carried (r : Road) (s : State) (share cumulative demand i : ℕ) : Ty
 
 -- the values at the gate
 pub carried-gate : (r : Road) (s : State) (demand : ℕ) → demand ≡ gateDemandOf (r .«gate_capacity») (s .«gate_queue»)
-    → Carried r s whole (s .«gate_cumulative») demand 0
+    → CarriedValues r s whole (s .«gate_cumulative») demand 0
 unfolding shareAt cumulativeAt demandAt
 carried-gate r s demand e = record { within = omega arith; shares = refl; cumulatives = refl; demands = e }
 
 -- the values after the cell at i
 pub carried-cell : (r : Road) (s : State) (i demand : ℕ) → i < r .n
     → demand ≡ demandOf (at (r .speed) i) (at (r .capacity) i) (at (s .held) i)
-    → Carried r s (at (r .share) i) (at (s .cumulative) i) demand (i + 1)
+    → CarriedValues r s (at (r .share) i) (at (s .cumulative) i) demand (i + 1)
 unfolding capacityAt
 carried-cell r s i demand l e = record {
   within = omega arith;

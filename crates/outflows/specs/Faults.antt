@@ -6,7 +6,7 @@ use Rattle.model.specs.Flow.{supplyOf}
 use Rattle.model.specs.declared.Road.{Road}
 use Rattle.model.specs.declared.State.{State}
 use Rattle.model.specs.Numbers.{at}
-use Rattle.model.specs.Places.{arrivalsAt, releaseAt, capacityAt, mostReleaseAt}
+use Rattle.model.specs.Flow.{arrivalsAt, releaseAt, capacityAt, mostReleaseAt}
 use Rattle.model.specs.Stepping.{releaseFault, releaseFaultAt}
 
 -- the fault at a cell, from the supply and the greatest release that the code computes and the number of its refusal

@@ -10,9 +10,9 @@ use Rattle.model.specs.Numbers.{fillOf, listOf, at}
 use Rattle.numbers.specs.RowsLaws.{fill-more, fill-list, length-list}
 use Rattle.model.specs.declared.Road.{Road}
 use Rattle.model.specs.declared.State.{State}
-use Rattle.model.specs.Places.{roomAt, demandAt, shareAt, cumulativeAt, outflowAt}
+use Rattle.model.specs.Flow.{roomAt, demandAt, shareAt, cumulativeAt, outflowAt}
 use Rattle.model.specs.Schedules.{outflowsOf}
-use Rattle.outflows.specs.CarriedValues.{Carried, carried-gate, carried-cell}
+use Rattle.outflows.specs.CarriedValues.{CarriedValues, carried-gate, carried-cell}
 
 -- the outflow of one more place
 outflows-more : (r : Road) (s : State) (row l : List ℕ) (i : ℕ) (y : List ℕ) (share cumulative demand room z : ℕ)
@@ -41,7 +41,7 @@ outflows-end r s row l i y demand e long ey ed =
 
 -- the loop over the places has filled the first i of them
 pub record FilledOutflows (r : Road) (s : State) (row l y : List ℕ) (share cumulative demand i : ℕ) : Type 0 where
-  pub carried : Carried r s share cumulative demand i
+  pub carried : CarriedValues r s share cumulative demand i
   pub filled : y ≡ fillOf (outflowAt r s row) i l
   pub places : length y ≡ r .n + 1
 

@@ -19,7 +19,7 @@ use Rattle.limits.specs.LimitsLaws.{InputOk}
 use Rattle.model.specs.Limits.{mostQueue, mostCumulative, mostTotal}
 use Rattle.outflows.specs.Columns.{sending}
 use Rattle.numbers.specs.Tests.{order}
-use Rattle.model.specs.Places.{gateArrivals, releaseAt, roomAt, demandAt, shareAt, cumulativeAt, enteringAt, outflowAt}
+use Rattle.model.specs.Flow.{gateArrivals, releaseAt, roomAt, demandAt, shareAt, cumulativeAt, enteringAt, outflowAt}
 use Rattle.model.specs.Schedules.{outflowsOf}
 use Rattle.theory.specs.RulesLaws.{share-cell, cumulative-cell, length-outflows, outflows-at, outflows-last, demand-at-cell}
 use Rattle.model.specs.Move.{heldOf, queueOf, cumulativeOf, movedTo, countedOf, nextOf}

@@ -12,8 +12,8 @@ use Rattle.model.specs.declared.Road.{Road}
 use Rattle.model.specs.declared.State.{State}
 use Rattle.limits.specs.LimitsLaws.{InputOk}
 use Rattle.model.specs.Record.{rowSize}
-use Rattle.model.specs.Places.{arrivalsAt, releaseAt, supplyAt, mostReleaseAt}
-use Rattle.model.specs.Schedules.{Released}
+use Rattle.model.specs.Flow.{arrivalsAt, releaseAt, supplyAt, mostReleaseAt}
+use Rattle.model.specs.Schedules.{ReleasesFit}
 use Rattle.theory.specs.RulesLaws.{Sized}
 use Rattle.model.specs.Move.{queueOf}
 use Rattle.outflows.specs.Rooms.{Rooms}
@@ -35,7 +35,7 @@ pub record Fittable (bytes : List ℕ) (start : ℕ) (q : Road) (s : State) (row
 
 -- what it finds where they fit
 pub record Fitting (q : Road) (s : State) (row : List ℕ) (ramps : ℕ) (cell room₀ release₀ waiting₀ room release waiting : List ℕ) : Type 0 where
-  pub released : Released q s row
+  pub released : ReleasesFit q s row
   pub rooms : Rooms q s row room
   pub releases : (k : ℕ) → k < ramps → at release k ≡ releaseAt row (at cell k)
   pub waits : (k : ℕ) → k < ramps → at waiting k ≡ queueOf s row (at cell k)
@@ -46,7 +46,7 @@ pub record Fitting (q : Road) (s : State) (row : List ℕ) (ramps : ℕ) (cell r
 -- what it finds
 pub record FitFound (ok : Bool) (q : Road) (s : State) (row : List ℕ) (ramps : ℕ) (cell room₀ release₀ waiting₀ room release waiting : List ℕ) : Type 0 where
   pub yes : ok ≡ true → Fitting q s row ramps cell room₀ release₀ waiting₀ room release waiting
-  pub no : ok ≡ false → Released q s row → ⊥
+  pub no : ok ≡ false → ReleasesFit q s row → ⊥
 
 module _ {bytes : List ℕ} {start : ℕ} {q : Road} {s : State} {row : List ℕ} {ramps : ℕ} {cell room₀ release₀ waiting₀ : List ℕ}
     (k : Fittable bytes start q s row ramps cell room₀ release₀ waiting₀) where
@@ -101,7 +101,7 @@ module _ {bytes : List ℕ} {start : ℕ} {q : Road} {s : State} {row : List ℕ
         sameWaiting = t .sameWaiting;
       }
 
-      fits-all : Released q s row → (i : ℕ) → i < q .n → Fits bytes start (s .queue) room₁ i
+      fits-all : ReleasesFit q s row → (i : ℕ) → i < q .n → Fits bytes start (s .queue) room₁ i
       unfolding mostReleaseAt
       fits-all r i l = record {
         ramp = omega (arith, r .queue i l, k .arrivals i l, k .releases i l);

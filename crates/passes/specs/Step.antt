@@ -15,7 +15,7 @@ use Rattle.outflows.specs.Columns.{roadOf}
 use Rattle.limits.specs.LimitsLaws.{InputOk}
 use Rattle.model.specs.Record.{numberOf, versionOf, rowStart, recordRow}
 use Rattle.fields.specs.FieldsLaws.{HoldsRow, row-at}
-use Rattle.model.specs.Places.{gateArrivals, arrivalsAt, releaseAt}
+use Rattle.model.specs.Flow.{gateArrivals, arrivalsAt, releaseAt}
 use Rattle.theory.specs.RulesLaws.{Sized}
 use Rattle.model.specs.Schedules.{outflowsOf}
 use Rattle.model.specs.Move.{nextOf}

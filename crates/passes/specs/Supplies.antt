@@ -10,7 +10,7 @@ use Rattle.numbers.specs.RowsLaws.{fill-more}
 use Rattle.model.specs.declared.Road.{Road}
 use Rattle.model.specs.declared.State.{State}
 use Rattle.model.specs.Road.{mostCells, mostRate}
-use Rattle.model.specs.Places.{capacityAt, supplyAt, demandAt}
+use Rattle.model.specs.Flow.{capacityAt, supplyAt, demandAt}
 use Rattle.passes.specs.Rest.{product-most}
 
 -- the supply and the demand of the cell at i, of columns

@@ -13,7 +13,7 @@ use Rattle.numbers.specs.Concat.{at-first, at-second}
 use Rattle.numbers.specs.PlacedText.{placed-there, length-placed}
 use Rattle.model.specs.Record.{numberSize, numberOf, bytesOf}
 use Rattle.fields.specs.BytesLaws.{length-bytes, number-same, field-number}
-use Rattle.model.specs.Filling.{Outside}
+use Rattle.model.specs.Put.{Outside}
 
 -- the v bytes from j on and the w bytes from i on do not overlap
 abbrev pub Apart : ℕ → ℕ → ℕ → ℕ → Type 0

@@ -62,32 +62,32 @@ pub facts-rates : (step T release : ℕ) → step < T → release ≤ mostRate �
 facts-rates step T release l m = both-true (ltb step T) (leb release mostRate) (lt-ltb step T l) (le-leb release mostRate m)
 
 -- putting's answer, and the record that it leaves
-pub record Left (bytes : List ℕ) (step cell release : ℕ) (a : FaultAnswer) (left : List ℕ) : Type 0 where
+pub record PutOutcome (bytes : List ℕ) (step cell release : ℕ) (a : FaultAnswer) (left : List ℕ) : Type 0 where
   pub says : a ≡ puttingOf bytes step cell release
   pub leaves : left ≡ releasedRecord bytes step cell release
 
 -- an answer with a refusal leaves the record unchanged; one without puts the release
 left-refused : (bytes : List ℕ) (step cell release : ℕ) (a : FaultAnswer) → (a .number ≡ 0 → ⊥) → a ≡ puttingOf bytes step cell release
-    → Left bytes step cell release a bytes
+    → PutOutcome bytes step cell release a bytes
 unfolding releasedRecord
 left-refused bytes step cell release a n e = record { says = e; leaves = rw (← e, ne-eqb (a .number) 0 n) }
 
 module _ (bytes : List ℕ) (step cell release : ℕ) {x : ReadAnswer} (e : x ≡ readingOf bytes) where
-  pub ends-unread : (x .number ≡ 0 → ⊥) → Left bytes step cell release (fault (x .number) (x .place)) bytes
+  pub ends-unread : (x .number ≡ 0 → ⊥) → PutOutcome bytes step cell release (fault (x .number) (x .place)) bytes
   unfolding puttingOf
   ends-unread n = left-refused bytes step cell release (fault (x .number) (x .place)) n (rw (← e, ne-eqb (x .number) 0 n))
 
   module _ (z : x .number ≡ 0) where
-    pub ends-ramp : rampOk (x .road .ramp) (x .road .n) cell ≡ false → Left bytes step cell release (fault 5 cell) bytes
+    pub ends-ramp : rampOk (x .road .ramp) (x .road .n) cell ≡ false → PutOutcome bytes step cell release (fault 5 cell) bytes
     unfolding puttingOf
     ends-ramp f = left-refused bytes step cell release (fault 5 cell) (λ k. omega arith) (rw (← e, eq-eqb (x .number) 0 z, f) refl)
 
     module _ (r : rampOk (x .road .ramp) (x .road .n) cell ≡ true) where
-      pub ends-rates : stepAndRateOk step (x .steps) release ≡ false → Left bytes step cell release (fault 6 step) bytes
+      pub ends-rates : stepAndRateOk step (x .steps) release ≡ false → PutOutcome bytes step cell release (fault 6 step) bytes
       unfolding puttingOf
       ends-rates f = left-refused bytes step cell release (fault 6 step) (λ k. omega arith) (rw (← e, eq-eqb (x .number) 0 z, r, f) refl)
 
       pub ends-put : stepAndRateOk step (x .steps) release ≡ true
-          → Left bytes step cell release (fault 0 0) (releasedAt bytes (x .road .n) step cell release)
+          → PutOutcome bytes step cell release (fault 0 0) (releasedAt bytes (x .road .n) step cell release)
       unfolding puttingOf releasedRecord
       ends-put f = record { says = rw (← e, eq-eqb (x .number) 0 z, r, f); leaves = rw (← e, eq-eqb (x .number) 0 z, r, f) }

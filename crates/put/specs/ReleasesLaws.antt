@@ -11,8 +11,8 @@ use Rattle.model.specs.Numbers.{at}
 use Rattle.numbers.specs.PlacedText.{length-placed}
 use Rattle.model.specs.Record.{numberSize, versionOffset, versionOf, rowSize, rowStart, bytesOf, entryStart, entryOf, recordRow}
 use Rattle.fields.specs.FieldsLaws.{HoldsRow, length-row, row-at, row-within}
-use Rattle.model.specs.Ramps.{putEntry, releaseNumber, putReleases, putTable, releasedRow}
-use Rattle.model.specs.Filling.{Outside}
+use Rattle.model.specs.Put.{putEntry, releaseNumber, putReleases, putTable, releasedRow}
+use Rattle.model.specs.Put.{Outside}
 use Rattle.put.specs.Bytes.{Apart, compare, byte-other, number-placed, number-apart, zero-placed}
 use Rattle.model.specs.Put.{Put}
 

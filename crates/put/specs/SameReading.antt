@@ -22,7 +22,7 @@ use Rattle.limits.specs.LimitsLaws.{place-ok}
 use Rattle.model.specs.Reading.{cellsOf, stepsOf, sizeOf, bothVersions, leastSize, cellsAndStepsOk, secondsOk, callerOk, ReadAnswer, roadOf, startOf, stepOk, refusedOf}
 use Rattle.model.specs.Reading.{acceptedOf, readingBy, readingOf}
 use Rattle.reading.specs.Headers.{Header}
-use Rattle.reading.specs.Cases.{Accepted, Found, read-found, early-refused, reads}
+use Rattle.reading.specs.Cases.{AcceptedRecord, ReadingEnds, read-found, early-refused, reads}
 
 -- the first row that is not within the limits
 abbrev rowsFirst : List ℕ → ℕ
@@ -123,7 +123,7 @@ module _ (s u : List ℕ) (head : (b : ℕ) → b < rowStart (versionOf s) (cell
       ∙ ap (λ (x : State). answerBy (length s) (numberOf s 0 countSize) (versionOf s) (cellsOf s) (stepsOf s) (secondsOf s) (roadOf s) x (rowsFirst u)) start-same
       ∙ ap (answerBy (length s) (numberOf s 0 countSize) (versionOf s) (cellsOf s) (stepsOf s) (secondsOf s) (roadOf s) (startOf s)) (rows-first h)
 
-  reading-same : Accepted s (stepsOf s) (roadOf s) (startOf s) → length u ≡ length s → ((t : ℕ) → t < stepsOf s → stepOk u (roadOf s) t ≡ true)
+  reading-same : AcceptedRecord s (stepsOf s) (roadOf s) (startOf s) → length u ≡ length s → ((t : ℕ) → t < stepsOf s → stepOk u (roadOf s) t ≡ true)
       → readingOf u ≡ acceptedOf (stepsOf s) (roadOf s) (startOf s)
   reading-same w size rows =
       reads (header-same (w .header) size) (λ p l. rw (road-same, start-same) (place-ok (roadOf s) (startOf s) (w .road) (w .state) p l))
@@ -135,12 +135,12 @@ abbrev RowsOk : List ℕ → ReadAnswer → Type 0
 RowsOk u a = (t : ℕ) → t < a .steps → rowOk (a .road .ramp) (a .road .n) (recordRow u (a .road .n) t) ≡ true
 
 module _ (s u : List ℕ) (size : length u ≡ length s) where
-  found-same : {a : ReadAnswer} → Found s a → a .number ≡ 0 → ((b : ℕ) → b < rowStart (versionOf s) (a .road .n) 0 → at u b ≡ at s b) → RowsOk u a
+  found-same : {a : ReadAnswer} → ReadingEnds s a → a .number ≡ 0 → ((b : ℕ) → b < rowStart (versionOf s) (a .road .n) 0 → at u b ≡ at s b) → RowsOk u a
       → readingOf u ≡ a
-  found-same (Found.early k l) h head rows = absurd (early-refused l h)
-  found-same (Found.atPlace p l) h head rows = absurd (omega arith)
-  found-same (Found.atStep t l) h head rows = absurd (omega arith)
-  found-same (Found.clear w) h head rows = reading-same s u head w size rows
+  found-same (ReadingEnds.early k l) h head rows = absurd (early-refused l h)
+  found-same (ReadingEnds.atPlace p l) h head rows = absurd (omega arith)
+  found-same (ReadingEnds.atStep t l) h head rows = absurd (omega arith)
+  found-same (ReadingEnds.clear w) h head rows = reading-same s u head w size rows
 
   -- replacing the rows by rows within the limits does not change the answer
   pub rows-replaced : readingOf s .number ≡ 0 → ((b : ℕ) → b < rowStart (versionOf s) (readingOf s .road .n) 0 → at u b ≡ at s b) → RowsOk u (readingOf s)

@@ -18,13 +18,13 @@ use Rattle.model.specs.Refusals.{FaultAnswer, fault}
 use Rattle.model.specs.Record.{rowSize, recordRow}
 use Rattle.limits.specs.LimitsLaws.{RowOk, row-ok}
 use Rattle.model.specs.Reading.{readingOf}
-use Rattle.reading.specs.Cases.{Accepted}
+use Rattle.reading.specs.Cases.{AcceptedRecord}
 use Rattle.reading.specs.Within.{read-within, read-row}
 use Rattle.put.specs.Bytes.{compare}
-use Rattle.model.specs.Put.{Put, rampOk, stepAndRateOk, releasedAt, puttingOf, releasedRecord, Ramp, PutRequest, Stands, PutEnds}
+use Rattle.model.specs.Put.{Put, rampOk, stepAndRateOk, releasedAt, puttingOf, releasedRecord, Ramp, PutRequest, ReleasePut, PutEnds}
 use Rattle.put.specs.ReleasesLaws.{put-entry}
 use Rattle.put.specs.SameReading.{rows-replaced}
-use Rattle.put.specs.PutLaws.{ramp-facts, facts-ramp, rates-facts, facts-rates, Left}
+use Rattle.put.specs.PutLaws.{ramp-facts, facts-ramp, rates-facts, facts-rates, PutOutcome}
 
 -- a row within its limits stays within them if a ramp's release is put into it
 module _ (r : Road) (row : List ℕ) (h : RowOk r row) (cell x : ℕ) (ramp : Ramp (r .ramp) (r .n) cell) (l : x ≤ mostRate) where
@@ -54,35 +54,35 @@ module _ (r : Road) (row : List ℕ) (h : RowOk r row) (cell x : ℕ) (ramp : Ra
     noRelease = λ i m z. release i m .1 z;
   }
 
-module _ (bytes : List ℕ) (step cell release : ℕ) (asked : PutRequest bytes step cell release) where
+module _ (bytes : List ℕ) (step cell release : ℕ) (request : PutRequest bytes step cell release) where
   abbrev n : ℕ
   n = readingOf bytes .road .n
 
   abbrev after : List ℕ
   after = releasedAt bytes n step cell release
 
-  accepted : Accepted bytes (readingOf bytes .steps) (readingOf bytes .road) (readingOf bytes .state)
-  accepted = read-within bytes (readingOf bytes) refl (asked .reads)
+  accepted : AcceptedRecord bytes (readingOf bytes .steps) (readingOf bytes .road) (readingOf bytes .state)
+  accepted = read-within bytes (readingOf bytes) refl (request .reads)
 
   is-put : Put bytes after n step (2 * cell) release
   is-put =
-      put-entry bytes n step (2 * cell) release (omega (arith, asked .ramp .within))
-      (read-row bytes (readingOf bytes) refl (asked .reads) step (asked .before)) (omega (arith, asked .rate))
+      put-entry bytes n step (2 * cell) release (omega (arith, request .ramp .within))
+      (read-row bytes (readingOf bytes) refl (request .reads) step (request .before)) (omega (arith, request .rate))
 
   row-within : (t : ℕ) → t < readingOf bytes .steps → RowOk (readingOf bytes .road) (recordRow after n t)
   row-within t l = ⊎-elim
       (λ (e : t ≡ step).
-      rw (e, is-put .row) (row-with (readingOf bytes .road) (recordRow bytes n step) (accepted .row step (asked .before)) cell release (asked .ramp) (asked .rate)))
+      rw (e, is-put .row) (row-with (readingOf bytes .road) (recordRow bytes n step) (accepted .row step (request .before)) cell release (request .ramp) (request .rate)))
       (λ (o : (t < step) ⊎ (step < t)).
       let d : t ≡ step → ⊥ = λ e. ⊎-elim (λ (a : t < step). omega arith) (λ (a : step < t). omega arith) o in
       rw (is-put .rows t d) (accepted .row t l))
       (compare t step)
 
-  stands : Stands bytes after step cell release
-  stands = record {
+  release-put : ReleasePut bytes after step cell release
+  release-put = record {
     put = is-put;
     reads =
-        rows-replaced bytes after (is-put .size) (asked .reads)
+        rows-replaced bytes after (is-put .size) (request .reads)
         (λ b l. is-put .byte b (inl (omega (arith, mul-le-mul-right {m = 0} {n = step} (rowSize n) (omega arith)))))
         (λ t l. row-ok (readingOf bytes .road) (recordRow after n t) (accepted .road) (row-within t l));
   }
@@ -108,36 +108,36 @@ module _ (bytes : List ℕ) (step cell release : ℕ) where
       let ramp = ramp-facts (r .ramp) (r .n) cell f in
       unless-elim End (stepAndRateOk step T release) (λ g. PutEnds.noRate reads ramp (λ l m. never (facts-rates step T release l m) g)) (λ g.
       let rates = rates-facts step T release g in
-      let asked : PutRequest bytes step cell release = record { reads = reads; ramp = ramp; before = rates .0; rate = rates .1 } in
-      PutEnds.put asked (stands bytes step cell release asked))))
+      let request : PutRequest bytes step cell release = record { reads = reads; ramp = ramp; before = rates .0; rate = rates .1 } in
+      PutEnds.put request (release-put bytes step cell release request))))
 
 -- an answer and a record that the definitions give are one of the cases, so a contract may promise all three
-pub ended : (bytes : List ℕ) (step cell release : ℕ) {a : FaultAnswer} {left : List ℕ} → Left bytes step cell release a left
+pub ended : (bytes : List ℕ) (step cell release : ℕ) {a : FaultAnswer} {left : List ℕ} → PutOutcome bytes step cell release a left
     → (a ≡ puttingOf bytes step cell release) × ((left ≡ releasedRecord bytes step cell release) × PutEnds bytes step cell release a left)
 ended bytes step cell release h = (h .says, (h .leaves, rw (h .says, h .leaves) (ends bytes step cell release)))
 
 -- 2: without a refusal the release is there and nothing else changes
-put-stands : {bytes : List ℕ} {step cell release : ℕ} {a : FaultAnswer} {after : List ℕ} → PutEnds bytes step cell release a after → a .number ≡ 0
-    → PutRequest bytes step cell release × Stands bytes after step cell release
-put-stands (PutEnds.unread h) e = absurd (h e)
-put-stands (PutEnds.noRamp q h) e = absurd (omega arith)
-put-stands (PutEnds.noRate q p h) e = absurd (omega arith)
-put-stands (PutEnds.put asked s) e = (asked, s)
+put-leaves : {bytes : List ℕ} {step cell release : ℕ} {a : FaultAnswer} {after : List ℕ} → PutEnds bytes step cell release a after → a .number ≡ 0
+    → PutRequest bytes step cell release × ReleasePut bytes after step cell release
+put-leaves (PutEnds.unread h) e = absurd (h e)
+put-leaves (PutEnds.noRamp q h) e = absurd (omega arith)
+put-leaves (PutEnds.noRate q p h) e = absurd (omega arith)
+put-leaves (PutEnds.put request s) e = (request, s)
 
 pub puts : (bytes : List ℕ) (step cell release : ℕ) → puttingOf bytes step cell release .number ≡ 0
-    → PutRequest bytes step cell release × Stands bytes (releasedRecord bytes step cell release) step cell release
-puts bytes step cell release = put-stands (ends bytes step cell release)
+    → PutRequest bytes step cell release × ReleasePut bytes (releasedRecord bytes step cell release) step cell release
+puts bytes step cell release = put-leaves (ends bytes step cell release)
 
 -- there is no refusal exactly if all of these conditions hold
-asked-put : {bytes : List ℕ} {step cell release : ℕ} {a : FaultAnswer} {after : List ℕ} → PutEnds bytes step cell release a after → PutRequest bytes step cell release
+request-puts : {bytes : List ℕ} {step cell release : ℕ} {a : FaultAnswer} {after : List ℕ} → PutEnds bytes step cell release a after → PutRequest bytes step cell release
     → a ≡ fault 0 0
-asked-put (PutEnds.unread h) q = absurd (h (q .reads))
-asked-put (PutEnds.noRamp z h) q = absurd (h (q .ramp))
-asked-put (PutEnds.noRate z p h) q = absurd (h (q .before) (q .rate))
-asked-put (PutEnds.put asked s) q = refl
+request-puts (PutEnds.unread h) q = absurd (h (q .reads))
+request-puts (PutEnds.noRamp z h) q = absurd (h (q .ramp))
+request-puts (PutEnds.noRate z p h) q = absurd (h (q .before) (q .rate))
+request-puts (PutEnds.put request s) q = refl
 
 pub put-if : (bytes : List ℕ) (step cell release : ℕ) → PutRequest bytes step cell release → puttingOf bytes step cell release ≡ fault 0 0
-put-if bytes step cell release = asked-put (ends bytes step cell release)
+put-if bytes step cell release = request-puts (ends bytes step cell release)
 
 -- 3: a refusal leaves the record unchanged
 refused-left : {bytes : List ℕ} {step cell release : ℕ} {a : FaultAnswer} {after : List ℕ} → PutEnds bytes step cell release a after → (a .number ≡ 0 → ⊥)
@@ -145,7 +145,7 @@ refused-left : {bytes : List ℕ} {step cell release : ℕ} {a : FaultAnswer} {a
 refused-left (PutEnds.unread h) n = refl
 refused-left (PutEnds.noRamp q h) n = refl
 refused-left (PutEnds.noRate q p h) n = refl
-refused-left (PutEnds.put asked s) n = absurd (n refl)
+refused-left (PutEnds.put request s) n = absurd (n refl)
 
 pub refused-unchanged : (bytes : List ℕ) (step cell release : ℕ) → (puttingOf bytes step cell release .number ≡ 0 → ⊥)
     → releasedRecord bytes step cell release ≡ bytes

@@ -18,31 +18,32 @@ use Rattle.model.specs.Limits.{mostQueue, mostCumulative}
 use Rattle.limits.specs.LimitsLaws.{RowOk}
 use Rattle.model.specs.Record.{numberSize, bytesOf, numberOf, versionOf, rowSize, rowStart, recordRow}
 use Rattle.fields.specs.FieldsLaws.{HoldsRow, row-at}
-use Rattle.fields.specs.BytesStored.{Stored}
+use Rattle.fields.specs.BytesStored.{StoredBytes}
 use Rattle.model.specs.declared.Law.{Law}
 use Rattle.model.specs.Meter.{wishOf, wholeBelow, lawAt}
 use Rattle.meter.specs.LawColumns.{lawIn, InColumns}
-use Rattle.model.specs.Places.{arrivalsAt, releaseAt, mostReleaseAt, supplyAt}
+use Rattle.model.specs.Flow.{arrivalsAt, releaseAt, mostReleaseAt, supplyAt}
 use Rattle.model.specs.Move.{queueOf}
 use Rattle.outflows.specs.declared.Ledger.{Ledger}
 use Rattle.outflows.specs.Columns.{stateOf}
 use Rattle.stepping.specs.StepNeeds.{Steppable}
 use Rattle.outflows.specs.Rooms.{Rooms}
-use Rattle.model.specs.Ramps.{releaseNumber, putEntry, putReleases, Metered, metered, wishAt, capAt, grantedAt, filledRow}
+use Rattle.model.specs.Filling.{MeterState, meterState, wishAt, capAt, grantedAt, filledRow}
+use Rattle.model.specs.Put.{releaseNumber, putEntry, putReleases}
 use Rattle.put.specs.ReleasesLaws.{PutRow, put-releases, put-to, released-arrivals}
 use Rattle.passes.specs.Supplies.{NoRamp, FilledTo, filled-none, filled-more, filled-end}
 use Rattle.passes.specs.RampList.{startOf, start-more, AtRamps, Listed, listed-here, listed-more, listed-end}
 use Rattle.ramps.specs.RampsLaws.{granted, granted-caps, granted-small, filled-release, filled-arrivals}
 
 -- of the listed cells, what the last step left: its release, and what had come into the cell before it, which with what entered in it is held + F
-pub record Lasts (m : Metered) (ramps : ℕ) (cell release came : List ℕ) : Type 0 where
+pub record Lasts (m : MeterState) (ramps : ℕ) (cell release came : List ℕ) : Type 0 where
   pub releases : (j : ℕ) → j < ramps → at release j ≡ at (m .releases) (at cell j)
   pub entries : (j : ℕ) → j < ramps
       → at came (at cell j) + at (m .entries) (at cell j) ≡ at (m .state .held) (at cell j) + at (m .state .cumulative) (at cell j)
 
 -- what granting requires: a step by the filled row may be made, the bytes hold the row, which is within its limits, the laws are in columns, and the
 -- rooms are the supplies
-pub record GrantAsks (laws : List Law) (q : Road) (m : Metered) (bytes : List ℕ) (k start ramps : ℕ) (cell kinds : List ℕ) (numbers : List Float)
+pub record GrantAsks (laws : List Law) (q : Road) (m : MeterState) (bytes : List ℕ) (k start ramps : ℕ) (cell kinds : List ℕ) (numbers : List Float)
     (room release waits came : List ℕ) : Type 0 where
   pub step : Steppable q (m .state) (filledRow laws q m (recordRow bytes (q .n) k))
   pub row : RowOk q (recordRow bytes (q .n) k)
@@ -67,18 +68,18 @@ pub record GrantLent (bytes : List ℕ) (start ramps : ℕ) (cell kinds : List �
   pub releases : List ℕ
   pub entries : List ℕ
   pub step : ℕ
-  pub grants : GrantAsks laws road (metered (stateOf ledger held queue cumulative) releases entries) bytes step start ramps cell kinds numbers
+  pub grants : GrantAsks laws road (meterState (stateOf ledger held queue cumulative) releases entries) bytes step start ramps cell kinds numbers
       room release waits came
 
 -- what has come into the cell at i with a release, and what waits at its ramp after it
-abbrev pub cameAt : Metered → (ℕ → ℕ) → ℕ → ℕ
+abbrev pub cameAt : MeterState → (ℕ → ℕ) → ℕ → ℕ
 cameAt m give i = at (m .state .held) i + at (m .state .cumulative) i + give i
 
-abbrev waitAt : Metered → List ℕ → (ℕ → ℕ) → ℕ → ℕ
+abbrev waitAt : MeterState → List ℕ → (ℕ → ℕ) → ℕ → ℕ
 waitAt m row give i = at (m .state .queue) i + arrivalsAt row i - give i
 
 -- what it gives: the releases granted are in the bytes, and off the supplies; of each listed cell, its release, what waits after it and what has come
-pub record Granted (laws : List Law) (q : Road) (m : Metered) (bytes : List ℕ) (k ramps : ℕ)
+pub record Granted (laws : List Law) (q : Road) (m : MeterState) (bytes : List ℕ) (k ramps : ℕ)
     (cell room₀ release₀ waits₀ came₀ put room release waits came : List ℕ) : Type 0 where
   pub puts : put ≡ putReleases bytes (q .n) k (grantedAt laws q m (recordRow bytes (q .n) k)) (q .n)
   pub rooms : Rooms q (m .state) (filledRow laws q m (recordRow bytes (q .n) k)) room
@@ -91,7 +92,7 @@ pub record Granted (laws : List Law) (q : Road) (m : Metered) (bytes : List ℕ)
   pub sameCame : length came ≡ length came₀
 
 -- the releases of the first j listed cells are granted
-pub record Granting (give : ℕ → ℕ) (q : Road) (m : Metered) (bytes : List ℕ) (k ramps : ℕ)
+pub record Granting (give : ℕ → ℕ) (q : Road) (m : MeterState) (bytes : List ℕ) (k ramps : ℕ)
     (cell room₀ release₀ waits₀ came₀ put room release waits came : List ℕ) (j : ℕ) : Type 0 where
   pub puts : put ≡ putReleases bytes (q .n) k give (startOf cell j)
   pub rooms : room ≡ fillOf (λ i. at room₀ i - give i) (startOf cell j) room₀
@@ -117,7 +118,7 @@ pub record Given (x coming room : ℕ) : Type 0 where
   pub taken : x ≤ room
   pub rate : x ≤ mostRate
 
-module _ {laws : List Law} {q : Road} {m : Metered} {bytes : List ℕ} {k start ramps : ℕ} {cell kinds : List ℕ} {numbers : List Float}
+module _ {laws : List Law} {q : Road} {m : MeterState} {bytes : List ℕ} {k start ramps : ℕ} {cell kinds : List ℕ} {numbers : List Float}
     {room₀ release₀ waits₀ came₀ : List ℕ} (g : GrantAsks laws q m bytes k start ramps cell kinds numbers room₀ release₀ waits₀ came₀) where
   abbrev row : List ℕ
   row = recordRow bytes (q .n) k
@@ -252,7 +253,7 @@ module _ {laws : List Law} {q : Road} {m : Metered} {bytes : List ℕ} {k start 
               rate = omega (arith, found, c .rate);
             }
 
-        puts-more : {next : List ℕ} {end : ℕ} → Stored put (start + 4 + 8 * at cell j + 4) numberSize x next end
+        puts-more : {next : List ℕ} {end : ℕ} → StoredBytes put (start + 4 + 8 * at cell j + 4) numberSize x next end
             → next ≡ putReleases bytes (q .n) k give (startOf cell (j + 1))
         unfolding putReleases
         puts-more p =
@@ -263,7 +264,7 @@ module _ {laws : List Law} {q : Road} {m : Metered} {bytes : List ℕ} {k start 
             ∙ sym (ap (putReleases bytes (q .n) k give) (start-more cell j ∙ add-one i))
 
         -- one more is granted
-        pub granting-more : {next : List ℕ} {end : ℕ} → Stored put (start + 4 + 8 * at cell j + 4) numberSize x next end
+        pub granting-more : {next : List ℕ} {end : ℕ} → StoredBytes put (start + 4 + 8 * at cell j + 4) numberSize x next end
             → Granting (grantedAt laws q m (recordRow bytes (q .n) k)) q m bytes k ramps cell room₀ release₀ waits₀ came₀ next
             (set room (at cell j) (at room (at cell j) - x)) (set release j x) (set waits j (at (m .state .queue) (at cell j) + arrivals - x))
             (set came (at cell j) (at (m .state .held) (at cell j) + at (m .state .cumulative) (at cell j) + x)) (j + 1)

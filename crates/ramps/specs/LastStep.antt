@@ -8,7 +8,7 @@ use Rattle.model.specs.Numbers.{at, fillOf}
 use Rattle.numbers.specs.RowsLaws.{fill-at}
 use Rattle.model.specs.Road.{mostCells, mostRate, mostSteps}
 use Rattle.model.specs.Limits.{mostCumulative}
-use Rattle.model.specs.Ramps.{Metered}
+use Rattle.model.specs.Filling.{MeterState}
 use Rattle.passes.specs.RampList.{Listed}
 use Rattle.ramps.specs.Grants.{Lasts}
 
@@ -24,7 +24,7 @@ pub record CameAsks (n : ℕ) (held cumulative entries : List ℕ) : Type 0 wher
   pub entered : (i : ℕ) → i < n → at entries i ≤ at held i
 
 -- so the last step is known at the listed cells
-pub lasts-known : {m : Metered} {P : ℕ → Type 0} {n ramps : ℕ} {cell release came : List ℕ} (release₀ came₀ : List ℕ) → Listed P n ramps cell
+pub lasts-known : {m : MeterState} {P : ℕ → Type 0} {n ramps : ℕ} {cell release came : List ℕ} (release₀ came₀ : List ℕ) → Listed P n ramps cell
     → CameAsks n (m .state .held) (m .state .cumulative) (m .entries)
     → release ≡ fillOf (λ j. at (m .releases) (at cell j)) ramps release₀ → n ≤ length release₀
     → came ≡ fillOf (cameIn (m .state .held) (m .state .cumulative) (m .entries)) n came₀ → n ≤ length came₀

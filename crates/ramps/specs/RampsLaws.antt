@@ -17,10 +17,10 @@ use Rattle.limits.specs.LimitsLaws.{RoadOk, RowOk, row-ok}
 use Rattle.model.specs.declared.Law.{Law}
 use Rattle.model.specs.Meter.{wholeBelow}
 use Rattle.meter.specs.MeterLaws.{whole-most}
-use Rattle.model.specs.Places.{gateArrivals, arrivalsAt, releaseAt, mostReleaseAt, supplyAt, enteringAt}
-use Rattle.model.specs.Schedules.{Released, outflowsOf}
+use Rattle.model.specs.Flow.{gateArrivals, arrivalsAt, releaseAt, mostReleaseAt, supplyAt, enteringAt}
+use Rattle.model.specs.Schedules.{ReleasesFit, outflowsOf}
 use Rattle.put.specs.ReleasesLaws.{length-released, released-at, released-gate, released-arrivals}
-use Rattle.model.specs.Ramps.{Metered, wishAt, capAt, releaseOf, grantedAt, filledRow, meteredOf}
+use Rattle.model.specs.Filling.{MeterState, wishAt, capAt, releaseOf, grantedAt, filledRow, meteredOf}
 
 -- a release is at most its cap, and 0 without a ramp
 pub record Capped (ramp : ℕ) (wish : Float) (cap x : ℕ) : Type 0 where
@@ -42,7 +42,7 @@ pub record Caps (most supply cap : ℕ) : Type 0 where
   pub taken : cap ≤ supply
   pub rate : cap ≤ mostRate
 
-module _ (laws : List Law) (r : Road) (m : Metered) (row : List ℕ) where
+module _ (laws : List Law) (r : Road) (m : MeterState) (row : List ℕ) where
   pub granted : (i : ℕ) → Capped (at (r .ramp) i) (wishAt laws m i) (capAt r (m .state) row i) (grantedAt laws r m row i)
   unfolding grantedAt
   granted i = capped (at (r .ramp) i) (wishAt laws m i) (capAt r (m .state) row i)
@@ -76,7 +76,7 @@ module _ (laws : List Law) (r : Road) (m : Metered) (row : List ℕ) where
   filled-most i = rw (filled-arrivals i)
 
   -- each filled release fits
-  pub filled-fits : length row ≡ 1 + 2 * r .n → Released r (m .state) (filledRow laws r m row)
+  pub filled-fits : length row ≡ 1 + 2 * r .n → ReleasesFit r (m .state) (filledRow laws r m row)
   filled-fits e = record {
     queue = λ i l. omega (arith, filled-release e i l, granted-caps i .there, filled-most i);
     supply = λ i l. omega (arith, filled-release e i l, granted-caps i .taken);

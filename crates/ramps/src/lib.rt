@@ -10,7 +10,7 @@ ghost use Rattle.model.specs.declared.Law.{Law};
 ghost use Rattle.model.specs.Meter.{wishOf, wholeBelow};
 ghost use Rattle.outflows.specs.declared.Ledger.{Ledger};
 ghost use Rattle.outflows.specs.Columns.{stateOf};
-ghost use Rattle.model.specs.Ramps.{metered};
+ghost use Rattle.model.specs.Filling.{meterState};
 ghost use Prim.Native.Nat.{_≤_, _<_};
 ghost use Rattle.model.specs.Numbers.{at, fillOf};
 ghost use Rattle.model.specs.Road.{mostCells};
@@ -88,10 +88,10 @@ pub fn grant<'a, 'b>(
     requires { ⌜ GrantLent (now bytes) start ramps (now cell) (now kinds) (now numbers) (now held) (now queue) (now cumulative)
         (now room) (now release) (now waiting) (now came) ⌝ }
     ensures { λ _. ⌜ ((laws : List Law) (r : Road) (l : Ledger) (releases entries : List ℕ) (k : ℕ)
-        → GrantAsks laws r (metered (stateOf l (now (held .entry)) (now (queue .entry)) (now (cumulative .entry))) releases entries)
+        → GrantAsks laws r (meterState (stateOf l (now (held .entry)) (now (queue .entry)) (now (cumulative .entry))) releases entries)
         (now (bytes .entry)) k start ramps (now (cell .entry)) (now (kinds .entry)) (now (numbers .entry))
         (now (room .entry)) (now (release .entry)) (now (waiting .entry)) (now (came .entry))
-        → Granted laws r (metered (stateOf l (now (held .entry)) (now (queue .entry)) (now (cumulative .entry))) releases entries)
+        → Granted laws r (meterState (stateOf l (now (held .entry)) (now (queue .entry)) (now (cumulative .entry))) releases entries)
         (now (bytes .entry)) k ramps (now (cell .entry)) (now (room .entry)) (now (release .entry)) (now (waiting .entry)) (now (came .entry))
         (now (bytes .exit)) (now (room .exit)) (now (release .exit)) (now (waiting .exit)) (now (came .exit))) ⌝ }
 {

@@ -38,7 +38,7 @@ lowest test n h =
     record { within = omega (arith, f .within, eqb-false (firstOf test n) n h); first = f }
 
 -- what holds for the road, T and the state of a record that reads
-pub record Accepted (s : List ℕ) (T : ℕ) (r : Road) (q : State) : Type 0 where
+pub record AcceptedRecord (s : List ℕ) (T : ℕ) (r : Road) (q : State) : Type 0 where
   pub header : Header s (r .n) T
   pub size : length s ≡ sizeOf (versionOf s) (r .n) T
   pub bytes : length s ≤ mostBytes
@@ -52,11 +52,11 @@ pub record Accepted (s : List ℕ) (T : ℕ) (r : Road) (q : State) : Type 0 whe
   pub row : (t : ℕ) → t < T → RowOk r (recordRow s (r .n) t)
 
 -- the cases of reading's answer
-pub data Found (s : List ℕ) : ReadAnswer → Type 0 where
-  early : (number : ℕ) → inHeader number ≡ true → Found s (refusedOf number 0)
-  atPlace : (place : ℕ) → Lowest (placeOk (roadOf s) (startOf s)) (cellsOf s + 1) place → Found s (refusedOf 5 place)
-  atStep : (step : ℕ) → Lowest (stepOk s (roadOf s)) (stepsOf s) step → Found s (refusedOf 6 step)
-  clear : Accepted s (stepsOf s) (roadOf s) (startOf s) → Found s (acceptedOf (stepsOf s) (roadOf s) (startOf s))
+pub data ReadingEnds (s : List ℕ) : ReadAnswer → Type 0 where
+  early : (number : ℕ) → inHeader number ≡ true → ReadingEnds s (refusedOf number 0)
+  atPlace : (place : ℕ) → Lowest (placeOk (roadOf s) (startOf s)) (cellsOf s + 1) place → ReadingEnds s (refusedOf 5 place)
+  atStep : (step : ℕ) → Lowest (stepOk s (roadOf s)) (stepsOf s) step → ReadingEnds s (refusedOf 6 step)
+  clear : AcceptedRecord s (stepsOf s) (roadOf s) (startOf s) → ReadingEnds s (acceptedOf (stepsOf s) (roadOf s) (startOf s))
 
 -- the tests of 1, 2, 3, 19, 4, 26, 5 and 6
 module _ (s : List ℕ) where
@@ -96,7 +96,7 @@ module _ (s : List ℕ) where
     size = eqb-true (length s) (sizeOf (versionOf s) (cellsOf s) (stepsOf s)) e;
   }
 
-  accepted : Header s (cellsOf s) (stepsOf s) → placesFit ≡ true → rowsFit ≡ true → Accepted s (stepsOf s) (roadOf s) (startOf s)
+  accepted : Header s (cellsOf s) (stepsOf s) → placesFit ≡ true → rowsFit ≡ true → AcceptedRecord s (stepsOf s) (roadOf s) (startOf s)
   accepted h f g =
       let n = counts-facts (cellsOf s) (stepsOf s) (h .counts) in
       let counted = le-head (length s) mostBytes _ (le-head _ (length s) _ (h .lengths) .1) .1 in
@@ -117,20 +117,20 @@ module _ (s : List ℕ) where
       }
 
   -- for all limits of the caller
-  pub found-within : (cells most : ℕ) → Found s (readingWithin cells most s)
+  pub found-within : (cells most : ℕ) → ReadingEnds s (readingWithin cells most s)
   unfolding readingBy inHeader oneOf
   found-within cells most =
-      unless-elim (Found s) lengthFits (λ _. early 1 refl) (λ a.
-      unless-elim (Found s) versionKnown (λ _. early 2 refl) (λ b.
-      unless-elim (Found s) countsFit (λ _. early 3 refl) (λ c.
-      unless-elim (Found s) secondsFit (λ _. early 19 refl) (λ d.
-      unless-elim (Found s) sizeFits (λ _. early 4 refl) (λ e.
-      unless-elim (Found s) (callerTakes cells most) (λ _. early 26 refl) (λ _.
-      unless-elim (Found s) placesFit (λ f. atPlace _ (lowest (placeOk (roadOf s) (startOf s)) (cellsOf s + 1) f)) (λ f.
-      unless-elim (Found s) rowsFit (λ g. atStep _ (lowest (stepOk s (roadOf s)) (stepsOf s) g)) (λ g.
+      unless-elim (ReadingEnds s) lengthFits (λ _. early 1 refl) (λ a.
+      unless-elim (ReadingEnds s) versionKnown (λ _. early 2 refl) (λ b.
+      unless-elim (ReadingEnds s) countsFit (λ _. early 3 refl) (λ c.
+      unless-elim (ReadingEnds s) secondsFit (λ _. early 19 refl) (λ d.
+      unless-elim (ReadingEnds s) sizeFits (λ _. early 4 refl) (λ e.
+      unless-elim (ReadingEnds s) (callerTakes cells most) (λ _. early 26 refl) (λ _.
+      unless-elim (ReadingEnds s) placesFit (λ f. atPlace _ (lowest (placeOk (roadOf s) (startOf s)) (cellsOf s + 1) f)) (λ f.
+      unless-elim (ReadingEnds s) rowsFit (λ g. atStep _ (lowest (stepOk s (roadOf s)) (stepsOf s) g)) (λ g.
       clear (accepted (header-of a b c d e) f g)))))))))
 
-  pub read-found : Found s (readingOf s)
+  pub read-found : ReadingEnds s (readingOf s)
   read-found = found-within mostCells mostBytes
 
 -- a record is accepted if its header passes and all its places and rows are within their limits

@@ -12,7 +12,7 @@ use Rattle.model.specs.Record.{jamOffset, capacityOffset, heldOffset, queueOffs
 use Rattle.fields.specs.FieldsLaws.{Column, column}
 use Rattle.numbers.specs.Zeros.{length-zeros}
 use Rattle.model.specs.Reading.{cellsOf, stepsOf, ReadAnswer, readingOf}
-use Rattle.reading.specs.Cases.{Found, read-found, early-refused}
+use Rattle.reading.specs.Cases.{ReadingEnds, read-found, early-refused}
 
 pub record Numbers (s : List ℕ) (T : ℕ) (r : Road) (q : State) : Type 0 where
   pub cells : r .n ≡ cellsOf s
@@ -37,11 +37,11 @@ pub record Numbers (s : List ℕ) (T : ℕ) (r : Road) (q : State) : Type 0 wher
   pub gateCumulative : q .«gate_cumulative» ≡ 0
   pub cumulative : q .cumulative ≡ zeros
 
-found-numbers : (s : List ℕ) {a : ReadAnswer} → Found s a → a .number ≡ 0 → Numbers s (a .steps) (a .road) (a .state)
-found-numbers s (Found.early k l) h = absurd (early-refused l h)
-found-numbers s (Found.atPlace p l) h = absurd (omega arith)
-found-numbers s (Found.atStep t l) h = absurd (omega arith)
-found-numbers s (Found.clear w) h =
+found-numbers : (s : List ℕ) {a : ReadAnswer} → ReadingEnds s a → a .number ≡ 0 → Numbers s (a .steps) (a .road) (a .state)
+found-numbers s (ReadingEnds.early k l) h = absurd (early-refused l h)
+found-numbers s (ReadingEnds.atPlace p l) h = absurd (omega arith)
+found-numbers s (ReadingEnds.atStep t l) h = absurd (omega arith)
+found-numbers s (ReadingEnds.clear w) h =
     let n = cellsOf s in
     let m = w .road .cells in
     record {
@@ -68,7 +68,7 @@ found-numbers s (Found.clear w) h =
     }
 
 pub read-numbers : (s : List ℕ) (a : ReadAnswer) → a ≡ readingOf s → a .number ≡ 0 → Numbers s (a .steps) (a .road) (a .state)
-read-numbers s a e h = let f : Found s a = rw e (read-found s) in found-numbers s f h
+read-numbers s a e h = let f : ReadingEnds s a = rw e (read-found s) in found-numbers s f h
 
 -- the state's arrays have 64 entries
 pub record Entries (q : State) : Type 0 where

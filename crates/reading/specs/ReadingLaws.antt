@@ -56,13 +56,13 @@ module _ (cells most : ℕ) (s : List ℕ) where
   answer-version h k g = g ∙ rw (h, k) refl
 
 -- a record to which refusals 1 and 2 do not apply, with its n and T
-pub record Opened (s : List ℕ) (n T : ℕ) : Type 0 where
+pub record LengthAndVersionOk (s : List ℕ) (n T : ℕ) : Type 0 where
   pub lengths : lengthOk bothVersions s ≡ true
   pub version : oneOf bothVersions (versionOf s) ≡ true
   pub cells : n ≡ cellsOf s
   pub steps : T ≡ stepsOf s
 
-module _ (cells most : ℕ) {s : List ℕ} {n T : ℕ} (h : Opened s n T) where
+module _ (cells most : ℕ) {s : List ℕ} {n T : ℕ} (h : LengthAndVersionOk s n T) where
   pub answer-counts : {x : ReadAnswer} → cellsAndStepsOk n T ≡ false → x ≡ refusedOf 3 0 → x ≡ readingWithin cells most s
   unfolding readingBy
   answer-counts k g = g ∙ rw (h .lengths, h .version, ← h .cells, ← h .steps, k) refl
@@ -78,7 +78,7 @@ module _ (cells most : ℕ) {s : List ℕ} {n T : ℕ} (h : Opened s n T) where
     answer-size l e z g =
         g ∙ rw (h .lengths, h .version, ← h .cells, ← h .steps, k, l, ne-eqb (length s) (sizeOf (versionOf s) n T) (λ x. z (x ∙ sym e))) refl
 
-pub header-passed : {s : List ℕ} {n T : ℕ} → Opened s n T → cellsAndStepsOk n T ≡ true → secondsOk (versionOf s) (secondsOf s) ≡ true
+pub header-passed : {s : List ℕ} {n T : ℕ} → LengthAndVersionOk s n T → cellsAndStepsOk n T ≡ true → secondsOk (versionOf s) (secondsOf s) ≡ true
     → {size : ℕ} → size ≡ sizeOf (versionOf s) n T → length s ≡ size → Header s n T
 header-passed h k l e z = record {
   lengths = h .lengths;

@@ -13,11 +13,11 @@ use Rattle.theory.specs.RunEnds.{runs-unopened, writes-unopened, runs-short, wr
 use Rattle.model.specs.Demand.{Taken, Promised, WeightedDemand}
 use Rattle.theory.specs.DemandWhole.{promised}
 use Rattle.model.specs.Weights.{weightedTotalOfRun}
-use Rattle.theory.specs.DemandByWeights.{weighted-demand, weighs-unopened, weighs-short, weighs-long}
+use Rattle.theory.specs.DemandByWeights.{weighted-demand, weighted-unopened, weighted-short, weighted-long}
 use Rattle.model.specs.Longest.{Queues, longestRun}
 use Rattle.counts.specs.Longest.{noQueues}
 use Rattle.counts.specs.LongestRun.{longestEnd, longest-unopened, longest-short, longest-long}
-use Rattle.running.specs.WeightedTotal.{weighedEnd}
+use Rattle.running.specs.WeightedTotal.{weightedTotalEnd}
 
 -- the answer, the list at exit and what they are worth
 abbrev pub Promise : List ℕ → List ℕ → List ℕ → EndAnswer → List ℕ → Type 0
@@ -50,8 +50,8 @@ module _ (bytes lanes list : List ℕ) {x : ReadAnswer} (ex : x ≡ openingOf by
       promise bytes lanes list e list (rw ex at ee ∙ sym (runs-unopened bytes lanes n list)) (sym (writes-unopened bytes lanes n list))
 
   -- and its weighted total, where weights are wanted
-  pub weighed-unopened : (weighs : Bool) (w u : ℕ → ℕ) {t : ℕ} → (x .number ≡ 0 → ⊥) → t ≡ 0 → t ≡ cond weighs (weightedTotalOfRun w u bytes lanes list) 0
-  weighed-unopened weighs w u h e = e ∙ none weighs (weighs-unopened w u bytes lanes list (rw ex at h))
+  pub total-unopened : (weighs : Bool) (w u : ℕ → ℕ) {t : ℕ} → (x .number ≡ 0 → ⊥) → t ≡ 0 → t ≡ cond weighs (weightedTotalOfRun w u bytes lanes list) 0
+  total-unopened weighs w u h e = e ∙ none weighs (weighted-unopened w u bytes lanes list (rw ex at h))
 
   -- and its longest queues
   pub longs-unopened : {A : Type 0} {q : Queues} → (x .number ≡ 0 → ⊥) → q ≡ noQueues → A → q ≡ longestRun bytes lanes list
@@ -88,13 +88,13 @@ module _ (bytes lanes list : List ℕ) {x : ReadAnswer} (ex : x ≡ openingOf by
     longs-long l e asked = rw reads at (e asked) ∙ sym (longest-long bytes lanes list taken (rw reads at l))
 
     module _ (weighs : Bool) (w u : ℕ → ℕ) {t : ℕ} where
-      pub weighed-short : length list < tableSize (studyBy bytes lanes (x .road) (x .state) (x .steps)) → t ≡ 0
+      pub total-short : length list < tableSize (studyBy bytes lanes (x .road) (x .state) (x .steps)) → t ≡ 0
           → t ≡ cond weighs (weightedTotalOfRun w u bytes lanes list) 0
-      weighed-short l e = e ∙ none weighs (weighs-short w u bytes lanes list taken (rw reads at l))
+      total-short l e = e ∙ none weighs (weighted-short w u bytes lanes list taken (rw reads at l))
 
-      pub weighed-long : tableSize (studyBy bytes lanes (x .road) (x .state) (x .steps)) ≤ length list
-          → t ≡ weighedEnd weighs w u (studyBy bytes lanes (x .road) (x .state) (x .steps)) → t ≡ cond weighs (weightedTotalOfRun w u bytes lanes list) 0
-      weighed-long l e = rw reads at e ∙ ap (λ (k : ℕ). cond weighs k 0) (sym (weighs-long w u bytes lanes list taken (rw reads at l)))
+      pub total-long : tableSize (studyBy bytes lanes (x .road) (x .state) (x .steps)) ≤ length list
+          → t ≡ weightedTotalEnd weighs w u (studyBy bytes lanes (x .road) (x .state) (x .steps)) → t ≡ cond weighs (weightedTotalOfRun w u bytes lanes list) 0
+      total-long l e = rw reads at e ∙ ap (λ (k : ℕ). cond weighs k 0) (sym (weighted-long w u bytes lanes list taken (rw reads at l)))
 
 -- a weighted run's whole promise
 pub all-weighted : (bytes lanes list : List ℕ) (w u : ℕ → ℕ) {e : EndAnswer} {out : List ℕ} {t : ℕ} → e ≡ runningOf bytes lanes list

@@ -16,11 +16,11 @@ use Rattle.model.specs.GoingOn.{studyFrom, unlessStarted, runningOn, stepsOn, l
 use Rattle.theory.specs.SchedulesLaws.{runTable, end-made}
 use Rattle.theory.specs.TableLaws.{table-none}
 use Rattle.theory.specs.WeightsLaws.{weighted-total-none}
-use Rattle.theory.specs.Started.{startingOf, found-refuses, found-starts, found-study}
+use Rattle.theory.specs.StartingState.{startingOf, found-refuses, found-starts, found-study}
 use Rattle.counts.specs.Longest.{noQueues}
 use Rattle.counts.specs.LongestLaws.{longest-none}
 use Rattle.counts.specs.LongestRun.{longestEnd}
-use Rattle.running.specs.WeightedTotal.{weighedEnd}
+use Rattle.running.specs.WeightedTotal.{weightedTotalEnd}
 
 module _ (w u : ℕ → ℕ) (bytes lanes : List ℕ) (s : State) (list : List ℕ) where
   abbrev a : Study
@@ -89,7 +89,7 @@ module _ (w u : ℕ → ℕ) (bytes lanes : List ℕ) (s : State) (list : List �
       pub promise-long : {e : EndAnswer} {out : List ℕ} {t : ℕ} {q : Queues} → tableSize (studyBy bytes lanes (x .road) (x .state) (x .steps)) ≤ length list
           → e ≡ runEnd (studyBy bytes lanes (x .road) (x .state) (x .steps))
           → out ≡ runTable (studyBy bytes lanes (x .road) (x .state) (x .steps)) list
-          → t ≡ weighedEnd true w u (studyBy bytes lanes (x .road) (x .state) (x .steps))
+          → t ≡ weightedTotalEnd true w u (studyBy bytes lanes (x .road) (x .state) (x .steps))
           → (true ≡ true → q ≡ longestEnd (studyBy bytes lanes (x .road) (x .state) (x .steps))) → PromiseOn e out t q
       unfolding runningOn
       promise-long l ee eo et eq =
@@ -100,5 +100,5 @@ module _ (w u : ℕ → ℕ) (bytes lanes : List ℕ) (s : State) (list : List �
           (ends ∙ rw (le-leb (tableSize a) (length list) m) (found-starts bytes lanes s ex z (runEnd a)))
           (ap (stepsMade a) ends ∙ end-made a (runSays a) (engineAfter a))
           (eo ∙ ap (λ (y : Study). runTable y list) same)
-          (et ∙ ap (weighedEnd true w u) same)
+          (et ∙ ap (weightedTotalEnd true w u) same)
           (eq refl ∙ ap longestEnd same)

@@ -13,7 +13,7 @@ use Rattle.model.specs.Schedules.{Study, roadAt, places, outflowsOf, engineAfte
 use Rattle.model.specs.Move.{nextOf}
 use Rattle.model.specs.Stepping.{releasesOf}
 use Rattle.theory.specs.StepLaws.{number-of}
-use Rattle.theory.specs.RunsLaws.{StudyOk, Reached, StepOf, step-road, step-input, step-sized, step-left}
+use Rattle.theory.specs.RunsLaws.{StudyOk, ReachedState, StepOf, step-road, step-input, step-sized, step-left}
 use Rattle.model.specs.Record.{recordRow}
 use Rattle.fields.specs.FieldsLaws.{HoldsRow}
 use Rattle.passes.specs.Step.{Arrays, StepAsks}
@@ -35,7 +35,7 @@ pub record RanTurn (a : Study) (u : State) (k : ℕ) (q : Road) (row : List ℕ)
 
 module _ {a : Study} where
   -- within the limits
-  pub ran-reached : {u : State} {k : ℕ} → StudyOk a → FaultlessSteps a u k → Reached a u k
+  pub ran-reached : {u : State} {k : ℕ} → StudyOk a → FaultlessSteps a u k → ReachedState a u k
   ran-reached {k = k} ok h = rw (h .state) (run-reached a ok k (h .faultless .within) (h .faultless .before))
 
   pub ran-none : FaultlessSteps a (a .start) 0

@@ -9,18 +9,18 @@ use Rattle.model.specs.Road.{mostSteps}
 use Rattle.model.specs.Schedules.{Study, engineAfter}
 use Rattle.model.specs.Weights.{weightedPresent, weightedTotal}
 use Rattle.theory.specs.WeightsLaws.{weighted-total-none, weighted-total-more}
-use Rattle.counts.specs.WeightBounds.{mostWeighted, mostWeightedTotal}
+use Rattle.counts.specs.WeightBounds.{mostWeightedPresent, mostWeightedTotal}
 use Rattle.model.specs.Running.{runSays, firstStep}
 use Rattle.running.specs.Steps.{FaultlessSteps}
 
 -- the weighted total of a run step by step up to its end, where weights are wanted
-abbrev pub weighedEnd : Bool → (ℕ → ℕ) → (ℕ → ℕ) → Study → ℕ
-weighedEnd weighs w u a = cond weighs (weightedTotal w u (a .road .n) (engineAfter a) (firstStep (runSays a) (a .steps))) 0
+abbrev pub weightedTotalEnd : Bool → (ℕ → ℕ) → (ℕ → ℕ) → Study → ℕ
+weightedTotalEnd weighs w u a = cond weighs (weightedTotal w u (a .road .n) (engineAfter a) (firstStep (runSays a) (a .steps))) 0
 
 -- when k steps are made
 pub record Totalled (weighs : Bool) (w u : ℕ → ℕ) (a : Study) (total k : ℕ) : Type 0 where
   pub sum : total ≡ cond weighs (weightedTotal w u (a .road .n) (engineAfter a) k) 0
-  pub small : total ≤ k * mostWeighted
+  pub small : total ≤ k * mostWeightedPresent
 
 module _ (weighs : Bool) (w u : ℕ → ℕ) (a : Study) where
   pub totalled-none : Totalled weighs w u a 0 0
@@ -34,7 +34,8 @@ module _ (weighs : Bool) (w u : ℕ → ℕ) (a : Study) where
     pub totalled-fits : k ≤ mostSteps → total ≤ mostWeightedTotal
     totalled-fits l = omega (arith, h .small)
 
-    pub totalled-more : {v : State} {x : ℕ} → FaultlessSteps a v (k + 1) → x ≡ total + cond weighs (weightedPresent w u (a .road .n) v) 0 → x ≤ total + mostWeighted
+    pub totalled-more : {v : State} {x : ℕ} → FaultlessSteps a v (k + 1) → x ≡ total + cond weighs (weightedPresent w u (a .road .n) v) 0
+        → x ≤ total + mostWeightedPresent
         → Totalled weighs w u a x (k + 1)
     totalled-more {v} ran e l = record {
       sum = rw (add-one k) (e ∙ ap (λ (t : ℕ). t + cond weighs (weightedPresent w u (a .road .n) v) 0) (h .sum) ∙ go weighs);
@@ -49,5 +50,5 @@ module _ (weighs : Bool) (w u : ℕ → ℕ) (a : Study) where
         go true = rw after (sym (weighted-total-more w u (a .road .n) (engineAfter a) k))
         go false = omega arith
 
-    pub totalled-end : k ≡ firstStep (runSays a) (a .steps) → total ≡ weighedEnd weighs w u a
+    pub totalled-end : k ≡ firstStep (runSays a) (a .steps) → total ≡ weightedTotalEnd weighs w u a
     totalled-end e = h .sum ∙ ap (λ (j : ℕ). cond weighs (weightedTotal w u (a .road .n) (engineAfter a) j) 0) e

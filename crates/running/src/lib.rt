@@ -23,7 +23,7 @@ ghost use Rattle.model.specs.Demand.{Taken, Promised, WeightedDemand};
 ghost use Rattle.model.specs.Weights.{weightedTotalOfRun};
 ghost use Rattle.model.specs.GoingOn.{runningOn, listOn, weightedTotalOn, longestOn};
 ghost use Rattle.running.specs.LentList.{Runnable};
-ghost use Rattle.running.specs.WeightedTotal.{weighedEnd};
+ghost use Rattle.running.specs.WeightedTotal.{weightedTotalEnd};
 
 // A run's end with its longest queues and its weighted total.
 fn tallied(ended: Ended, gate: AtGate, ramps: [u32; 64], weighted: u64) -> Tallied
@@ -51,7 +51,8 @@ fn run_rows(
     requires { ⌜ Runnable (now bytes) (studyBy (now bytes) (now table) r s steps) (now out) ⌝ }
     ensures answer { λ e. ⌜ endAnswer (e .longest .ended) ≡ runEnd (studyBy (now (bytes .entry)) (now (table .entry)) r s steps) ⌝ }
     ensures list { λ e. ⌜ now (out .exit) ≡ runTable (studyBy (now (bytes .entry)) (now (table .entry)) r s steps) (now (out .entry)) ⌝ }
-    ensures weighted { λ e. ⌜ e .weighted ≡ weighedEnd weighs (at (weights .places)) (at (weights .ramps)) (studyBy (now (bytes .entry)) (now (table .entry)) r s steps) ⌝ }
+    ensures weighted { λ e. ⌜ e .weighted
+        ≡ weightedTotalEnd weighs (at (weights .places)) (at (weights .ramps)) (studyBy (now (bytes .entry)) (now (table .entry)) r s steps) ⌝ }
     ensures longest { λ e. ⌜ (longs ≡ true → longestQueues (e .longest) ≡ longestEnd (studyBy (now (bytes .entry)) (now (table .entry)) r s steps)) ⌝ }
 {
     let n = r.n;

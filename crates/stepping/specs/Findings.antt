@@ -11,7 +11,7 @@ use Rattle.model.specs.declared.State.{State}
 use Rattle.model.specs.Numbers.{at, firstOf}
 use Rattle.model.specs.Refusals.{refusalNumber, FaultAnswer, fault, faultAnswer}
 use Rattle.model.specs.Road.{mostCells, mostSteps}
-use Rattle.model.specs.Schedules.{withCapacity, Released, outflowsOf}
+use Rattle.model.specs.Schedules.{withCapacity, ReleasesFit, outflowsOf}
 use Rattle.numbers.specs.FirstLaws.{first, all-at}
 use Rattle.model.specs.Lanes.{openCapacities, lanesAt}
 use Rattle.lanes.specs.LanesLaws.{lanes-facts}
@@ -40,20 +40,20 @@ pub sized : (r : Road) (s : State) → r .n ≤ mostCells → length (s .held) �
 sized r s n h q c = record { held = omega arith; queue = omega arith; cumulative = omega arith }
 
 -- what a step on its road requires: its input is within the limits, and the state's arrays have an entry for each cell
-pub record Stepping (r : Road) (s : State) (row : List ℕ) : Type 0 where
+pub record StepInputOk (r : Road) (s : State) (row : List ℕ) : Type 0 where
   pub input : InputOk r s row
   pub sized : Sized r s
 
 -- 8 does not apply, and the code has tested the releases: the fault that it found, and its number
 pub record ReleaseFinding (r : Road) (s : State) (row : List ℕ) (q : Fault) (m : ℕ) : Type 0 where
-  pub input : Stepping r s row
+  pub input : StepInputOk r s row
   pub left : s .done ≡ mostSteps → ⊥
   pub found : faultAnswer q ≡ releasesOf r s row
   pub number : m ≡ refusalNumber (q .refusal)
 
 -- the answers of a step on its road
 module _ {r : Road} {s : State} {row : List ℕ} where
-  pub answer-done : Stepping r s row → s .done ≡ mostSteps → answer (fault 8 0) s ≡ stepOn r s row
+  pub answer-done : StepInputOk r s row → s .done ≡ mostSteps → answer (fault 8 0) s ≡ stepOn r s row
   answer-done k h = sym (on-done r s row h)
 
   module _ {q : Fault} {m : ℕ} (k : ReleaseFinding r s row q m) where
@@ -64,7 +64,7 @@ module _ {r : Road} {s : State} {row : List ℕ} where
     answer-fault n =
         ap (λ (x : FaultAnswer). answer x s) (k .found) ∙ sym (on-refused r s row (k .left) (λ z. n (number-found ∙ z)))
 
-    fits : m ≡ 0 → Released r s row
+    fits : m ≡ 0 → ReleasesFit r s row
     fits z = releases-fit r s row (sym number-found ∙ z)
 
     pub steppable : m ≡ 0 → Steppable r s row
@@ -95,12 +95,12 @@ module _ (r : Road) (s : State) (row built usable : List ℕ) where
       answer-on {a} h =
           subst (λ (c : List ℕ). a ≡ stepOn (withCapacity r c) s row) el h ∙ sym (stepping-on r s row built usable input (sym found ∙ e))
 
-      pub steps-on : r .n ≤ length (r .capacity) → Sized r s → Stepping (withCapacity r left) s row
+      pub steps-on : r .n ≤ length (r .capacity) → Sized r s → StepInputOk (withCapacity r left) s row
       steps-on l z =
           let k = input-facts r s row input in
           let all = all-at (lanesAt built usable) (r .n) (eq-eqb (firstOf (lanesAt built usable) (r .n)) (r .n) (sym found ∙ e)) in
           let q = opened r built usable (k .road) l (λ i m. lanes-facts (at built i) (at usable i) (all i m) .within) in
-          subst⁻¹ (λ (c : List ℕ). Stepping (withCapacity r c) s row) el (record {
+          subst⁻¹ (λ (c : List ℕ). StepInputOk (withCapacity r c) s row) el (record {
             input = record { road = q .ok; state = step-state q s (k .state); row = step-row q row (k .row) };
             sized = record { held = z .held; queue = z .queue; cumulative = z .cumulative };
           })

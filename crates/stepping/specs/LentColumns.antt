@@ -6,12 +6,12 @@ use native.Mathlib.Nat.{le-refl}
 use lib.ListN.{length, set, take}
 use Rattle.model.specs.Flow.{enteringOf}
 use Rattle.model.specs.Numbers.{sumOf, at}
-use Rattle.numbers.specs.SumLaws.{Summed}
+use Rattle.numbers.specs.SumLaws.{SummedRow}
 use Rattle.numbers.specs.RowsLaws.{fill-past, length-fill}
 use Rattle.model.specs.declared.Road.{Road}
 use Rattle.model.specs.declared.State.{State}
 use Rattle.model.specs.Road.{mostSteps}
-use Rattle.model.specs.Places.{arrivalsAt, releaseAt}
+use Rattle.model.specs.Flow.{arrivalsAt, releaseAt}
 use Rattle.model.specs.Move.{heldOf, queueOf, cumulativeOf, movedTo, movedOf, countedOf, nextOf}
 use Rattle.theory.specs.MoveLaws.{counted-is, counted-present}
 use Rattle.theory.specs.LimitsKept.{present-bound}
@@ -72,7 +72,7 @@ module _ {r : Road} {s : State} {row y : List ℕ} {t : State} {entering i : ℕ
       rw (held-there, queue-there, cumulative-there) (moved-cell h l g)
 
   -- when all cells are moved, the step is counted
-  pub counted-there : {gate road ramp : ℕ} → r .n ≤ i → gate ≡ t .«gate_queue» → Summed (t .held) road i → Summed (t .queue) ramp i
+  pub counted-there : {gate road ramp : ℕ} → r .n ≤ i → gate ≡ t .«gate_queue» → SummedRow (t .held) road i → SummedRow (t .queue) ramp i
       → record {
         done = t .done + 1;
         «gate_time» = t .«gate_time» + gate;

@@ -13,10 +13,10 @@ use Rattle.model.specs.Numbers.{at, fillOf}
 use Rattle.model.specs.Road.{mostCells, mostSteps, mostRate, totalOf}
 use Rattle.model.specs.Limits.{mostQueue, mostCumulative}
 use Rattle.limits.specs.LimitsLaws.{InputOk}
-use Rattle.model.specs.Places.{gateArrivals, arrivalsAt, releaseAt, supplyAt, capacityAt, shareAt, cumulativeAt, enteringAt}
+use Rattle.model.specs.Flow.{gateArrivals, arrivalsAt, releaseAt, supplyAt, capacityAt, shareAt, cumulativeAt, enteringAt}
 use Rattle.model.specs.Move.{movedTo, movedOf, presentOf}
 use Rattle.theory.specs.MoveLaws.{moved-more}
-use Rattle.model.specs.Schedules.{Released, Obeys}
+use Rattle.model.specs.Schedules.{ReleasesFit, Obeys}
 use Rattle.theory.specs.RulesLaws.{Sized, entering-cell, release-there, demand-at-gate, demand-at-cell, demand-rate}
 
 -- moving requires: everything is within the limits, and the row of outflows obeys the rules
@@ -30,7 +30,7 @@ pub record Movable (r : Road) (s : State) (row y : List ℕ) : Type 0 where
 pub record Steppable (r : Road) (s : State) (row : List ℕ) : Type 0 where
   pub input : InputOk r s row
   pub sized : Sized r s
-  pub released : Released r s row
+  pub released : ReleasesFit r s row
   pub left : s .done < mostSteps
 
 -- counting requires: another step and its present fit their machine numbers

@@ -14,7 +14,7 @@ ghost use Rattle.model.specs.Move.{nextOf};
 ghost use Rattle.model.specs.Schedules.{outflowsOf};
 ghost use Rattle.model.specs.Stepping.{stepOn, steppingOf, stepAnswer};
 ghost use Rattle.stepping.specs.StepNeeds.{Movable, Steppable};
-ghost use Rattle.stepping.specs.Findings.{Stepping};
+ghost use Rattle.stepping.specs.Findings.{StepInputOk};
 
 // The state after a step with a row of outflows that obeys the rules.
 pub fn next_by(r: Road, s: State, row: &[u32], y: &[u32]) -> State
@@ -100,7 +100,7 @@ fn refused(refusal: Refusal, place: usize, s: State) -> Stepped
 
 // A step on its road, with an input within the limits: 8, then 9 or 10.
 fn step_on(r: Road, s: State, row: &[u32]) -> Stepped
-    requires { ⌜ Stepping r s (now row) ⌝ }
+    requires { ⌜ StepInputOk r s (now row) ⌝ }
     ensures { λ a. ⌜ stepAnswer a ≡ stepOn r s (now (row .entry)) ⌝ }
 {
     if s.done == Road::STEPS {

@@ -11,28 +11,28 @@ use Rattle.model.specs.Street.{GrantRequest, sureOf, restBefore, moreOf, grantA
 use Rattle.street.specs.StreetLaws.{sure-fits}
 
 -- what remains of the limit after the smaller of wish and guarantee of i ramps
-pub record Left (limit : ℕ) (guarantees wishes : List ℕ) (left i : ℕ) : Type 0 where
+pub record RestSoFar (limit : ℕ) (guarantees wishes : List ℕ) (left i : ℕ) : Type 0 where
   pub within : i ≤ length guarantees
   pub sure : left + sumOf (listOf (sureOf guarantees wishes) i) ≡ limit
 
 -- the grants of i ramps are stored
-pub record Granted (limit : ℕ) (guarantees wishes lent : List ℕ) (left i : ℕ) (grants : List ℕ) : Type 0 where
+pub record GrantsSoFar (limit : ℕ) (guarantees wishes lent : List ℕ) (left i : ℕ) (grants : List ℕ) : Type 0 where
   pub within : i ≤ length guarantees
   pub same : length lent ≡ length guarantees
   pub rest : left ≡ restBefore limit guarantees wishes i
   pub stored : grants ≡ fillOf (grantAt limit guarantees wishes) i lent
 
 module _ {limit : ℕ} {guarantees wishes : List ℕ} where
-  pub left-none : Left limit guarantees wishes limit 0
+  pub left-none : RestSoFar limit guarantees wishes limit 0
   left-none = record { within = omega arith; sure = omega (arith, sum-list-none (sureOf guarantees wishes)) }
 
-  module _ {left i : ℕ} (h : Left limit guarantees wishes left i) where
+  module _ {left i : ℕ} (h : RestSoFar limit guarantees wishes left i) where
     pub left-fits : GrantRequest limit guarantees wishes → i < length guarantees → {sure : ℕ} → sure ≡ sureOf guarantees wishes i → sure ≤ left
     left-fits q l e =
         omega (arith, h .sure, sure-fits limit guarantees wishes q (suc i) l, sum-list-more (sureOf guarantees wishes) i)
 
     pub left-more : GrantRequest limit guarantees wishes → i < length guarantees → {sure : ℕ} → sure ≡ sureOf guarantees wishes i
-        → Left limit guarantees wishes (left - sure) (i + 1)
+        → RestSoFar limit guarantees wishes (left - sure) (i + 1)
     left-more q l e = record {
       within = omega arith;
       sure = rw (add-one i) (omega (arith, left-fits q l e, h .sure, sum-list-more (sureOf guarantees wishes) i));
@@ -46,16 +46,16 @@ module _ {limit : ℕ} {guarantees wishes : List ℕ} where
 
   module _ {lent : List ℕ} where
     pub granted-none : {left : ℕ} → length lent ≡ length guarantees → left ≡ restBefore limit guarantees wishes 0
-        → Granted limit guarantees wishes lent left 0 lent
+        → GrantsSoFar limit guarantees wishes lent left 0 lent
     unfolding fillOf
     granted-none s e = record { within = omega arith; same = s; rest = e; stored = refl }
 
-    module _ {left i : ℕ} {grants : List ℕ} (h : Granted limit guarantees wishes lent left i grants) where
+    module _ {left i : ℕ} {grants : List ℕ} (h : GrantsSoFar limit guarantees wishes lent left i grants) where
       pub granted-length : length grants ≡ length guarantees
       granted-length = ap length (h .stored) ∙ length-fill (grantAt limit guarantees wishes) i lent ∙ h .same
 
       pub granted-more : i < length guarantees → {sure more : ℕ} → sure ≡ sureOf guarantees wishes i → more ≡ min (at wishes i - sure) left
-          → Granted limit guarantees wishes lent (left - more) (i + 1) (set grants i (sure + more))
+          → GrantsSoFar limit guarantees wishes lent (left - more) (i + 1) (set grants i (sure + more))
       unfolding restBefore
       granted-more l {sure} {more} e f =
           let m : more ≡ moreOf limit guarantees wishes i = rw (f, e, h .rest) in

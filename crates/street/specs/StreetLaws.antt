@@ -21,9 +21,9 @@ use Rattle.model.specs.Street.{GrantRequest, streetFrameOk, streetOk, sureOf, r
 
 module _ (limit : ℕ) (guarantees wishes : List ℕ) where
   -- the test of 24 passes exactly if its limits hold
-  pub asked-limits : (places : ℕ) → streetOk limit guarantees wishes places ≡ true → GrantRequest limit guarantees wishes × (places ≡ length guarantees)
+  pub ok-request : (places : ℕ) → streetOk limit guarantees wishes places ≡ true → GrantRequest limit guarantees wishes × (places ≡ length guarantees)
   unfolding streetOk
-  asked-limits places h =
+  ok-request places h =
       let both = and-true (streetFrameOk limit (length guarantees) (length wishes) places) _ h in
       let some = le-head _ _ _ (both .0) in
       let most = le-head _ _ _ (some .1) in
@@ -43,9 +43,9 @@ module _ (limit : ℕ) (guarantees wishes : List ℕ) where
         place .0,
       )
 
-  pub limits-asked : (places : ℕ) → GrantRequest limit guarantees wishes → places ≡ length guarantees → streetOk limit guarantees wishes places ≡ true
+  pub request-ok : (places : ℕ) → GrantRequest limit guarantees wishes → places ≡ length guarantees → streetOk limit guarantees wishes places ≡ true
   unfolding streetOk
-  limits-asked places h e =
+  request-ok places h e =
       both-true (streetFrameOk limit (length guarantees) (length wishes) places) _
       (le-then _ _ _ (h .some) (le-then _ _ _ (h .most) (eq-then _ _ _ (h .same) (eq-then _ _ _ e (le-leb _ _ (h .limits))))))
       (both-true (allWithin guarantees mostRate) _ (sym (within-true guarantees mostRate (h .guaranteed)))
@@ -53,9 +53,9 @@ module _ (limit : ℕ) (guarantees wishes : List ℕ) where
 
   -- the parts of the test, in its order
   module _ (places : ℕ) where
-    pub asked-frame : streetFrameOk limit (length guarantees) (length wishes) places ≡ false → false ≡ streetOk limit guarantees wishes places
+    pub frame-fails : streetFrameOk limit (length guarantees) (length wishes) places ≡ false → false ≡ streetOk limit guarantees wishes places
     unfolding streetOk
-    asked-frame n = rw n
+    frame-fails n = rw n
 
     module _ (f : streetFrameOk limit (length guarantees) (length wishes) places ≡ true) where
       pub frame-ramps : length guarantees ≤ mostRamps
@@ -64,18 +64,18 @@ module _ (limit : ℕ) (guarantees wishes : List ℕ) where
           let most = le-head (length guarantees) mostRamps _ (some .1) in
           most .0
 
-      pub asked-guarantees : allWithin guarantees mostRate ≡ false → false ≡ streetOk limit guarantees wishes places
+      pub guarantees-fail : allWithin guarantees mostRate ≡ false → false ≡ streetOk limit guarantees wishes places
       unfolding streetOk
-      asked-guarantees n = rw (f, n)
+      guarantees-fail n = rw (f, n)
 
       module _ (g : allWithin guarantees mostRate ≡ true) where
-        pub asked-wishes : allWithin wishes mostRate ≡ false → false ≡ streetOk limit guarantees wishes places
+        pub wishes-fail : allWithin wishes mostRate ≡ false → false ≡ streetOk limit guarantees wishes places
         unfolding streetOk
-        asked-wishes n = rw (f, g, n)
+        wishes-fail n = rw (f, g, n)
 
-        pub asked-sum : allWithin wishes mostRate ≡ true → {sum : ℕ} → sum ≡ sumOf guarantees → leb sum limit ≡ streetOk limit guarantees wishes places
+        pub sum-decides : allWithin wishes mostRate ≡ true → {sum : ℕ} → sum ≡ sumOf guarantees → leb sum limit ≡ streetOk limit guarantees wishes places
         unfolding streetOk
-        asked-sum w e = rw (f, g, w, e)
+        sum-decides w e = rw (f, g, w, e)
 
   -- the sums up to ramp i: of the smaller of wish and guarantee, of the grants, and of the wishes
   abbrev pub sureSum : ℕ → ℕ

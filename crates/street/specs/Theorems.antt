@@ -12,7 +12,7 @@ use Rattle.model.specs.Numbers.{at, unless, sumOf}
 use Rattle.numbers.specs.Tests.{never}
 use Rattle.numbers.specs.SumLaws.{sum-start, sum-more}
 use Rattle.model.specs.Street.{GrantRequest, streetOk, grantsOf, grantingOf, grantsAfter, Fair, GrantEnds}
-use Rattle.street.specs.StreetLaws.{asked-limits, limits-asked, grants-length, grants-limit, grants-sure, grants-wish, grants-order, grants-whole}
+use Rattle.street.specs.StreetLaws.{ok-request, request-ok, grants-length, grants-limit, grants-sure, grants-wish, grants-order, grants-whole}
 
 -- 1: the grants are fair
 pub fair : (limit : ℕ) (guarantees wishes : List ℕ) → GrantRequest limit guarantees wishes → Fair limit guarantees wishes (grantsOf limit guarantees wishes)
@@ -84,9 +84,9 @@ module _ (limit : ℕ) (guarantees wishes grants : List ℕ) where
       go : (a : Bool) → streetOk limit guarantees wishes (length grants) ≡ a
           → GrantEnds limit guarantees wishes grants (unless a 24 0) (unless a grants (grantsOf limit guarantees wishes))
       go true e =
-          let asked = asked-limits limit guarantees wishes (length grants) e in
-          GrantEnds.granted (asked .0) (asked .1) (fair limit guarantees wishes (asked .0))
-      go false e = GrantEnds.refused (λ asked same. never (limits-asked limit guarantees wishes (length grants) asked same) e)
+          let request = ok-request limit guarantees wishes (length grants) e in
+          GrantEnds.granted (request .0) (request .1) (fair limit guarantees wishes (request .0))
+      go false e = GrantEnds.refused (λ request same. never (request-ok limit guarantees wishes (length grants) request same) e)
 
 -- an answer and grants that the definitions give are one of the cases, so a contract may promise all three
 pub ended : (limit : ℕ) (guarantees wishes grants : List ℕ) {number : ℕ} {left : List ℕ}
@@ -99,8 +99,8 @@ ended limit guarantees wishes grants e f = (e, (f, rw (e, f) (ends limit guarant
 module _ {limit : ℕ} {guarantees wishes grants : List ℕ} where
   refused-not : {number : ℕ} {left : List ℕ} → GrantEnds limit guarantees wishes grants number left → number ≡ 24
       → GrantRequest limit guarantees wishes → length grants ≡ length guarantees → ⊥
-  refused-not (GrantEnds.refused h) e asked same = h asked same
-  refused-not (GrantEnds.granted q s f) e asked same = omega arith
+  refused-not (GrantEnds.refused h) e request same = h request same
+  refused-not (GrantEnds.granted q s f) e request same = omega arith
 
   not-refused : {number : ℕ} {left : List ℕ} → GrantEnds limit guarantees wishes grants number left
       → (GrantRequest limit guarantees wishes → length grants ≡ length guarantees → ⊥) → (number ≡ 24) × (left ≡ grants)

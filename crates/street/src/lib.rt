@@ -23,7 +23,7 @@ fn frame_within(limit: u32, ramps: usize, wishes: usize, places: usize) -> bool
 }
 
 // Whether all limits of 24 hold.
-fn asked_within(limit: u32, guarantees: &[u32], wishes: &[u32], places: usize) -> bool
+fn request_within(limit: u32, guarantees: &[u32], wishes: &[u32], places: usize) -> bool
     ensures { λ r. ⌜ r ≡ streetOk limit (now (guarantees .entry)) (now (wishes .entry)) places ⌝ }
 {
     if !frame_within(limit, guarantees.len(), wishes.len(), places) {
@@ -75,7 +75,7 @@ pub fn grant(limit: u32, guarantees: &[u32], wishes: &[u32], grants: &mut [u32])
     ensures grants { λ r. ⌜ now (grants .exit) ≡ grantsAfter limit (now (guarantees .entry)) (now (wishes .entry)) (now (grants .entry)) ⌝ }
     ensures ends { λ r. ⌜ GrantEnds limit (now (guarantees .entry)) (now (wishes .entry)) (now (grants .entry)) (refusalNumber r) (now (grants .exit)) ⌝ }
 {
-    if !asked_within(limit, guarantees, wishes, grants.len()) {
+    if !request_within(limit, guarantees, wishes, grants.len()) {
         return Refusal::StreetInput;
     }
     share(limit, guarantees, wishes, grants);

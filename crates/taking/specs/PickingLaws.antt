@@ -13,7 +13,7 @@ use Rattle.numbers.specs.RowsLaws.{fill-more, fill-same, length-fill}
 use Rattle.model.specs.Record.{versionOffset, numberSize, numberOf, versionOf, rowStart, rowNumbers, entryOf, recordRow}
 use Rattle.fields.specs.FieldsLaws.{HoldsRow, row-taken, holds-row}
 use Rattle.model.specs.Reading.{ReadAnswer, readingOf}
-use Rattle.reading.specs.Cases.{Found, read-found, early-refused}
+use Rattle.reading.specs.Cases.{ReadingEnds, read-found, early-refused}
 use Rattle.model.specs.RowNumbers.{noNumbers, entryOr, numberAt, numbersAt, rowArray}
 
 -- one number, whose bytes are all present or not
@@ -89,14 +89,14 @@ row-held s n t l h =
     ∙ row-taken s n t noNumbers (numbersAt s n t) (omega (arith, length-replicate {A = ℕ} 129 0, h .cells)) (held-numbers s n t h)
 
 -- for a record that reads, the numbers taken are the row of each of its steps
-found-row : (s : List ℕ) {a : ReadAnswer} → Found s a → a .number ≡ 0 → (t : ℕ) → t < a .steps
+found-row : (s : List ℕ) {a : ReadAnswer} → ReadingEnds s a → a .number ≡ 0 → (t : ℕ) → t < a .steps
     → take (rowNumbers (a .road .n)) (rowArray s (a .road .n) t) ≡ recordRow s (a .road .n) t
-found-row s (Found.early k l) h t m = absurd (early-refused l h)
-found-row s (Found.atPlace p l) h t m = absurd (omega arith)
-found-row s (Found.atStep q l) h t m = absurd (omega arith)
-found-row s {a} (Found.clear w) h t m =
+found-row s (ReadingEnds.early k l) h t m = absurd (early-refused l h)
+found-row s (ReadingEnds.atPlace p l) h t m = absurd (omega arith)
+found-row s (ReadingEnds.atStep q l) h t m = absurd (omega arith)
+found-row s {a} (ReadingEnds.clear w) h t m =
     row-held s (a .road .n) t (omega (arith, w .steps)) (holds-row s (a .road .n) t (a .steps) (w .road .cells) (omega (arith, w .size)) m)
 
 pub row-read : (s : List ℕ) (a : ReadAnswer) → a ≡ readingOf s → a .number ≡ 0 → (t : ℕ) → t < a .steps
     → take (rowNumbers (a .road .n)) (rowArray s (a .road .n) t) ≡ recordRow s (a .road .n) t
-row-read s a e h = let f : Found s a = rw e (read-found s) in found-row s f h
+row-read s a e h = let f : ReadingEnds s a = rw e (read-found s) in found-row s f h

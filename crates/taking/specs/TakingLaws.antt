@@ -123,16 +123,16 @@ module _ {row start : List ℕ} where
         fill-at (at row) (length start) start i i-in (omega arith) ∙ sym (getD-take (length start) row i 0 i-in))
 
 -- the loop over the steps: the rows of the first t steps are in the list, and the next begins at `from`
-pub record Listed (bytes : List ℕ) (n T : ℕ) (list out : List ℕ) (from t : ℕ) : Type 0 where
+pub record RowsSoFar (bytes : List ℕ) (n T : ℕ) (list out : List ℕ) (from t : ℕ) : Type 0 where
   pub within : t ≤ T
   pub place : from ≡ t * rowNumbers n
   pub rows : out ≡ frontOf (takenRow bytes n) (rowNumbers n) list t
 
 module _ {bytes : List ℕ} {n T : ℕ} {list : List ℕ} where
-  pub listed-none : Listed bytes n T list list 0 0
+  pub listed-none : RowsSoFar bytes n T list list 0 0
   listed-none = record { within = omega arith; place = omega arith; rows = sym (front-none (takenRow bytes n) (rowNumbers n) list) }
 
-  module _ {out : List ℕ} {from t : ℕ} (h : Listed bytes n T list out from t) (r : Roomy n T (length list)) where
+  module _ {out : List ℕ} {from t : ℕ} (h : RowsSoFar bytes n T list out from t) (r : Roomy n T (length list)) where
     -- the list keeps its length
     pub listed-length : length out ≡ length list
     listed-length =
@@ -150,7 +150,7 @@ module _ {bytes : List ℕ} {n T : ℕ} {list : List ℕ} where
     -- one more row, as the code's write to a part of the list leaves it
     pub listed-more : t < T → {row part : List ℕ} → row ≡ rowArray bytes n t
         → part ≡ take (length (take (from + rowNumbers n - from) (drop from out))) row
-        → Listed bytes n T list (take from out ++ (part ++ drop (from + rowNumbers n - from) (drop from out))) (from + rowNumbers n) (t + 1)
+        → RowsSoFar bytes n T list (take from out ++ (part ++ drop (from + rowNumbers n - from) (drop from out))) (from + rowNumbers n) (t + 1)
     listed-more l {row} {part} er ep =
         let e : part ≡ takenRow bytes n t =
         ep ∙ ap (λ (w : ℕ). take w row) (part-length out from (rowNumbers n) (row-fits l)) ∙ ap (take (rowNumbers n)) er in

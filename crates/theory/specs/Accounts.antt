@@ -9,7 +9,7 @@ use Rattle.model.specs.declared.State.{State}
 use Rattle.model.specs.Road.{totalOf}
 use Rattle.numbers.specs.Zeros.{zeros-at}
 use Rattle.model.specs.Schedules.{Study, roadAt, scheduleAfter, proposedAt, scheduledAt}
-use Rattle.model.specs.Places.{cumulativeAt}
+use Rattle.model.specs.Flow.{cumulativeAt}
 use Rattle.model.specs.Move.{heldSum, queueSum, presentOf, exitAt, exitsOf}
 use Rattle.theory.specs.MoveLaws.{next-gate-time, next-road-time, next-ramp-time, next-total, next-cumulative}
 use Rattle.theory.specs.Roads.{step-alike, held-alike, queue-alike, present-alike, sized-alike}

@@ -11,7 +11,7 @@ use Rattle.model.specs.declared.Road.{Road}
 use Rattle.model.specs.declared.State.{State}
 use Rattle.model.specs.Numbers.{at}
 use Rattle.limits.specs.LimitsLaws.{RoadOk}
-use Rattle.model.specs.Places.{demandAt, roomAt, shareAt, cumulativeAt, enteringAt}
+use Rattle.model.specs.Flow.{demandAt, roomAt, shareAt, cumulativeAt, enteringAt}
 use Rattle.theory.specs.RulesLaws.{onwardAt, share-last}
 use Rattle.model.specs.Move.{nextOf}
 use Rattle.model.specs.Schedules.{Obeys}
@@ -21,7 +21,7 @@ use Rattle.theory.specs.Finer.{timesOf, reachOf, thousandsOf}
 use Rattle.theory.specs.FinerRules.{place-most, place-least}
 use Rattle.theory.specs.FinerLaws.{FinerRoad, finer-alike, finer-onward, reach-on, reach-pos, reach-le, reach-alike}
 use Rattle.theory.specs.Coupling.{Coupling, sized-finer}
-use Rattle.theory.specs.StepRules.{Decided, demand-most, demand-least, room-most, room-least}
+use Rattle.theory.specs.StepRules.{DecidedOutflows, demand-most, demand-least, room-most, room-least}
 
 -- t's F and onward total exceed K times those of s by at most U thousands: F times the product R of the shares from its place on, the onward
 -- total times the product from the next place on
@@ -126,7 +126,7 @@ module _ (K : ℕ) (q q′ : Road) (s t : State) (row y z : List ℕ) (k : 0 < K
       inr (none, omega arith))
       (eq-zero-or-pos (shareAt q p))
 
-  module _ (U : ℕ) (m : Most K U q s t) (decided : Decided q s row y) where
+  module _ (U : ℕ) (m : Most K U q s t) (decided : DecidedOutflows q s row y) where
     demands : (p : ℕ) → p ≤ q .n
         → (cumulativeAt t p + demandAt q′ t p) * R p ≤ K * (cumulativeAt s p + demandAt q s p) * R p + (U + K) * D p
     demands p l =
@@ -173,7 +173,7 @@ module _ (K : ℕ) (q q′ : Road) (s t : State) (row y z : List ℕ) (k : 0 < K
           (place-of p (omega arith));
     }
 
-  module _ (L : ℕ) (m : Least K L q s t) (decided : Decided q′ t (timesOf K row) z) where
+  module _ (L : ℕ) (m : Least K L q s t) (decided : DecidedOutflows q′ t (timesOf K row) z) where
     least-demands : (p : ℕ) → p ≤ q .n
         → K * (cumulativeAt s p + demandAt q s p) * R p ≤ (cumulativeAt t p + demandAt q′ t p) * R p + (L + 1) * D p
     least-demands p l =

@@ -13,12 +13,12 @@ use Rattle.model.specs.declared.State.{State}
 use Rattle.model.specs.Numbers.{at}
 use Rattle.model.specs.Road.{totalOf}
 use Rattle.limits.specs.LimitsLaws.{RoadOk}
-use Rattle.model.specs.Places.{releaseAt, capacityAt, demandAt, supplyAt, roomAt, shareAt, cumulativeAt, enteringAt}
+use Rattle.model.specs.Flow.{releaseAt, capacityAt, demandAt, supplyAt, roomAt, shareAt, cumulativeAt, enteringAt}
 use Rattle.theory.specs.RulesLaws.{onwardAt, Sized, demand-at-gate, demand-at-cell}
 use Rattle.model.specs.Move.{nextOf}
 use Rattle.model.specs.Schedules.{Obeys, Greatest}
 use Rattle.theory.specs.MoveLaws.{next-gate-queue, next-held, next-queue, next-cumulative, next-onward, next-sized, next-ramp-time, next-total}
-use Rattle.theory.specs.Roads.{Alike, Wider, Compared, alike-back, share-alike, onward-alike, queue-alike, present-alike, sized-alike}
+use Rattle.theory.specs.Roads.{Alike, Wider, ComparedRoads, alike-back, share-alike, onward-alike, queue-alike, present-alike, sized-alike}
 use Rattle.theory.specs.TwoStates.{Level, level-self, level-alike, onward-le, queue-same, present-le}
 
 -- s and t are level, their ramp times are equal, and t's total is not smaller
@@ -183,7 +183,7 @@ module _ (a b : Road) (s t : State) (row y z : List ℕ) (okA : RoadOk a) (okB :
       )
 
 -- a step with the greatest outflows on one side and any row that obeys the rules on the other, on roads with r's cells and shares
-pub step-behind : (r a b : Road) (s t : State) (row y z : List ℕ) → Compared r a b → Obeys b s row y → Greatest b s row y → Obeys a t row z
+pub step-behind : (r a b : Road) (s t : State) (row y z : List ℕ) → ComparedRoads r a b → Obeys b s row y → Greatest b s row y → Obeys a t row z
     → Behind r s t → Behind r (nextOf b s row y) (nextOf a t row z)
 step-behind r a b s t row y z c own most ok before =
     let h : Level a s t = level-alike r a s t (c .alike) (before .level) in

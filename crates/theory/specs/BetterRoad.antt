@@ -12,7 +12,7 @@ use Rattle.model.specs.declared.Road.{Road}
 use Rattle.model.specs.Schedules.{Study, openRoad, roadAt, engineAfter, outflowsAt}
 use Rattle.theory.specs.Roads.{Wider, step-alike}
 use Rattle.theory.specs.OpenRoad.{opened-wider}
-use Rattle.theory.specs.RunsLaws.{Fitting, StudyOk, Rivals, engine-schedule, engine-obeys, run-behind}
+use Rattle.theory.specs.RunsLaws.{ReleasesFitUpTo, StudyOk, Rivals, engine-schedule, engine-obeys, run-behind}
 use Rattle.theory.specs.Behind.{Behind}
 
 -- b is the study a with another road, on which no speed, wave, jam count or capacity is smaller. The shares are the same: with a larger share
@@ -57,7 +57,7 @@ module _ {a b : Study} (h : Improved a b) (okA : StudyOk a) (okB : StudyOk b) (l
   }
 
   -- after k steps that both make, no F on the better road is smaller and its total is not larger
-  pub improved-behind : (k : ℕ) → k ≤ a .steps → Fitting a k → Fitting b k → Behind (a .road) (engineAfter b k) (engineAfter a k)
+  pub improved-behind : (k : ℕ) → k ≤ a .steps → ReleasesFitUpTo a k → ReleasesFitUpTo b k → Behind (a .road) (engineAfter b k) (engineAfter a k)
   improved-behind k l fitsA fitsB =
       subst⁻¹ (Behind (a .road) (engineAfter b k)) (engine-schedule a k)
       (run-behind a b (outflowsAt a) k (improved-rivals k l) fitsB (engine-obeys a k fitsA))

@@ -12,7 +12,7 @@ use Rattle.model.specs.Road.{totalOf}
 use Rattle.model.specs.Schedules.{roadAt, outflowsOf, engineAfter}
 use Rattle.model.specs.Record.{numberOf, secondsSize}
 use Rattle.model.specs.Limits.{placeOk, rowOk}
-use Rattle.model.specs.Places.{capacityAt, demandAt, mostReleaseAt, shareAt, cumulativeAt}
+use Rattle.model.specs.Flow.{capacityAt, demandAt, mostReleaseAt, shareAt, cumulativeAt}
 use Rattle.model.specs.Move.{movedTo, countedOf}
 use Rattle.model.specs.Stepping.{lowestOf, tableFault}
 use Rattle.theory.specs.BetterRoad.{Improved}

@@ -11,7 +11,7 @@ use lib.ListN.{length}
 use Rattle.numbers.specs.Tests.{order}
 use Rattle.model.specs.Road.{totalOf}
 use Rattle.model.specs.Schedules.{Study, tableSize, engineAfter}
-use Rattle.theory.specs.RunsLaws.{Fitting, StudyOk}
+use Rattle.theory.specs.RunsLaws.{ReleasesFitUpTo, StudyOk}
 use Rattle.theory.specs.BetterRoad.{Improved, improved-behind}
 use Rattle.model.specs.Reading.{readingOf, studyOf}
 use Rattle.reading.specs.Numbers.{read-numbers}
@@ -42,7 +42,7 @@ module _ (bytes lanes : List ℕ) (taken : Taken bytes lanes) where
         (λ (l : length list < tableSize a). rw (runs-short bytes lanes taken list l) (omega arith))
         (order (tableSize a) (length list))
 
-    fits : (k : ℕ) → k ≤ stepsMade (studyOf bytes lanes) (runningOf bytes lanes list) → Fitting (studyOf bytes lanes) k
+    fits : (k : ℕ) → k ≤ stepsMade (studyOf bytes lanes) (runningOf bytes lanes list) → ReleasesFitUpTo (studyOf bytes lanes) k
     fits k l = run-fits a k (λ j m. step-before (runSays a) (a .steps) j (omega (arith, within)))
 
     -- if its list is long enough, a run returns the state after the steps made

@@ -7,7 +7,7 @@ use native.Mathlib.Omega.{arith}
 use lib.ListN.{take}
 use Rattle.model.specs.Numbers.{sumOf, listOf, at}
 use Rattle.model.specs.declared.Road.{Road}
-use Rattle.model.specs.Places.{gateArrivals, arrivalsAt, shareAt, cumulativeAt}
+use Rattle.model.specs.Flow.{gateArrivals, arrivalsAt, shareAt, cumulativeAt}
 use Rattle.model.specs.Flow.{onwardOf}
 use Rattle.flow.specs.FlowLaws.{onward-le, onward-whole}
 use Rattle.numbers.specs.SumLaws.{sum-start, sum-more}
@@ -16,7 +16,7 @@ use Rattle.model.specs.declared.State.{State}
 use Rattle.limits.specs.LimitsLaws.{RoadOk}
 use Rattle.theory.specs.RulesLaws.{onwardAt, Sized, release-there, share-gate, onward-last, demand-at-gate, demand-at-cell, outflows-obey}
 use Rattle.model.specs.Move.{nextOf, presentOf, exitAt, exitsOf}
-use Rattle.model.specs.Schedules.{Released, Obeys, outflowsOf}
+use Rattle.model.specs.Schedules.{ReleasesFit, Obeys, outflowsOf}
 use Rattle.theory.specs.MoveLaws.{next-gate-queue, next-held, next-queue, next-cumulative, next-onward, next-sized}
 use Rattle.theory.specs.Roads.{Alike}
 
@@ -86,7 +86,7 @@ module _ (r : Road) (s : State) (row y : List ℕ) (road : RoadOk r) (z : Sized 
   conserved = omega (arith, prefix (r .n) (le-refl (r .n)), onward-last r road s, onward-last r road T)
 
 -- the same for the engine's step
-pub engine-conserved : (r : Road) (s : State) (row : List ℕ) → RoadOk r → Sized r s → Released r s row
+pub engine-conserved : (r : Road) (s : State) (row : List ℕ) → RoadOk r → Sized r s → ReleasesFit r s row
     → presentOf r s + exitsOf r s + arrivalsOf r row
     ≡ presentOf r (nextOf r s row (outflowsOf r s row)) + exitsOf r (nextOf r s row (outflowsOf r s row))
 engine-conserved r s row road z ok = conserved r s row (outflowsOf r s row) road z (outflows-obey r s row ok)

@@ -11,7 +11,7 @@ use Rattle.model.specs.declared.Road.{Road}
 use Rattle.model.specs.declared.State.{State}
 use Rattle.model.specs.Numbers.{at}
 use Rattle.limits.specs.LimitsLaws.{RoadOk}
-use Rattle.model.specs.Places.{gateArrivals, arrivalsAt, releaseAt, capacityAt, demandAt, supplyAt, shareAt, cumulativeAt}
+use Rattle.model.specs.Flow.{gateArrivals, arrivalsAt, releaseAt, capacityAt, demandAt, supplyAt, shareAt, cumulativeAt}
 use Rattle.theory.specs.RulesLaws.{onwardAt, Sized, release-there, demand-at-gate, share-le}
 use Rattle.model.specs.Move.{nextOf}
 use Rattle.model.specs.Schedules.{Obeys}

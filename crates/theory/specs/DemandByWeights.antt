@@ -9,7 +9,7 @@ use lib.ListN.{length}
 use borrow.Author.Tests.{ne-eqb}
 use Rattle.numbers.specs.Tests.{order}
 use Rattle.model.specs.Schedules.{Study, tableSize, scheduleAfter, engineAfter, proposedAt, scheduledAt}
-use Rattle.theory.specs.RunsLaws.{Fitting, StudyOk, rivals-self, run-weighted}
+use Rattle.theory.specs.RunsLaws.{ReleasesFitUpTo, StudyOk, rivals-self, run-weighted}
 use Rattle.model.specs.Weights.{weightedTotal, Falling, weightedTotalOfRun, weightedTotalOfSchedule}
 use Rattle.theory.specs.WeightsLaws.{weighted-total-same, weighted-total-none}
 use Rattle.model.specs.Reading.{readingOf, studyOf}
@@ -45,7 +45,7 @@ module _ (bytes lanes : List ℕ) (taken : Taken bytes lanes) (list : List ℕ) 
       (λ (l : length list < tableSize a). rw (runs-short bytes lanes taken list l) (omega arith))
       (order (tableSize a) (length list))
 
-  fits : Fitting a K
+  fits : ReleasesFitUpTo a K
   fits = run-fits a K (step-before (runSays a) (a .steps))
 
   -- the states of the rows written are the engine's
@@ -114,17 +114,17 @@ module _ (w u : ℕ → ℕ) (bytes lanes list : List ℕ) where
       ap (weightedTotal w u (studyOf bytes lanes .road .n) (engineAfter (studyOf bytes lanes))) e
       ∙ weighted-total-none w u (studyOf bytes lanes .road .n) (engineAfter (studyOf bytes lanes))
 
-  pub weighs-unopened : (openingOf bytes lanes .number ≡ 0 → ⊥) → weightedTotalOfRun w u bytes lanes list ≡ 0
-  weighs-unopened h = weighed-none (rw (runs-unopened bytes lanes h list, ne-eqb (openingOf bytes lanes .number) 0 h) refl)
+  pub weighted-unopened : (openingOf bytes lanes .number ≡ 0 → ⊥) → weightedTotalOfRun w u bytes lanes list ≡ 0
+  weighted-unopened h = weighed-none (rw (runs-unopened bytes lanes h list, ne-eqb (openingOf bytes lanes .number) 0 h) refl)
 
   module _ (taken : Taken bytes lanes) where
-    pub weighs-short : length list < tableSize (studyOf bytes lanes) → weightedTotalOfRun w u bytes lanes list ≡ 0
-    weighs-short l = weighed-none (rw (runs-short bytes lanes taken list l) refl)
+    pub weighted-short : length list < tableSize (studyOf bytes lanes) → weightedTotalOfRun w u bytes lanes list ≡ 0
+    weighted-short l = weighed-none (rw (runs-short bytes lanes taken list l) refl)
 
-    pub weighs-long : tableSize (studyOf bytes lanes) ≤ length list
+    pub weighted-long : tableSize (studyOf bytes lanes) ≤ length list
         → weightedTotalOfRun w u bytes lanes list
         ≡ weightedTotal w u (studyOf bytes lanes .road .n) (engineAfter (studyOf bytes lanes)) (firstStep (runSays (studyOf bytes lanes)) (studyOf bytes lanes .steps))
     unfolding weightedTotalOfRun
-    weighs-long l =
+    weighted-long l =
         let a = studyOf bytes lanes in
         ap (weightedTotal w u (a .road .n) (engineAfter a)) (ap (stepsMade a) (runs-long bytes lanes taken list l) ∙ end-made a (runSays a) (engineAfter a))

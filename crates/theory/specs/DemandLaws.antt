@@ -6,9 +6,9 @@ use native.Mathlib.Nat.{le-refl}
 use native.Mathlib.Omega.{arith}
 use Rattle.model.specs.declared.Road.{Road}
 use Rattle.model.specs.declared.State.{State}
-use Rattle.model.specs.Schedules.{Study, roadAt, scheduleAfter, engineAfter, outflowsAt, Obeying, proposedAt, scheduledAt}
-use Rattle.model.specs.Places.{cumulativeAt}
-use Rattle.theory.specs.RunsLaws.{Fitting, StudyOk, engine-greatest, rivals-self, run-behind}
+use Rattle.model.specs.Schedules.{Study, roadAt, scheduleAfter, engineAfter, outflowsAt, ObeysUpTo, proposedAt, scheduledAt}
+use Rattle.model.specs.Flow.{cumulativeAt}
+use Rattle.theory.specs.RunsLaws.{ReleasesFitUpTo, StudyOk, engine-greatest, rivals-self, run-behind}
 use Rattle.theory.specs.RulesLaws.{outflows-obey}
 use Rattle.theory.specs.Behind.{Behind}
 use Rattle.model.specs.Running.{runSays, firstStep, ended, runEnd}
@@ -35,11 +35,11 @@ module _ (a : Study) (ok : StudyOk a) where
   abbrev J : List ℕ → ℕ
   J zs = firstStep (judgeSays a zs) (a .steps)
 
-  fits : Fitting a K
+  fits : ReleasesFitUpTo a K
   fits = run-fits a K (step-before (runSays a) (a .steps))
 
   -- no schedule of the study is ahead of the engine
-  pub engine-best : (zs : List ℕ) (k : ℕ) → k ≤ K → Obeying a (proposedAt a zs) k → Ahead (a .road) (engineAfter a k) (scheduledAt a zs k)
+  pub engine-best : (zs : List ℕ) (k : ℕ) → k ≤ K → ObeysUpTo a (proposedAt a zs) k → Ahead (a .road) (engineAfter a k) (scheduledAt a zs k)
   engine-best zs k l h =
       behind-ahead (a .road) (engineAfter a k) (scheduledAt a zs k)
       (run-behind a a (proposedAt a zs) k (rivals-self a ok k) (λ j m. fits j (omega arith)) h)
@@ -51,13 +51,13 @@ module _ (a : Study) (ok : StudyOk a) where
     own-state zero l = refl
     own-state (suc k) l = rw (own-state k (omega arith), same k l)
 
-    pub own-obeys : Obeying a (proposedAt a out) K
+    pub own-obeys : ObeysUpTo a (proposedAt a out) K
     own-obeys j l = rw (own-state j (omega arith), same j l) (outflows-obey (roadAt a j) (engineAfter a j) (a .rows j) (fits j l))
 
     pub own-greatest : (j : ℕ) → j < K → GreatestIn a out j
     own-greatest j l = rw (own-state j (omega arith), same j l) (engine-greatest a j (fits j l))
 
-    pub own-best : (zs : List ℕ) (k : ℕ) → k ≤ K → Obeying a (proposedAt a zs) k → Ahead (a .road) (scheduledAt a out k) (scheduledAt a zs k)
+    pub own-best : (zs : List ℕ) (k : ℕ) → k ≤ K → ObeysUpTo a (proposedAt a zs) k → Ahead (a .road) (scheduledAt a out k) (scheduledAt a zs k)
     own-best zs k l h = rw (own-state k l) (engine-best zs k l h)
 
     -- judging accepts them if running was not refused

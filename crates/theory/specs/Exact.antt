@@ -12,9 +12,9 @@ use Rattle.model.specs.Flow.{whole, thousandthsOf, demandOf, supplyOf, onwardOf
 use Rattle.flow.specs.FlowLaws.{onward-entering, outflow-le, outflow-fits, outflow-greatest}
 use Rattle.model.specs.declared.Road.{Road}
 use Rattle.model.specs.declared.State.{State}
-use Rattle.model.specs.Places.{demandAt, roomAt, shareAt, cumulativeAt}
-use Rattle.model.specs.Schedules.{Released, Obeys}
-use Rattle.theory.specs.StepRules.{Decided}
+use Rattle.model.specs.Flow.{demandAt, roomAt, shareAt, cumulativeAt}
+use Rattle.model.specs.Schedules.{ReleasesFit, Obeys}
+use Rattle.theory.specs.StepRules.{DecidedOutflows}
 
 -- s thousandths of x, if they are a whole number
 exact-thousandths : (s x d : ℕ) → s * x ≡ whole * d → thousandthsOf s x ≡ d
@@ -88,13 +88,13 @@ exact-outflow b F room demand d x z some e h w =
 
 -- a row of the papers' outflows: such an outflow at each place before the last, and the demand where nothing goes on
 pub record PaperRow (r : Road) (s : State) (row y : List ℕ) : Type 0 where
-  pub released : Released r s row
+  pub released : ReleasesFit r s row
   pub place : (p : ℕ) → p < r .n → PaperOutflow (shareAt r p) (cumulativeAt s p) (roomAt r s row p) (demandAt r s p) (at y p)
   pub exit : (p : ℕ) → p ≤ r .n → shareAt r p ≡ 0 → at y p ≡ demandAt r s p
   pub last : at y (r .n) ≡ demandAt r s (r .n)
 
 -- such a row obeys the rules, and demand or room decides at each place
-pub papers-obey : (r : Road) (s : State) (row y : List ℕ) → PaperRow r s row y → Obeys r s row y × Decided r s row y
+pub papers-obey : (r : Road) (s : State) (row y : List ℕ) → PaperRow r s row y → Obeys r s row y × DecidedOutflows r s row y
 papers-obey r s row y h = (
   record {
     released = h .released;

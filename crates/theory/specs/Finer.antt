@@ -7,7 +7,7 @@ use Rattle.model.specs.Flow.{whole}
 use Rattle.model.specs.declared.Road.{Road}
 use Rattle.model.specs.declared.State.{State}
 use Rattle.model.specs.Schedules.{Study, study}
-use Rattle.model.specs.Places.{shareAt}
+use Rattle.model.specs.Flow.{shareAt}
 
 -- every number of a list times K
 unfoldable pub timesOf : ℕ → List ℕ → List ℕ

@@ -18,7 +18,7 @@ use Rattle.model.specs.declared.State.{State}
 use Rattle.model.specs.Road.{mostRate}
 use Rattle.model.specs.Schedules.{Study, openRoad, roadAt}
 use Rattle.limits.specs.LimitsLaws.{RoadOk}
-use Rattle.model.specs.Places.{capacityAt, shareAt}
+use Rattle.model.specs.Flow.{capacityAt, shareAt}
 use Rattle.theory.specs.RulesLaws.{onwardAt, share-le}
 use Rattle.theory.specs.Roads.{Alike, share-alike, onward-alike}
 use Rattle.theory.specs.RunsLaws.{StudyOk}

@@ -16,7 +16,7 @@ use Rattle.model.specs.Refusals.{FaultAnswer}
 use Rattle.model.specs.Schedules.{Study, roadAt, scheduleAfter, engineAfter, outflowsAt, proposedAt, scheduledAt}
 use Rattle.model.specs.Running.{EndAnswer, ended, runSays, firstStep, endOf, runEnd, stepsMade}
 use Rattle.model.specs.Judging.{judgeSays, judgeEnd}
-use Rattle.model.specs.Ramps.{Metered, meteredOf}
+use Rattle.model.specs.Filling.{MeterState, meteredOf}
 use Rattle.model.specs.Filling.{meteredFrom}
 use Rattle.theory.specs.StepLaws.{number-of}
 use Rattle.theory.specs.SchedulesLaws.{step-within, step-before, end-all, end-fault, end-made, end-state, end-road}
@@ -102,12 +102,12 @@ module _ {a b : Study} {k : ℕ} (h : Rest a b k) where
       rw (schedule-rest ys zs s same j (omega arith), h .roads j l, h .rows j l, same j l, add-suc k j)
 
   -- what the wishes of filling are computed from
-  pub metered-rest : (laws : List Law) (m p : Metered) → p ≡ meteredFrom laws a m k
+  pub metered-rest : (laws : List Law) (m p : MeterState) → p ≡ meteredFrom laws a m k
       → (j : ℕ) → j ≤ b .steps → meteredFrom laws b p j ≡ meteredFrom laws a m (k + j)
   unfolding meteredFrom
   metered-rest laws m p s zero l = s ∙ ap (meteredFrom laws a m) (sym (add-zero k))
   metered-rest laws m p s (suc j) l =
-      ap (λ (x : Metered). meteredOf laws (roadAt b j) x (b .rows j)) (metered-rest laws m p s j (omega arith))
+      ap (λ (x : MeterState). meteredOf laws (roadAt b j) x (b .rows j)) (metered-rest laws m p s j (omega arith))
       ∙ ap (λ (q : Road). meteredOf laws q (meteredFrom laws a m (k + j)) (b .rows j)) (h .roads j l)
       ∙ ap (meteredOf laws (roadAt a (k + j)) (meteredFrom laws a m (k + j))) (h .rows j l)
       ∙ ap (meteredFrom laws a m) (sym (add-suc k j))

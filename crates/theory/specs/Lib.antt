@@ -19,7 +19,7 @@ pub mod SchedulesLaws
 pub mod TableLaws
 pub mod Readable
 pub mod Opening
-pub mod Started
+pub mod StartingState
 pub mod RunEnds
 pub mod DemandLaws
 pub mod DemandWhole
@@ -36,7 +36,7 @@ pub mod NotEmpty
 pub mod BetterRoadNotEmpty
 pub mod WeightsUnread
 pub mod Finer
-pub mod Worked
+pub mod WorkedFiner
 pub mod FinerRules
 pub mod FinerLaws
 pub mod Coupling

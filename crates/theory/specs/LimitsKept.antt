@@ -11,11 +11,11 @@ use Rattle.model.specs.declared.Road.{Road}
 use Rattle.model.specs.declared.State.{State}
 use Rattle.model.specs.Numbers.{at, firstOf}
 use Rattle.model.specs.Road.{mostSteps, mostRate, mostPresent}
-use Rattle.model.specs.Schedules.{openRoad, Released, Obeys, outflowsOf}
+use Rattle.model.specs.Schedules.{openRoad, ReleasesFit, Obeys, outflowsOf}
 use Rattle.model.specs.Lanes.{lanesAt}
 use Rattle.model.specs.Limits.{mostQueue, mostCumulative, inputOk}
 use Rattle.limits.specs.LimitsLaws.{StateOk, RowOk, InputOk, input-facts, input-ok}
-use Rattle.model.specs.Places.{releaseAt, supplyAt, capacityAt, cumulativeAt}
+use Rattle.model.specs.Flow.{releaseAt, supplyAt, capacityAt, cumulativeAt}
 use Rattle.model.specs.Move.{nextOf, presentOf}
 use Rattle.theory.specs.RulesLaws.{Sized, demand-rate, outflows-obey}
 use Rattle.model.specs.Stepping.{answer, steppingOf}
@@ -80,7 +80,7 @@ module _ (r : Road) (s : State) (row y : List ℕ) (ok : InputOk r s row) (z : S
 
 -- a step on its road q is not refused. Then the next step is not refused with 7 if its row is within the limits, nor with 8 before step 1,440
 module _ (r q : Road) (h : StepRoad r q) (s : State) (row : List ℕ) (z : Sized q s) (in-limits : inputOk r s row ≡ true) (d : s .done < mostSteps)
-    (ok : Released q s row) where
+    (ok : ReleasesFit q s row) where
   abbrev N : State
   N = nextOf q s row (outflowsOf q s row)
 
@@ -98,7 +98,7 @@ module _ (r q : Road) (h : StepRoad r q) (s : State) (row : List ℕ) (z : Sized
       })
 
   pub step-goes-on : (later built usable : List ℕ) → RowOk r later → firstOf (lanesAt built usable) (r .n) ≡ r .n → s .done + 1 < mostSteps
-      → Released (openRoad r built usable) N later
+      → ReleasesFit (openRoad r built usable) N later
       → steppingOf r N later built usable
       ≡ answer (fault 0 0) (nextOf (openRoad r built usable) N later (outflowsOf (openRoad r built usable) N later))
   step-goes-on later built usable l lanes m rel =

@@ -11,7 +11,7 @@ use Rattle.model.specs.declared.Road.{Road}
 use Rattle.model.specs.declared.State.{State}
 use Rattle.model.specs.Numbers.{at}
 use Rattle.model.specs.Road.{totalOf}
-use Rattle.model.specs.Places.{gateArrivals, arrivalsAt, releaseAt, shareAt, cumulativeAt, enteringAt}
+use Rattle.model.specs.Flow.{gateArrivals, arrivalsAt, releaseAt, shareAt, cumulativeAt, enteringAt}
 use Rattle.theory.specs.RulesLaws.{onwardAt, Sized}
 use Rattle.model.specs.Move.{heldOf, queueOf, cumulativeOf, movedTo, heldSum, queueSum, presentOf, countedOf, nextOf}
 

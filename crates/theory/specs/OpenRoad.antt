@@ -16,7 +16,7 @@ use Rattle.lanes.specs.LanesLaws.{open-all, open-le, open-mono, table-within}
 use Rattle.model.specs.declared.Road.{Road}
 use Rattle.model.specs.Schedules.{Study, withCapacity, openRoad, roadAt}
 use Rattle.limits.specs.LimitsLaws.{RoadOk}
-use Rattle.model.specs.Places.{capacityAt}
+use Rattle.model.specs.Flow.{capacityAt}
 use Rattle.theory.specs.StepLaws.{TableOk}
 use Rattle.theory.specs.Roads.{Wider, StepRoad, step-road-self}
 

@@ -10,8 +10,8 @@ use Rattle.numbers.specs.SumLaws.{sum-start, sum-more}
 use Rattle.model.specs.declared.Road.{Road}
 use Rattle.model.specs.declared.State.{State}
 use Rattle.model.specs.Road.{totalOf}
-use Rattle.model.specs.Schedules.{Study, roadAt, scheduleAfter, Obeying}
-use Rattle.model.specs.Places.{cumulativeAt}
+use Rattle.model.specs.Schedules.{Study, roadAt, scheduleAfter, ObeysUpTo}
+use Rattle.model.specs.Flow.{cumulativeAt}
 use Rattle.model.specs.Move.{presentOf}
 use Rattle.theory.specs.MoveLaws.{next-total, next-gate-time, next-ramp-time}
 use Rattle.theory.specs.Roads.{Alike, step-alike, alike-then, present-alike, queue-alike}
@@ -108,7 +108,7 @@ module _ {K : ℕ} {a : Study} (h : Countable K a) (ys zs : ℕ → List ℕ) wh
   start-times = (refl, (refl, omega arith))
 
   -- ramp time is K times as long, with any shares
-  pub ramp-time-finer : (k : ℕ) → Obeying a ys k → Obeying (scaled K a) zs k
+  pub ramp-time-finer : (k : ℕ) → ObeysUpTo a ys k → ObeysUpTo (scaled K a) zs k
       → scheduleAfter (scaled K a) zs k .«ramp_time» ≡ K * scheduleAfter a ys k .«ramp_time»
   unfolding scheduleAfter
   ramp-time-finer zero own fine = refl
@@ -125,7 +125,7 @@ module _ {K : ℕ} {a : Study} (h : Countable K a) (ys zs : ℕ → List ℕ) wh
       )
 
   module _ (on : AllOn (a .road)) where
-    pub sooner : (k : ℕ) → Obeying a ys k → Obeying (scaled K a) zs k → Deciding a ys k
+    pub sooner : (k : ℕ) → ObeysUpTo a ys k → ObeysUpTo (scaled K a) zs k → Deciding a ys k
         → Sooner K k (a .road) (scheduleAfter a ys k) (scheduleAfter (scaled K a) zs k)
     sooner zero own fine decide =
         let e = present-account K r on (S 0) (T 0) (coupled h ys zs 0 own fine) in
@@ -148,7 +148,7 @@ module _ {K : ℕ} {a : Study} (h : Countable K a) (ys zs : ℕ → List ℕ) wh
               omega (arith, before .gateTime, c .gate, f 0 (omega arith), ap (λ (x : ℕ). K * x) (own-gate-time k), fine-gate-time k);
         }
 
-    pub later : (k : ℕ) → Obeying a ys k → Obeying (scaled K a) zs k → Deciding (scaled K a) zs k
+    pub later : (k : ℕ) → ObeysUpTo a ys k → ObeysUpTo (scaled K a) zs k → Deciding (scaled K a) zs k
         → Later K (a .road) (scheduleAfter a ys k) (scheduleAfter (scaled K a) zs k)
     later zero own fine decide =
         let e = present-account K r on (S 0) (T 0) (coupled h ys zs 0 own fine) in

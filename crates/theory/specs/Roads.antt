@@ -10,7 +10,7 @@ use Rattle.model.specs.Numbers.{sumOf, at}
 use Rattle.model.specs.declared.Road.{Road}
 use Rattle.model.specs.declared.State.{State}
 use Rattle.limits.specs.LimitsLaws.{RoadOk, StateOk, RowOk}
-use Rattle.model.specs.Places.{capacityAt, shareAt, cumulativeAt}
+use Rattle.model.specs.Flow.{capacityAt, shareAt, cumulativeAt}
 use Rattle.theory.specs.RulesLaws.{onwardAt, Sized}
 use Rattle.model.specs.Move.{heldSum, queueSum, presentOf}
 
@@ -29,7 +29,7 @@ pub record Wider (a b : Road) : Type 0 where
   pub capacity : (i : ℕ) → i < a .n → capacityAt a i ≤ capacityAt b i
 
 -- the roads of one step: the rival's a and the engine's b, which is nowhere worse; both within the limits, both with r's cells and shares
-pub record Compared (r a b : Road) : Type 0 where
+pub record ComparedRoads (r a b : Road) : Type 0 where
   pub alike : Alike r a
   pub wider : Wider a b
   pub rival : RoadOk a
@@ -55,7 +55,7 @@ wider-self r = record {
 }
 
 -- the same road on both sides
-pub compared-self : (r : Road) → RoadOk r → Compared r r r
+pub compared-self : (r : Road) → RoadOk r → ComparedRoads r r r
 compared-self r ok = record { alike = alike-self r; wider = wider-self r; rival = ok; engine = ok }
 
 -- the road of a step: the road r with other capacities, within the limits

@@ -9,9 +9,9 @@ use lib.ListN.{length}
 use Rattle.model.specs.Numbers.{at}
 use Rattle.model.specs.declared.Road.{Road}
 use Rattle.model.specs.declared.State.{State}
-use Rattle.model.specs.Schedules.{Study, scheduleAfter, engineAfter, outflowsAt, Obeying, proposedAt, scheduledAt}
-use Rattle.model.specs.Places.{cumulativeAt}
-use Rattle.theory.specs.RunsLaws.{Fitting, engine-schedule, engine-obeys}
+use Rattle.model.specs.Schedules.{Study, scheduleAfter, engineAfter, outflowsAt, ObeysUpTo, proposedAt, scheduledAt}
+use Rattle.model.specs.Flow.{cumulativeAt}
+use Rattle.theory.specs.RunsLaws.{ReleasesFitUpTo, engine-schedule, engine-obeys}
 use Rattle.model.specs.Reading.{readingOf, studyOf}
 use Rattle.reading.specs.Numbers.{read-numbers}
 use Rattle.model.specs.Demand.{Taken, Reaches}
@@ -51,7 +51,7 @@ pub record NearWhole (K k : ℕ) (r : Road) (s t : State) : Type 0 where
 
 module _ {K : ℕ} {a : Study} (h : Countable K a) (k : ℕ) where
   -- a schedule ys of the study and a schedule zs of the finer study; in both, demand or room decides
-  module _ (ys zs : ℕ → List ℕ) (own : Obeying a ys k) (fine : Obeying (scaled K a) zs k) (decide : Deciding a ys k)
+  module _ (ys zs : ℕ → List ℕ) (own : ObeysUpTo a ys k) (fine : ObeysUpTo (scaled K a) zs k) (decide : Deciding a ys k)
       (finer : Deciding (scaled K a) zs k) where
     pub schedules-near : Near K k (a .road) (scheduleAfter a ys k) (scheduleAfter (scaled K a) zs k)
     schedules-near =
@@ -85,28 +85,28 @@ module _ {K : ℕ} {a : Study} (h : Countable K a) (k : ℕ) where
           roadLeast = omega (arith, y .total, x .gateTime, e);
         }
 
-  module _ (fits : Fitting a k) where
+  module _ (fits : ReleasesFitUpTo a k) where
     -- against every schedule zs of the finer study that obeys the rules and in which demand or room decides. The papers' model gives such a
     -- schedule if its numbers are whole in finer parts (`Exact`)
-    pub papers-near : (zs : ℕ → List ℕ) → Obeying (scaled K a) zs k → Deciding (scaled K a) zs k
+    pub papers-near : (zs : ℕ → List ℕ) → ObeysUpTo (scaled K a) zs k → Deciding (scaled K a) zs k
         → Near K k (a .road) (engineAfter a k) (scheduleAfter (scaled K a) zs k)
     papers-near zs fine finer =
         subst⁻¹ (λ (u : State). Near K k (a .road) u (scheduleAfter (scaled K a) zs k)) (engine-schedule a k)
         (schedules-near (outflowsAt a) zs (engine-obeys a k fits) fine (engine-decides h k fits) finer)
 
-    pub papers-near-whole : AllOn (a .road) → (zs : ℕ → List ℕ) → Obeying (scaled K a) zs k → Deciding (scaled K a) zs k
+    pub papers-near-whole : AllOn (a .road) → (zs : ℕ → List ℕ) → ObeysUpTo (scaled K a) zs k → Deciding (scaled K a) zs k
         → NearWhole K k (a .road) (engineAfter a k) (scheduleAfter (scaled K a) zs k)
     papers-near-whole on zs fine finer =
         subst⁻¹ (λ (u : State). NearWhole K k (a .road) u (scheduleAfter (scaled K a) zs k)) (engine-schedule a k)
         (schedules-near-whole (outflowsAt a) zs (engine-obeys a k fits) fine (engine-decides h k fits) finer on)
 
     -- against the run of the finer study
-    pub rounding : Fitting (scaled K a) k → Near K k (a .road) (engineAfter a k) (engineAfter (scaled K a) k)
+    pub rounding : ReleasesFitUpTo (scaled K a) k → Near K k (a .road) (engineAfter a k) (engineAfter (scaled K a) k)
     rounding fine =
         subst⁻¹ (λ (u : State). Near K k (a .road) (engineAfter a k) u) (engine-schedule (scaled K a) k)
         (papers-near (outflowsAt (scaled K a)) (engine-obeys (scaled K a) k fine) (finer-decides h k fine))
 
-    pub rounding-whole : AllOn (a .road) → Fitting (scaled K a) k → NearWhole K k (a .road) (engineAfter a k) (engineAfter (scaled K a) k)
+    pub rounding-whole : AllOn (a .road) → ReleasesFitUpTo (scaled K a) k → NearWhole K k (a .road) (engineAfter a k) (engineAfter (scaled K a) k)
     rounding-whole on fine =
         subst⁻¹ (λ (u : State). NearWhole K k (a .road) (engineAfter a k) u) (engine-schedule (scaled K a) k)
         (papers-near-whole on (outflowsAt (scaled K a)) (engine-obeys (scaled K a) k fine) (finer-decides h k fine))

@@ -11,13 +11,13 @@ use lib.Seq.{getD-at}
 use Rattle.model.specs.Flow.{onwardOf, whole, demandOf, enteringOf}
 use Rattle.model.specs.declared.Road.{Road}
 use Rattle.model.specs.declared.State.{State}
-use Rattle.model.specs.Places.{shareAt, cumulativeAt, arrivalsAt, mostReleaseAt, capacityAt, demandAt, roomAt, enteringAt, outflowAt}
+use Rattle.model.specs.Flow.{shareAt, cumulativeAt, arrivalsAt, mostReleaseAt, capacityAt, demandAt, roomAt, enteringAt, outflowAt}
 use Rattle.flow.specs.FlowLaws.{demand-held, gate-demand-queue, demand-capacity, gate-demand-capacity, outflow-le, outflow-fits, outflow-greatest, onward-none}
 use Rattle.model.specs.Numbers.{listOf, at}
 use Rattle.numbers.specs.RowsLaws.{length-list, list-at}
 use Rattle.model.specs.Road.{mostRate}
 use Rattle.limits.specs.LimitsLaws.{RoadOk}
-use Rattle.model.specs.Schedules.{Released, Obeys, Greatest, outflowsOf}
+use Rattle.model.specs.Schedules.{ReleasesFit, Obeys, Greatest, outflowsOf}
 
 -- the onward total of a place
 abbrev pub onwardAt : Road → State → ℕ → ℕ
@@ -109,7 +109,7 @@ unfolding outflowsOf
 outflows-last r s row = getD-at (listOf (outflowAt r s row) (r .n)) (demandAt r s (r .n)) [] 0 (r .n) (length-list (outflowAt r s row) (r .n))
 
 -- the engine's row obeys the rules
-pub outflows-obey : (r : Road) (s : State) (row : List ℕ) → Released r s row → Obeys r s row (outflowsOf r s row)
+pub outflows-obey : (r : Road) (s : State) (row : List ℕ) → ReleasesFit r s row → Obeys r s row (outflowsOf r s row)
 outflows-obey r s row ok = record {
   released = ok;
   demand = λ p l. ⊎-elim
@@ -120,7 +120,7 @@ outflows-obey r s row ok = record {
 }
 
 -- the engine's row is the greatest
-pub outflows-greatest : (r : Road) (s : State) (row : List ℕ) → Released r s row → Greatest r s row (outflowsOf r s row)
+pub outflows-greatest : (r : Road) (s : State) (row : List ℕ) → ReleasesFit r s row → Greatest r s row (outflowsOf r s row)
 outflows-greatest r s row fits =
     let o = outflows-obey r s row fits in
     record {

@@ -4,7 +4,7 @@ use mathlib.Core.Path.{_≡_, refl, _∙_, subst, subst⁻¹}
 use mathlib.Core.List.{List}
 use native.Mathlib.Nat.{le-refl}
 use native.Mathlib.Omega.{arith}
-use Rattle.model.specs.Schedules.{Study, roadAt, Released, engineAfter, Obeys, Greatest, outflowsOf, scheduleAfter, outflowsAt, Obeying}
+use Rattle.model.specs.Schedules.{Study, roadAt, ReleasesFit, engineAfter, Obeys, Greatest, outflowsOf, scheduleAfter, outflowsAt, ObeysUpTo}
 use Rattle.theory.specs.Conservation.{arrivalsOf, conserved, exits-alike, arrivals-alike}
 use Rattle.model.specs.declared.Road.{Road}
 use Rattle.model.specs.declared.State.{State}
@@ -14,14 +14,14 @@ use Rattle.model.specs.Move.{nextOf, presentOf, exitsOf}
 use Rattle.theory.specs.RulesLaws.{Sized, outflows-obey, outflows-greatest}
 use Rattle.theory.specs.MoveLaws.{next-done, next-sized}
 use Rattle.theory.specs.LimitsKept.{kept}
-use Rattle.theory.specs.Roads.{Alike, Compared, StepRoad, step-alike, step-state, state-back, step-row, alike-back, wider-self, present-alike, sized-alike}
+use Rattle.theory.specs.Roads.{Alike, ComparedRoads, StepRoad, step-alike, step-state, state-back, step-row, alike-back, wider-self, present-alike, sized-alike}
 use Rattle.theory.specs.Behind.{Behind, behind-self, step-behind}
 use Rattle.model.specs.Weights.{weightedTotal, Falling}
 use Rattle.theory.specs.TwoStates.{weighted-total-le}
 
 -- each release fits in the first k steps of the engine's run
-abbrev pub Fitting : Study → ℕ → Type 0
-Fitting a k = (j : ℕ) → j < k → Released (roadAt a j) (engineAfter a j) (a .rows j)
+abbrev pub ReleasesFitUpTo : Study → ℕ → Type 0
+ReleasesFitUpTo a k = (j : ℕ) → j < k → ReleasesFit (roadAt a j) (engineAfter a j) (a .rows j)
 
 -- all arrivals of the first k steps
 unfoldable pub arrivalsTo : Study → ℕ → ℕ
@@ -38,7 +38,7 @@ pub record StudyOk (a : Study) : Type 0 where
   pub row : (k : ℕ) → k < a .steps → RowOk (a .road) (a .rows k)
 
 -- a state after k steps that obeyed the rules is within the limits
-pub record Reached (a : Study) (u : State) (k : ℕ) : Type 0 where
+pub record ReachedState (a : Study) (u : State) (k : ℕ) : Type 0 where
   pub state : StateOk (a .road) u
   pub sized : Sized (a .road) u
   pub done : u .done ≡ a .start .done + k
@@ -49,7 +49,7 @@ pub record StepOf (a : Study) (q : Road) (u : State) (row : List ℕ) (k : ℕ) 
   pub left : k < a .steps
   pub road : q ≡ roadAt a k
   pub numbers : row ≡ a .rows k
-  pub reached : Reached a u k
+  pub reached : ReachedState a u k
 
 module _ {a : Study} {q : Road} {u : State} {row : List ℕ} {k : ℕ} (t : StepOf a q u row k) where
   -- q is the study's road with other capacities, and everything is within the limits
@@ -84,7 +84,7 @@ module _ (a : Study) (ys : ℕ → List ℕ) (ok : StudyOk a) where
   sized-at : (k : ℕ) → Sized (roadAt a k) (scheduleAfter a ys k)
   sized-at k = sized-alike (a .road) (roadAt a k) (step-alike (ok .roads k)) (scheduleAfter a ys k) (schedule-sized a ys ok k)
 
-  pub reached : (k : ℕ) → k ≤ a .steps → Obeying a ys k → Reached a (scheduleAfter a ys k) k
+  pub reached : (k : ℕ) → k ≤ a .steps → ObeysUpTo a ys k → ReachedState a (scheduleAfter a ys k) k
   unfolding scheduleAfter
   reached zero l h = record { state = ok .start; sized = ok .sized; done = omega arith }
   reached (suc k) l h =
@@ -101,7 +101,7 @@ module _ (a : Study) (ys : ℕ → List ℕ) (ok : StudyOk a) where
       }
 
   -- start plus arrivals equals present plus exits, after each step of a schedule that obeys the rules up to it
-  pub run-conserved : (k : ℕ) → Obeying a ys k
+  pub run-conserved : (k : ℕ) → ObeysUpTo a ys k
       → presentOf (a .road) (a .start) + exitsOf (a .road) (a .start) + arrivalsTo a k
       ≡ presentOf (a .road) (scheduleAfter a ys k) + exitsOf (a .road) (scheduleAfter a ys k)
   unfolding scheduleAfter arrivalsTo
@@ -128,36 +128,36 @@ module _ (a : Study) where
   engine-schedule zero = refl
   engine-schedule (suc k) = rw (engine-schedule k)
 
-  pub engine-obeys : (k : ℕ) → Fitting a k → Obeying a (outflowsAt a) k
+  pub engine-obeys : (k : ℕ) → ReleasesFitUpTo a k → ObeysUpTo a (outflowsAt a) k
   engine-obeys k fits j l =
       subst (λ (u : State). Obeys (roadAt a j) u (a .rows j) (outflowsAt a j)) (engine-schedule j)
       (outflows-obey (roadAt a j) (engineAfter a j) (a .rows j) (fits j l))
 
-  pub engine-greatest : (j : ℕ) → Released (roadAt a j) (engineAfter a j) (a .rows j)
+  pub engine-greatest : (j : ℕ) → ReleasesFit (roadAt a j) (engineAfter a j) (a .rows j)
       → Greatest (roadAt a j) (engineAfter a j) (a .rows j) (outflowsAt a j)
   engine-greatest j fits = outflows-greatest (roadAt a j) (engineAfter a j) (a .rows j) fits
 
-  pub engine-reached : StudyOk a → (k : ℕ) → k ≤ a .steps → Fitting a k → Reached a (engineAfter a k) k
+  pub engine-reached : StudyOk a → (k : ℕ) → k ≤ a .steps → ReleasesFitUpTo a k → ReachedState a (engineAfter a k) k
   engine-reached ok k l fits =
-      subst⁻¹ (λ (u : State). Reached a u k) (engine-schedule k) (reached a (outflowsAt a) ok k l (engine-obeys k fits))
+      subst⁻¹ (λ (u : State). ReachedState a u k) (engine-schedule k) (reached a (outflowsAt a) ok k l (engine-obeys k fits))
 
 -- two studies with the same start, roads and rows in their first k steps
-pub record Shared (a b : Study) (k : ℕ) : Type 0 where
+pub record SharedSteps (a b : Study) (k : ℕ) : Type 0 where
   pub start : a .start ≡ b .start
   pub roads : (j : ℕ) → j < k → roadAt a j ≡ roadAt b j
   pub rows : (j : ℕ) → j < k → a .rows j ≡ b .rows j
 
-pub shared-less : {a b : Study} {k : ℕ} → Shared a b k → (j : ℕ) → j ≤ k → Shared a b j
+pub shared-less : {a b : Study} {k : ℕ} → SharedSteps a b k → (j : ℕ) → j ≤ k → SharedSteps a b j
 shared-less h j l = record { start = h .start; roads = λ i m. h .roads i (omega arith); rows = λ i m. h .rows i (omega arith) }
 
 -- the engine's state after k steps depends only on these steps, and so do its outflows in a step
-pub engine-shared : {a b : Study} (k : ℕ) → Shared a b k → engineAfter a k ≡ engineAfter b k
+pub engine-shared : {a b : Study} (k : ℕ) → SharedSteps a b k → engineAfter a k ≡ engineAfter b k
 unfolding engineAfter
 engine-shared zero h = h .start
 engine-shared (suc k) h =
     rw (engine-shared k (shared-less h k (omega arith)), h .roads k (le-refl (suc k)), h .rows k (le-refl (suc k)))
 
-pub outflows-shared : {a b : Study} (k : ℕ) → Shared a b (suc k) → outflowsAt a k ≡ outflowsAt b k
+pub outflows-shared : {a b : Study} (k : ℕ) → SharedSteps a b (suc k) → outflowsAt a k ≡ outflowsAt b k
 outflows-shared k h =
     rw (engine-shared k (shared-less h k (omega arith)), h .roads k (le-refl (suc k)), h .rows k (le-refl (suc k)))
 
@@ -166,7 +166,7 @@ pub record Rivals (rival engine : Study) (k : ℕ) : Type 0 where
   pub sized : Sized (rival .road) (rival .start)
   pub start : engine .start ≡ rival .start
   pub rows : (j : ℕ) → j < k → engine .rows j ≡ rival .rows j
-  pub roads : (j : ℕ) → j < k → Compared (rival .road) (roadAt rival j) (roadAt engine j)
+  pub roads : (j : ℕ) → j < k → ComparedRoads (rival .road) (roadAt rival j) (roadAt engine j)
 
 -- the same for fewer steps
 pub rivals-less : {rival engine : Study} {k : ℕ} → Rivals rival engine k → (j : ℕ) → j ≤ k → Rivals rival engine j
@@ -187,7 +187,7 @@ rivals-self a ok k = record {
 }
 
 -- no schedule is ahead of the engine after k steps that both reach
-pub run-behind : (a b : Study) (ys : ℕ → List ℕ) (k : ℕ) → Rivals a b k → Fitting b k → Obeying a ys k
+pub run-behind : (a b : Study) (ys : ℕ → List ℕ) (k : ℕ) → Rivals a b k → ReleasesFitUpTo b k → ObeysUpTo a ys k
     → Behind (a .road) (engineAfter b k) (scheduleAfter a ys k)
 unfolding engineAfter scheduleAfter
 run-behind a b ys zero h fits ok = rw (h .start) (behind-self (a .road) (a .start) (h .sized))
@@ -196,13 +196,13 @@ run-behind a b ys (suc k) h fits ok =
     let s = engineAfter b k in
     let before = run-behind a b ys k (rivals-less h k (omega arith)) (λ j m. fits j (omega arith)) (λ j m. ok j (omega arith)) in
     let y = outflowsOf (roadAt b k) (engineAfter b k) (a .rows k) in
-    let f : Released (roadAt b k) (engineAfter b k) (a .rows k) = rw (h .rows k l) at (fits k l) in
+    let f : ReleasesFit (roadAt b k) (engineAfter b k) (a .rows k) = rw (h .rows k l) at (fits k l) in
     rw (h .rows k l)
     (step-behind (a .road) (roadAt a k) (roadAt b k) s (scheduleAfter a ys k) (a .rows k) y (ys k)
     (h .roads k l) (outflows-obey (roadAt b k) s (a .rows k) f) (outflows-greatest (roadAt b k) s (a .rows k) f) (ok k l) before)
 
 -- the same with weights: if no place weighs more than the one before it, the schedule's weighted total is not smaller
-pub run-weighted : (a b : Study) (ys : ℕ → List ℕ) (k : ℕ) → Rivals a b k → Fitting b k → Obeying a ys k → RoadOk (a .road)
+pub run-weighted : (a b : Study) (ys : ℕ → List ℕ) (k : ℕ) → Rivals a b k → ReleasesFitUpTo b k → ObeysUpTo a ys k → RoadOk (a .road)
     → (w u : ℕ → ℕ) → Falling w (a .road .n)
     → weightedTotal w u (a .road .n) (engineAfter b) k ≤ weightedTotal w u (a .road .n) (scheduleAfter a ys) k
 run-weighted a b ys k h fits ok road w u falling =

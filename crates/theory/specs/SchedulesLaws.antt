@@ -7,13 +7,13 @@ use native.Mathlib.Nat.{le-refl}
 use native.Mathlib.Omega.{arith}
 use lib.Dec.{eqb}
 use borrow.Author.Tests.{eqb-true, eqb-false, eq-eqb, ne-eqb}
-use Rattle.model.specs.Schedules.{Study, roadAt, engineAfter, Obeying, proposedAt, scheduledAt}
+use Rattle.model.specs.Schedules.{Study, roadAt, engineAfter, ObeysUpTo, proposedAt, scheduledAt}
 use Rattle.model.specs.Running.{runSays, firstStep, tableOf, EndAnswer, ended, endOf, runEnd, stepsMade}
 use Rattle.model.specs.Numbers.{oneOf}
 use Rattle.numbers.specs.FirstLaws.{Faultless, fault-within, fault-before, fault-there, fault-none, faultless-stop, faultless-end, faultless-far}
 use Rattle.model.specs.declared.State.{State}
 use Rattle.model.specs.Refusals.{began, FaultAnswer}
-use Rattle.theory.specs.RunsLaws.{Fitting, StudyOk, Reached, reached, engine-reached}
+use Rattle.theory.specs.RunsLaws.{ReleasesFitUpTo, StudyOk, ReachedState, reached, engine-reached}
 use Rattle.theory.specs.StepLaws.{number-of, releases-fit, releases-class}
 use Rattle.theory.specs.VerdictLaws.{verdict-obeys, obeys-verdict, verdict-class}
 use Rattle.model.specs.Judging.{judgeSays, judgeEnd}
@@ -115,26 +115,26 @@ judge-began a zs =
     end-began a (judgeSays a zs) (scheduledAt a zs) (λ k. verdict-class (roadAt a k) (scheduledAt a zs k) (a .rows k) (proposedAt a zs k))
 
 -- if running has found no fault, each release fits; if judging has found none, the schedule obeys
-pub run-fits : (a : Study) (k : ℕ) → ((j : ℕ) → j < k → runSays a j .number ≡ 0) → Fitting a k
+pub run-fits : (a : Study) (k : ℕ) → ((j : ℕ) → j < k → runSays a j .number ≡ 0) → ReleasesFitUpTo a k
 run-fits a k h j l = releases-fit (roadAt a j) (engineAfter a j) (a .rows j) (h j l)
 
-pub judge-obeys : (a : Study) (zs : List ℕ) (k : ℕ) → ((j : ℕ) → j < k → judgeSays a zs j .number ≡ 0) → Obeying a (proposedAt a zs) k
+pub judge-obeys : (a : Study) (zs : List ℕ) (k : ℕ) → ((j : ℕ) → j < k → judgeSays a zs j .number ≡ 0) → ObeysUpTo a (proposedAt a zs) k
 judge-obeys a zs k h j l = verdict-obeys (roadAt a j) (scheduledAt a zs j) (a .rows j) (proposedAt a zs j) (h j l)
 
 module _ (a : Study) (ok : StudyOk a) where
-  pub run-reached : (k : ℕ) → k ≤ a .steps → ((j : ℕ) → j < k → runSays a j .number ≡ 0) → Reached a (engineAfter a k) k
+  pub run-reached : (k : ℕ) → k ≤ a .steps → ((j : ℕ) → j < k → runSays a j .number ≡ 0) → ReachedState a (engineAfter a k) k
   run-reached k l h = engine-reached a ok k l (run-fits a k h)
 
-  pub judge-reached : (zs : List ℕ) (k : ℕ) → k ≤ a .steps → ((j : ℕ) → j < k → judgeSays a zs j .number ≡ 0) → Reached a (scheduledAt a zs k) k
+  pub judge-reached : (zs : List ℕ) (k : ℕ) → k ≤ a .steps → ((j : ℕ) → j < k → judgeSays a zs j .number ≡ 0) → ReachedState a (scheduledAt a zs k) k
   judge-reached zs k l h = reached a (proposedAt a zs) ok k l (judge-obeys a zs k h)
 
   -- a schedule that obeys the rules in its first k steps has no fault in them
-  pub obeys-faults : (zs : List ℕ) (k : ℕ) → k ≤ a .steps → Obeying a (proposedAt a zs) k → k ≤ firstStep (judgeSays a zs) (a .steps)
+  pub obeys-faults : (zs : List ℕ) (k : ℕ) → k ≤ a .steps → ObeysUpTo a (proposedAt a zs) k → k ≤ firstStep (judgeSays a zs) (a .steps)
   obeys-faults zs k l h = faultless-far (record {
     within = l;
     before = λ j m. number-of (obeys-verdict (roadAt a j) (scheduledAt a zs j) (a .rows j) (proposedAt a zs j) (h j m));
   })
 
   -- the converse
-  pub faults-obeys : (zs : List ℕ) → Obeying a (proposedAt a zs) (firstStep (judgeSays a zs) (a .steps))
+  pub faults-obeys : (zs : List ℕ) → ObeysUpTo a (proposedAt a zs) (firstStep (judgeSays a zs) (a .steps))
   faults-obeys zs = judge-obeys a zs (firstStep (judgeSays a zs) (a .steps)) (step-before (judgeSays a zs) (a .steps))

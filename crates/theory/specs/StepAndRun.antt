@@ -24,7 +24,7 @@ use Rattle.theory.specs.StepLaws.{TableOk, releases-fit, on-next, steppi
 use Rattle.theory.specs.OpenRoad.{opened-all, same-road, other-road}
 use Rattle.theory.specs.LanesUnread.{SameTo, fault-unread as unread, road-unread}
 use Rattle.model.specs.Move.{nextOf}
-use Rattle.theory.specs.RunsLaws.{StudyOk, Reached}
+use Rattle.theory.specs.RunsLaws.{StudyOk, ReachedState}
 use Rattle.model.specs.Reading.{readingOf, studyOf}
 use Rattle.model.specs.Running.{runSays, firstStep, EndAnswer, endOf, runEnd, runningOf, stepsMade, tableOf, listAfter}
 use Rattle.theory.specs.SchedulesLaws.{step-within, step-before, end-made, end-same, run-reached}
@@ -54,7 +54,7 @@ steppedEnd a built usable =
     endOf a (λ k. fault (steppedIn a built usable k .number) (steppedIn a built usable k .place)) (steppedAfter a built usable)
 
 -- reading a record and stepping it is running it: the states are those of the rows that running writes, and the end is running's answer
-pub record Stepped (bytes lanes list built : List ℕ) (usable : ℕ → List ℕ) : Type 0 where
+pub record StepsAsRun (bytes lanes list built : List ℕ) (usable : ℕ → List ℕ) : Type 0 where
   pub states : (k : ℕ) → k ≤ stepsMade (studyOf bytes lanes) (runningOf bytes lanes list)
       → steppedAfter (studyOf bytes lanes) built usable k ≡ scheduledAt (studyOf bytes lanes) (listAfter bytes lanes list) k
   pub ends : steppedEnd (studyOf bytes lanes) built usable ≡ runningOf bytes lanes list
@@ -62,7 +62,7 @@ pub record Stepped (bytes lanes list built : List ℕ) (usable : ℕ → List �
 -- one step, from a state that the run reaches, on the step's road
 module _ (a : Study) (ok : StudyOk a) (t : TableOk (a .lanes) (a .road .n) (a .steps)) {built usable : List ℕ} {k : ℕ} (l : k < a .steps)
     (given : LanesOf a built usable k) where
-  step-on : (u : State) → Reached a u k → steppingOf (a .road) u (a .rows k) built usable ≡ stepOn (roadAt a k) u (a .rows k)
+  step-on : (u : State) → ReachedState a u k → steppingOf (a .road) u (a .rows k) built usable ≡ stepOn (roadAt a k) u (a .rows k)
   step-on u h = go (eqb (length (a .lanes)) 0) refl
     where
       on : (firstOf (lanesAt built usable) (a .road .n) ≡ a .road .n) → openRoad (a .road) built usable ≡ roadAt a k
@@ -97,7 +97,7 @@ module _ {bytes : List ℕ} {a : Study} (h : Readable bytes a) {built : List ℕ
   abbrev says : ℕ → FaultAnswer
   says k = fault (steppedIn a built usable k .number) (steppedIn a built usable k .place)
 
-  reached : (k : ℕ) → k ≤ K → Reached a (engineAfter a k) k
+  reached : (k : ℕ) → k ≤ K → ReachedState a (engineAfter a k) k
   reached k l = run-reached a (h .ok) k (omega (arith, step-within (runSays a) (a .steps))) (λ j m. step-before (runSays a) (a .steps) j (omega arith))
 
   left : (k : ℕ) → k ≤ K → k < a .steps → engineAfter a k .done ≡ mostSteps → ⊥
@@ -154,5 +154,5 @@ module _ (bytes lanes list : List ℕ) (taken : Taken bytes lanes) (long : table
       ∙ sym (own-state a (reads .ok) (tableOf a list last) (λ j n. table-row a (reads .ok) list last j n) k m)
       ∙ ap (λ (out : List ℕ). scheduledAt a out k) (sym (writes-long bytes lanes taken list long))
 
-  pub stepped : Stepped bytes lanes list built usable
+  pub stepped : StepsAsRun bytes lanes list built usable
   stepped = record { states = states; ends = steps-end reads given ∙ sym (runs-long bytes lanes taken list long) }

@@ -11,12 +11,12 @@ use Rattle.model.specs.Lanes.{lanesOk, lanesAt, tableAt, tableBytes}
 use Rattle.model.specs.declared.Road.{Road}
 use Rattle.model.specs.declared.State.{State}
 use Rattle.model.specs.Road.{mostSteps}
-use Rattle.model.specs.Schedules.{openRoad, Released, outflowsOf}
+use Rattle.model.specs.Schedules.{openRoad, ReleasesFit, outflowsOf}
 use Rattle.model.specs.Refusals.{began, fault, FaultAnswer}
 use Rattle.numbers.specs.FirstLaws.{Faultless, fault-within, fault-before, fault-there, fault-none, faultless-stop}
 use Rattle.numbers.specs.Tests.{unless-elim, two-zero, two-pass}
 use Rattle.model.specs.Limits.{inputOk}
-use Rattle.model.specs.Places.{releaseAt, mostReleaseAt, supplyAt}
+use Rattle.model.specs.Flow.{releaseAt, mostReleaseAt, supplyAt}
 use Rattle.model.specs.Move.{nextOf}
 use Rattle.model.specs.Stepping.{lowestOf, releaseFaultAt, releasesOf, answer, stepOn, steppingOf, tableFault}
 use borrow.Author.Tests.{eqb-true, eqb-false, eq-eqb, ne-eqb}
@@ -65,7 +65,7 @@ module _ (f : ℕ → ℕ) (n base : ℕ) where
 
 module _ (r : Road) (s : State) (row : List ℕ) where
   -- without a fault of a release each release fits
-  pub releases-fit : releasesOf r s row .number ≡ 0 → Released r s row
+  pub releases-fit : releasesOf r s row .number ≡ 0 → ReleasesFit r s row
   releases-fit h = record { queue = λ i l. at-cell i l .0; supply = λ i l. at-cell i l .1 }
     where
       at-cell : (i : ℕ) → i < r .n → (releaseAt row i ≤ mostReleaseAt s row i) × (releaseAt row i ≤ supplyAt r s i)
@@ -85,7 +85,7 @@ module _ (r : Road) (s : State) (row : List ℕ) where
       two false u = refl
 
   -- if each release fits, there is no fault
-  pub fit-releases : Released r s row → releasesOf r s row ≡ fault 0 0
+  pub fit-releases : ReleasesFit r s row → releasesOf r s row ≡ fault 0 0
   fit-releases ok = lowest-none (releaseFaultAt r s row) (r .n) 1
       (λ i l. two-pass (releaseAt row i) (mostReleaseAt s row i) (releaseAt row i) (supplyAt r s i) 9 10 (ok .queue i l) (ok .supply i l))
 
@@ -96,7 +96,7 @@ module _ (r : Road) (s : State) (row : List ℕ) where
   pub on-refused : (s .done ≡ mostSteps → ⊥) → (releasesOf r s row .number ≡ 0 → ⊥) → stepOn r s row ≡ answer (releasesOf r s row) s
   on-refused d q = rw (ne-eqb (s .done) mostSteps d, ne-eqb (releasesOf r s row .number) 0 q)
 
-  pub on-next : (s .done ≡ mostSteps → ⊥) → Released r s row → stepOn r s row ≡ answer (fault 0 0) (nextOf r s row (outflowsOf r s row))
+  pub on-next : (s .done ≡ mostSteps → ⊥) → ReleasesFit r s row → stepOn r s row ≡ answer (fault 0 0) (nextOf r s row (outflowsOf r s row))
   on-next d q = rw (ne-eqb (s .done) mostSteps d, fit-releases q)
 
 -- stepping, case by case
@@ -125,7 +125,7 @@ module _ (r : Road) (s : State) (row built usable : List ℕ) (input : inputOk r
         → steppingOf r s row built usable ≡ answer (releasesOf (openRoad r built usable) s row) s
     stepping-refused d f = stepping-on ∙ on-refused q s row d f
 
-    pub stepping-next : (s .done ≡ mostSteps → ⊥) → Released (openRoad r built usable) s row
+    pub stepping-next : (s .done ≡ mostSteps → ⊥) → ReleasesFit (openRoad r built usable) s row
         → steppingOf r s row built usable ≡ answer (fault 0 0) (nextOf (openRoad r built usable) s row (outflowsOf (openRoad r built usable) s row))
     stepping-next d f = stepping-on ∙ on-next q s row d f
 

@@ -13,16 +13,16 @@ use Rattle.model.specs.declared.State.{State}
 use Rattle.model.specs.Numbers.{at}
 use Rattle.numbers.specs.Tests.{order}
 use Rattle.limits.specs.LimitsLaws.{RoadOk}
-use Rattle.model.specs.Places.{releaseAt, capacityAt, demandAt, supplyAt, roomAt, shareAt, cumulativeAt, enteringAt}
+use Rattle.model.specs.Flow.{releaseAt, capacityAt, demandAt, supplyAt, roomAt, shareAt, cumulativeAt, enteringAt}
 use Rattle.theory.specs.RulesLaws.{onwardAt}
-use Rattle.model.specs.Schedules.{Released, Greatest}
+use Rattle.model.specs.Schedules.{ReleasesFit, Greatest}
 use Rattle.theory.specs.Finer.{timesOf}
 use Rattle.theory.specs.FinerRules.{thousandths-most, thousandths-least, capped-most, capped-least}
 use Rattle.theory.specs.FinerLaws.{FinerRoad, finer-speed, finer-wave, finer-jam, times-at}
 use Rattle.theory.specs.Coupling.{Coupling}
 
 -- as in the papers' rules: at each place the outflow is the demand, or exactly the room enters; where nothing goes on, it is the demand
-pub record Decided (r : Road) (s : State) (row y : List ℕ) : Type 0 where
+pub record DecidedOutflows (r : Road) (s : State) (row y : List ℕ) : Type 0 where
   pub exit : (p : ℕ) → p ≤ r .n → shareAt r p ≡ 0 → at y p ≡ demandAt r s p
   pub place : (p : ℕ) → p < r .n → (at y p ≡ demandAt r s p) ⊎ (enteringAt r s y p ≡ roomAt r s row p)
 
@@ -34,7 +34,7 @@ entering-more b F y h =
     omega (arith, onward-entering b F (suc y), onward-entering b F y, onward-step b (F + y) 1 h)
 
 -- the engine's outflows have this property
-pub greatest-decided : (r : Road) (s : State) (row y : List ℕ) → ((p : ℕ) → p ≤ r .n → shareAt r p ≤ whole) → Greatest r s row y → Decided r s row y
+pub greatest-decided : (r : Road) (s : State) (row y : List ℕ) → ((p : ℕ) → p ≤ r .n → shareAt r p ≤ whole) → Greatest r s row y → DecidedOutflows r s row y
 greatest-decided r s row y shares g = record {
   exit = λ p l e. ⊎-elim
       (λ (n : r .n ≤ p).
@@ -117,7 +117,7 @@ module _ (K W X : ℕ) (q q′ : Road) (s t : State) (k : 0 < K) (w : 0 < W) (ro
       (cumulativeAt s (suc i)) (cumulativeAt t (suc i)) (road .wave i l) k w (space i l) X o h))
 
   -- the room: supply less the release, which fits in both studies and is K times as large in the finer one
-  module _ (row : List ℕ) (own : Released q s row) (fine : Released q′ t (timesOf K row)) (i : ℕ) (l : i < q .n) where
+  module _ (row : List ℕ) (own : ReleasesFit q s row) (fine : ReleasesFit q′ t (timesOf K row)) (i : ℕ) (l : i < q .n) where
     abbrev room : ℕ
     room = roomAt q s row i
 

@@ -10,7 +10,7 @@ use Rattle.numbers.specs.Concat.{length-concat}
 use Rattle.numbers.specs.TablesLaws.{concat-row, length-front, front-row, front-past, front-rows, front-more, front-none, front-same}
 use Rattle.model.specs.Schedules.{Study, roadAt, places, tableSize, engineAfter, outflowsAt, proposedAt}
 use Rattle.theory.specs.RulesLaws.{length-outflows}
-use Rattle.theory.specs.RunsLaws.{StudyOk, Shared, shared-less, outflows-shared}
+use Rattle.theory.specs.RunsLaws.{StudyOk, SharedSteps, shared-less, outflows-shared}
 use Rattle.model.specs.Running.{tableOf}
 
 -- the engine's rows of the first k steps by themselves
@@ -55,7 +55,7 @@ table-none a list = front-none (outflowsAt a) (places a) list
 
 -- the rows written depend only on the steps written
 module _ {a b : Study} (cells : a .road .n ≡ b .road .n) where
-  pub table-shared : (list : List ℕ) (k : ℕ) → Shared a b k → tableOf a list k ≡ tableOf b list k
+  pub table-shared : (list : List ℕ) (k : ℕ) → SharedSteps a b k → tableOf a list k ≡ tableOf b list k
   table-shared list k h =
       front-same (outflowsAt a) (outflowsAt b) (places a) list k (λ i l. outflows-shared i (shared-less h (suc i) l))
       ∙ ap (λ (n : ℕ). frontOf (outflowsAt b) (n + 1) list k) cells

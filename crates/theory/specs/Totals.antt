@@ -11,12 +11,12 @@ use Rattle.numbers.specs.SumLaws.{sum-start, sum-more}
 use Rattle.model.specs.declared.Road.{Road}
 use Rattle.model.specs.declared.State.{State}
 use Rattle.model.specs.Road.{totalOf}
-use Rattle.model.specs.Schedules.{Study, scheduleAfter, engineAfter, outflowsAt, Obeying, proposedAt, scheduledAt}
+use Rattle.model.specs.Schedules.{Study, scheduleAfter, engineAfter, outflowsAt, ObeysUpTo, proposedAt, scheduledAt}
 use Rattle.limits.specs.LimitsLaws.{RoadOk}
-use Rattle.model.specs.Places.{shareAt, cumulativeAt}
+use Rattle.model.specs.Flow.{shareAt, cumulativeAt}
 use Rattle.theory.specs.RulesLaws.{onwardAt, share-le}
 use Rattle.model.specs.Move.{presentOf}
-use Rattle.theory.specs.RunsLaws.{Fitting, engine-schedule, engine-obeys}
+use Rattle.theory.specs.RunsLaws.{ReleasesFitUpTo, engine-schedule, engine-obeys}
 use Rattle.model.specs.Demand.{Reaches}
 use Rattle.theory.specs.Finer.{scaled, reachOf, thousandsOf}
 use Rattle.theory.specs.FinerRules.{onward-floor, onward-above}
@@ -221,19 +221,19 @@ module _ {K : ℕ} {a : Study} (h : Countable K a) (on : SomeOn (a .road)) (ys z
   T = scheduleAfter (scaled K a) zs
 
   -- present after each step
-  now-least : (k : ℕ) → Obeying a ys k → Obeying (scaled K a) zs k → Deciding a ys k
+  now-least : (k : ℕ) → ObeysUpTo a ys k → ObeysUpTo (scaled K a) zs k → Deciding a ys k
       → K * presentOf (a .road) (S k) * reachOf (a .road) 0
       ≤ presentOf (a .road) (T k) * reachOf (a .road) 0 + suc (a .road .n) * ((2 * k * K + 1) * thousandsOf (a .road) 0)
   now-least k own fine decide =
       present-least K (2 * k * K) road (S k) (T k) (h .ok .road) on (coupled h ys zs k own fine) (most-after h ys zs k own fine decide)
 
-  now-most : (k : ℕ) → Obeying a ys k → Obeying (scaled K a) zs k → Deciding (scaled K a) zs k
+  now-most : (k : ℕ) → ObeysUpTo a ys k → ObeysUpTo (scaled K a) zs k → Deciding (scaled K a) zs k
       → presentOf (a .road) (T k) * reachOf (a .road) 0
       ≤ K * presentOf (a .road) (S k) * reachOf (a .road) 0 + suc (a .road .n) * ((k * (K + 1) + K) * thousandsOf (a .road) 0)
   now-most k own fine decide =
       present-most K (k * (K + 1)) road (S k) (T k) (h .ok .road) on (coupled h ys zs k own fine) (least-after h ys zs k own fine decide)
 
-  pub sooner-on : (k : ℕ) → Obeying a ys k → Obeying (scaled K a) zs k → Deciding a ys k
+  pub sooner-on : (k : ℕ) → ObeysUpTo a ys k → ObeysUpTo (scaled K a) zs k → Deciding a ys k
       → SoonerOn K k (a .road) (scheduleAfter a ys k) (scheduleAfter (scaled K a) zs k)
   sooner-on zero own fine decide = record {
     present = now-least 0 own fine decide;
@@ -261,7 +261,7 @@ module _ {K : ℕ} {a : Study} (h : Countable K a) (on : SomeOn (a .road)) (ys z
             );
       }
 
-  pub later-on : (k : ℕ) → Obeying a ys k → Obeying (scaled K a) zs k → Deciding (scaled K a) zs k
+  pub later-on : (k : ℕ) → ObeysUpTo a ys k → ObeysUpTo (scaled K a) zs k → Deciding (scaled K a) zs k
       → LaterOn K k (a .road) (scheduleAfter a ys k) (scheduleAfter (scaled K a) zs k)
   later-on zero own fine decide = record {
     present = now-most 0 own fine decide;
@@ -310,8 +310,8 @@ near-total K k r s t ramps x y = record {
       (t .«ramp_time») ramps (x .total) (y .gateTime);
 }
 
-module _ {K : ℕ} {a : Study} (h : Countable K a) (on : SomeOn (a .road)) (k : ℕ) (fits : Fitting a k) where
-  pub rounding-total : Fitting (scaled K a) k → NearTotal K k (a .road) (engineAfter a k) (engineAfter (scaled K a) k)
+module _ {K : ℕ} {a : Study} (h : Countable K a) (on : SomeOn (a .road)) (k : ℕ) (fits : ReleasesFitUpTo a k) where
+  pub rounding-total : ReleasesFitUpTo (scaled K a) k → NearTotal K k (a .road) (engineAfter a k) (engineAfter (scaled K a) k)
   rounding-total fine =
       subst⁻¹ (λ (u : State). NearTotal K k (a .road) (engineAfter a k) u) (engine-schedule (scaled K a) k)
       (subst⁻¹ (λ (u : State). NearTotal K k (a .road) u (scheduleAfter (scaled K a) (outflowsAt (scaled K a)) k)) (engine-schedule a k)

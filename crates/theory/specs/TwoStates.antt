@@ -12,7 +12,7 @@ use Rattle.numbers.specs.RowsLaws.{sum-list-none, sum-list-more, sum-list-le, s
 use Rattle.model.specs.declared.Road.{Road}
 use Rattle.model.specs.declared.State.{State}
 use Rattle.limits.specs.LimitsLaws.{RoadOk}
-use Rattle.model.specs.Places.{shareAt, cumulativeAt}
+use Rattle.model.specs.Flow.{shareAt, cumulativeAt}
 use Rattle.theory.specs.RulesLaws.{onwardAt, Sized, share-gate, share-le, onward-last}
 use Rattle.model.specs.Move.{queueSum, presentOf}
 use Rattle.model.specs.Weights.{weightedSum, weightedPresent, weightedTotal, Falling}

@@ -13,7 +13,7 @@ use Rattle.model.specs.declared.State.{State}
 use Rattle.model.specs.Numbers.{at, unless, oneOf}
 use Rattle.numbers.specs.Tests.{one-zero, one-pass, two-zero, two-pass}
 use Rattle.model.specs.Refusals.{began, fault}
-use Rattle.model.specs.Places.{demandAt, roomAt, enteringAt}
+use Rattle.model.specs.Flow.{demandAt, roomAt, enteringAt}
 use Rattle.model.specs.Schedules.{Obeys}
 use Rattle.model.specs.Stepping.{releasesOf}
 use Rattle.model.specs.Judging.{outflowFault, lastFault, outflowFaultAt, outflowsFaultOf, verdictOf}

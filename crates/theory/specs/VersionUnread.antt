@@ -17,7 +17,7 @@ use Rattle.model.specs.Road.{totalOf}
 use Rattle.model.specs.Lanes.{builtIn, openIn}
 use Rattle.model.specs.Schedules.{Study, openRoad, roadAt, outflowsOf, scheduleAfter, engineAfter, outflowsAt}
 use Rattle.model.specs.Limits.{placeOk, inputOk}
-use Rattle.model.specs.Places.{capacityAt, demandAt, shareAt, outflowAt}
+use Rattle.model.specs.Flow.{capacityAt, demandAt, shareAt, outflowAt}
 use Rattle.model.specs.Move.{heldOf, movedTo, countedOf, nextOf, exitsOf}
 use Rattle.model.specs.Stepping.{lowestOf, releasesOf, stepOn, steppingOf}
 use Rattle.model.specs.Judging.{outflowFaultAt, verdictOf}
@@ -38,7 +38,7 @@ stamped version seconds r = record {
 }
 
 -- b is the study a, except for the version and the seconds of its road
-pub record Restamped (a b : Study) : Type 0 where
+pub record OtherVersion (a b : Study) : Type 0 where
   pub road : b .road ≡ stamped (b .road .version) (b .road .seconds) (a .road)
   pub start : b .start ≡ a .start
   pub steps : b .steps ≡ a .steps
@@ -136,7 +136,7 @@ abbrev roadWith : Road → List ℕ → ℕ → Road
 roadWith r lanes k = cond (eqb (length lanes) 0) r (openRoad r (builtIn lanes (r .n)) (openIn lanes (r .n) k))
 
 -- whole runs
-module _ {a b : Study} (h : Restamped a b) where
+module _ {a b : Study} (h : OtherVersion a b) where
   abbrev version : ℕ
   version = b .road .version
 

@@ -18,7 +18,7 @@ use Rattle.numbers.specs.TablesLaws.{front-same}
 use Rattle.model.specs.Schedules.{Study, roadAt, places, tableSize, scheduleAfter, engineAfter, outflowsAt, proposedAt, scheduledAt}
 use Rattle.theory.specs.StepLaws.{number-of}
 use Rattle.model.specs.Judging.{verdictOf, judgeSays, judgeEnd, judgingOf}
-use Rattle.theory.specs.VersionUnread.{Restamped, same-state, same-outflows, same-releases, same-schedule, same-verdict}
+use Rattle.theory.specs.VersionUnread.{OtherVersion, same-state, same-outflows, same-releases, same-schedule, same-verdict}
 use Rattle.model.specs.Reading.{studyOf}
 use Rattle.model.specs.Demand.{Taken}
 use Rattle.model.specs.Running.{runSays, firstStep, EndAnswer, endOf, runEnd, tableOf, runningOf, listAfter}
@@ -36,7 +36,7 @@ alike-self : (d : EndAnswer) → EndsAlike d d
 alike-self d = record { number = refl; step = refl; place = refl; state = refl }
 
 -- two studies that differ only in this way, with the same faults and the same states
-module _ {a b : Study} (h : Restamped a b) (f g : ℕ → FaultAnswer) (x y : ℕ → State)
+module _ {a b : Study} (h : OtherVersion a b) (f g : ℕ → FaultAnswer) (x y : ℕ → State)
     (says : (k : ℕ) → k < a .steps → g k ≡ f k) (states : (k : ℕ) → k ≤ a .steps → y k ≡ x k) where
   abbrev T : ℕ
   T = a .steps
@@ -65,7 +65,7 @@ module _ {a b : Study} (h : Restamped a b) (f g : ℕ → FaultAnswer) (x y : �
           rw (end-fault a f x l, end-fault b g y m)
           (record { number = number-of q; step = same-first; place = ap (λ (p : FaultAnswer). p .place) q; state = s })
 
-module _ {a b : Study} (h : Restamped a b) where
+module _ {a b : Study} (h : OtherVersion a b) where
   -- the same places, and so a table of the same size
   pub same-places : places b ≡ places a
   same-places = ap (λ (r : Road). r .n + 1) (h .road)
@@ -98,7 +98,7 @@ module _ {a b : Study} (h : Restamped a b) where
       ∙ ap (λ (p : ℕ). frontOf (outflowsAt a) p list k) same-places
 
 -- for two records without a refusal under one table of lanes: running and judging answer alike, and running leaves the same list
-module _ (s t lanes : List ℕ) (first : Taken s lanes) (other : Taken t lanes) (h : Restamped (studyOf s lanes) (studyOf t lanes)) (list : List ℕ) where
+module _ (s t lanes : List ℕ) (first : Taken s lanes) (other : Taken t lanes) (h : OtherVersion (studyOf s lanes) (studyOf t lanes)) (list : List ℕ) where
   pub runs-alike : EndsAlike (runningOf s lanes list) (runningOf t lanes list)
   runs-alike =
       let z = same-table h in

@@ -12,7 +12,7 @@ use Rattle.model.specs.declared.State.{State}
 use Rattle.model.specs.Numbers.{at}
 use Rattle.numbers.specs.Tests.{order}
 use Rattle.limits.specs.LimitsLaws.{RoadOk}
-use Rattle.model.specs.Places.{demandAt, roomAt, shareAt, cumulativeAt, enteringAt}
+use Rattle.model.specs.Flow.{demandAt, roomAt, shareAt, cumulativeAt, enteringAt}
 use Rattle.theory.specs.RulesLaws.{onwardAt, share-last}
 use Rattle.model.specs.Move.{nextOf}
 use Rattle.model.specs.Schedules.{Obeys}
@@ -21,7 +21,7 @@ use Rattle.theory.specs.Roads.{Alike, share-alike}
 use Rattle.theory.specs.Finer.{timesOf}
 use Rattle.theory.specs.FinerLaws.{FinerRoad, finer-alike, finer-onward}
 use Rattle.theory.specs.Coupling.{Coupling, sized-finer}
-use Rattle.theory.specs.StepRules.{Decided, demand-most, demand-least, room-most, room-least}
+use Rattle.theory.specs.StepRules.{DecidedOutflows, demand-most, demand-least, room-most, room-least}
 
 -- all that leaves a place before the last enters the next cell
 abbrev pub AllOn : Road → Type 0
@@ -63,7 +63,7 @@ module _ (K U : ℕ) (q q′ : Road) (s t : State) (row y z : List ℕ) (k : 0 <
         finer-onward f T′ p (omega arith),
       )
 
-  module _ (most : (p : ℕ) → p ≤ q .n → cumulativeAt t p ≤ K * cumulativeAt s p + U) (decided : Decided q s row y) where
+  module _ (most : (p : ℕ) → p ≤ q .n → cumulativeAt t p ≤ K * cumulativeAt s p + U) (decided : DecidedOutflows q s row y) where
     onward-most : (p : ℕ) → p < q .n → onwardAt q t p * 1 ≤ K * onwardAt q s p * 1 + U
     onward-most p l =
         omega (arith, most p (omega arith), onward-all q on t p l, ap (λ (x : ℕ). K * x) (onward-all q on s p l))
@@ -98,7 +98,7 @@ module _ (K U : ℕ) (q q′ : Road) (s t : State) (row y z : List ℕ) (k : 0 <
         (λ (m : p < q .n). ⊎-elim (by-demand p l) (by-room p m) (decided .place p m))
         (order (q .n) p)
 
-  module _ (least : (p : ℕ) → p ≤ q .n → K * cumulativeAt s p ≤ cumulativeAt t p) (decided : Decided q′ t (timesOf K row) z) where
+  module _ (least : (p : ℕ) → p ≤ q .n → K * cumulativeAt s p ≤ cumulativeAt t p) (decided : DecidedOutflows q′ t (timesOf K row) z) where
     onward-least : (p : ℕ) → p < q .n → K * onwardAt q s p * 1 ≤ onwardAt q t p * 1 + 0
     onward-least p l =
         omega (arith, least p (omega arith), onward-all q on t p l, ap (λ (x : ℕ). K * x) (onward-all q on s p l))

@@ -14,20 +14,20 @@ use borrow.Author.Tests.{le-leb, lt-leb}
 use Rattle.numbers.specs.RowsLaws.{length-list, list-at}
 use Rattle.model.specs.Numbers.{at}
 use Rattle.model.specs.Road.{mostStart, mostRate}
-use Rattle.numbers.specs.FirstLaws.{Passed, passed-none, passed-more, passed-fails, passed-all}
+use Rattle.numbers.specs.FirstLaws.{PassedTests, passed-none, passed-more, passed-fails, passed-all}
 use Rattle.model.specs.Limits.{allWithin}
-use Rattle.model.specs.Wanted.{Comes, Limits, wantedFrameOk, wantedOk, lowestQueue, possibleOf, inflowOf}
+use Rattle.model.specs.Wanted.{ArrivalsOk, Limits, wantedFrameOk, wantedOk, lowestQueue, possibleOf, inflowOf}
 use Rattle.model.specs.Wanted.{leastAt, leastRelease, leastTable, WantedAnswer, searchAnswer, wantedOf, tableAfter}
 use Rattle.wanted.specs.WantedLaws.{inflow-none, inflow-more, inflow-most, least-last, least-more, least-grows}
 
 -- after k steps that each release as much as possible
-pub record Lowered (start ceiling rate : ℕ) (arrivals : List ℕ) (queue k : ℕ) : Type 0 where
+pub record ReleasedSoFar (start ceiling rate : ℕ) (arrivals : List ℕ) (queue k : ℕ) : Type 0 where
   pub lowest : queue ≡ lowestQueue start rate arrivals k
   pub small : queue ≤ mostStart
-  pub passed : Passed (λ j. leb (lowestQueue start rate arrivals (suc j)) ceiling) (length arrivals) k
+  pub passed : PassedTests (λ j. leb (lowestQueue start rate arrivals (suc j)) ceiling) (length arrivals) k
 
 -- the start queue and k arrivals are added
-pub record Added (start : ℕ) (arrivals : List ℕ) (total k : ℕ) : Type 0 where
+pub record AddedSoFar (start : ℕ) (arrivals : List ℕ) (total k : ℕ) : Type 0 where
   pub within : k ≤ length arrivals
   pub sum : total ≡ inflowOf start arrivals k
 
@@ -44,39 +44,39 @@ pub larger-is : {larger a b x y : ℕ} → larger ≡ max a b → a ≡ x → b 
 larger-is h e f = h ∙ rw (e, f) refl
 
 -- the answer of the search, and the table that it leaves
-pub record Left (start ceiling rate : ℕ) (arrivals table : List ℕ) (a : WantedAnswer) (left : List ℕ) : Type 0 where
+pub record SearchOutcome (start ceiling rate : ℕ) (arrivals table : List ℕ) (a : WantedAnswer) (left : List ℕ) : Type 0 where
   pub says : a ≡ wantedOf start ceiling rate arrivals (length table)
   pub leaves : left ≡ tableAfter start ceiling rate arrivals table
 
 module _ {start : ℕ} {arrivals : List ℕ} where
-  pub added-none : Added start arrivals start 0
+  pub added-none : AddedSoFar start arrivals start 0
   added-none = record { within = omega arith; sum = sym (inflow-none start arrivals) }
 
-  pub added-fits : {total k : ℕ} → Comes start arrivals → Added start arrivals total k → k < length arrivals
+  pub added-fits : {total k : ℕ} → ArrivalsOk start arrivals → AddedSoFar start arrivals total k → k < length arrivals
       → total + at arrivals k ≤ mostStart + length arrivals * mostRate
   added-fits {total} {k} p h l =
       omega (arith, h .sum, inflow-more start arrivals k l, inflow-most start arrivals p (suc k) l)
 
-  pub added-more : {total k : ℕ} → Added start arrivals total k → k < length arrivals → Added start arrivals (total + at arrivals k) (k + 1)
+  pub added-more : {total k : ℕ} → AddedSoFar start arrivals total k → k < length arrivals → AddedSoFar start arrivals (total + at arrivals k) (k + 1)
   added-more {total} {k} h l = record {
     within = omega arith;
     sum = rw add-one (omega (arith, h .sum, inflow-more start arrivals k l));
   }
 
-  pub added-end : {total k : ℕ} → Added start arrivals total k → length arrivals ≤ k → total ≡ inflowOf start arrivals (length arrivals)
+  pub added-end : {total k : ℕ} → AddedSoFar start arrivals total k → length arrivals ≤ k → total ≡ inflowOf start arrivals (length arrivals)
   added-end {k = k} h l = let e : k ≡ length arrivals = omega (arith, h .within) in h .sum ∙ ap (inflowOf start arrivals) e
 
 module _ {start ceiling rate : ℕ} {arrivals : List ℕ} where
-  pub lowered-none : Limits start ceiling rate arrivals → Lowered start ceiling rate arrivals start 0
+  pub lowered-none : Limits start ceiling rate arrivals → ReleasedSoFar start ceiling rate arrivals start 0
   unfolding lowestQueue
   lowered-none h = record { lowest = refl; small = h .comes .starts; passed = passed-none }
 
-  module _ {queue k next : ℕ} (h : Lowered start ceiling rate arrivals queue k) (l : k < length arrivals) (e : next ≡ queue + at arrivals k - rate) where
+  module _ {queue k next : ℕ} (h : ReleasedSoFar start ceiling rate arrivals queue k) (l : k < length arrivals) (e : next ≡ queue + at arrivals k - rate) where
     next-lowest : next ≡ lowestQueue start rate arrivals (suc k)
     unfolding lowestQueue
     next-lowest = omega (arith, h .lowest)
 
-    pub lowered-more : ceiling ≤ mostStart → next ≤ ceiling → Lowered start ceiling rate arrivals next (k + 1)
+    pub lowered-more : ceiling ≤ mostStart → next ≤ ceiling → ReleasedSoFar start ceiling rate arrivals next (k + 1)
     lowered-more m n = record {
       lowest = rw add-one next-lowest;
       small = omega arith;
@@ -87,7 +87,7 @@ module _ {start ceiling rate : ℕ} {arrivals : List ℕ} where
     unfolding possibleOf
     lowered-stop n = passed-fails (h .passed) l refl (lt-leb (lowestQueue start rate arrivals (suc k)) ceiling (omega (arith, next-lowest)))
 
-  pub lowered-end : {queue k : ℕ} → Lowered start ceiling rate arrivals queue k → length arrivals ≤ k → true ≡ possibleOf start ceiling rate arrivals
+  pub lowered-end : {queue k : ℕ} → ReleasedSoFar start ceiling rate arrivals queue k → length arrivals ≤ k → true ≡ possibleOf start ceiling rate arrivals
   unfolding possibleOf
   lowered-end h l = passed-all (h .passed) l
 
@@ -160,23 +160,25 @@ module _ {start ceiling rate : ℕ} {arrivals : List ℕ} where
 -- the ends of the search
 module _ (start ceiling rate : ℕ) (arrivals table : List ℕ) where
   -- a test of 23 fails
-  refused : wantedOk start ceiling rate arrivals (length table) ≡ false → Left start ceiling rate arrivals table (searchAnswer 23 false false) table
+  refused : wantedOk start ceiling rate arrivals (length table) ≡ false
+      → SearchOutcome start ceiling rate arrivals table (searchAnswer 23 false false) table
   unfolding wantedOf tableAfter
   refused n = record { says = rw n; leaves = rw n }
 
-  pub ends-frame : wantedFrameOk start ceiling rate (length arrivals) (length table) ≡ false → Left start ceiling rate arrivals table (searchAnswer 23 false false) table
+  pub ends-frame : wantedFrameOk start ceiling rate (length arrivals) (length table) ≡ false
+      → SearchOutcome start ceiling rate arrivals table (searchAnswer 23 false false) table
   ends-frame n = refused (rw n)
 
   module _ (f : wantedFrameOk start ceiling rate (length arrivals) (length table) ≡ true) where
-    pub ends-arrivals : allWithin arrivals mostRate ≡ false → Left start ceiling rate arrivals table (searchAnswer 23 false false) table
+    pub ends-arrivals : allWithin arrivals mostRate ≡ false → SearchOutcome start ceiling rate arrivals table (searchAnswer 23 false false) table
     ends-arrivals n = refused (rw (f, n))
 
     module _ (w : allWithin arrivals mostRate ≡ true) where
-      pub ends-none : possibleOf start ceiling rate arrivals ≡ false → Left start ceiling rate arrivals table (searchAnswer 0 true false) table
+      pub ends-none : possibleOf start ceiling rate arrivals ≡ false → SearchOutcome start ceiling rate arrivals table (searchAnswer 0 true false) table
       unfolding wantedOf tableAfter
       ends-none n = record { says = rw (f, w, n); leaves = rw (f, w, n) }
 
       pub ends-found : possibleOf start ceiling rate arrivals ≡ true
-          → Left start ceiling rate arrivals table (searchAnswer 0 true true) (leastTable start ceiling rate arrivals)
+          → SearchOutcome start ceiling rate arrivals table (searchAnswer 0 true true) (leastTable start ceiling rate arrivals)
       unfolding wantedOf tableAfter
       ends-found n = record { says = rw (f, w, n); leaves = rw (f, w, n) }

@@ -11,7 +11,7 @@ use Rattle.model.specs.Numbers.{at}
 use Rattle.numbers.specs.Tests.{unless-elim, never}
 use Rattle.numbers.specs.SumLaws.{sum-more}
 use Rattle.model.specs.Wanted.{WantedRequest, TableObeys, runningSum, wantedOk, possibleOf, leastTable, WantedAnswer, searchAnswer, wantedOf, tableAfter, Least, WantedEnds}
-use Rattle.wanted.specs.WantedLaws.{asked-limits, limits-asked, obeyed-possible, table-obeys, table-least}
+use Rattle.wanted.specs.WantedLaws.{ok-request, request-ok, obeyed-possible, table-obeys, table-least}
 
 -- 1: there is only one such table
 module _ (start ceiling rate : ℕ) (arrivals : List ℕ) {one other : List ℕ} where
@@ -43,8 +43,8 @@ module _ (start ceiling rate : ℕ) (arrivals table : List ℕ) where
   unfolding wantedOf tableAfter
   ends =
       unless-elim End (wantedOk start ceiling rate arrivals (length table))
-      (λ e. WantedEnds.refused (λ asked. never (limits-asked start ceiling rate arrivals (length table) asked) e)) (λ e.
-      let asked = asked-limits start ceiling rate arrivals (length table) e in
+      (λ e. WantedEnds.refused (λ asked. never (request-ok start ceiling rate arrivals (length table) asked) e)) (λ e.
+      let asked = ok-request start ceiling rate arrivals (length table) e in
       unless-elim End (possibleOf start ceiling rate arrivals) (λ f. WantedEnds.none asked (λ other o. never (obeyed-possible start ceiling rate arrivals other o) f)) (λ f.
       WantedEnds.found asked (record { obeys = table-obeys start ceiling rate arrivals f; least = table-least start ceiling rate arrivals })))
 
@@ -104,8 +104,8 @@ module _ (start ceiling rate : ℕ) (arrivals table : List ℕ) where
   found-least = found-is (ends start ceiling rate arrivals table)
 
   -- all arguments are within 23's limits
-  pub found-asked : says .found ≡ true → WantedRequest start ceiling rate arrivals (length table)
-  found-asked = found-in (ends start ceiling rate arrivals table)
+  pub found-request : says .found ≡ true → WantedRequest start ceiling rate arrivals (length table)
+  found-request = found-in (ends start ceiling rate arrivals table)
 
   -- 4: the answer is none exactly if, within the limits, no table obeys; the lent table is unchanged
   pub none-only : says ≡ searchAnswer 0 true false → (other : List ℕ) → TableObeys start ceiling rate arrivals other → ⊥

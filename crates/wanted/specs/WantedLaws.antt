@@ -15,7 +15,7 @@ use Rattle.numbers.specs.FirstLaws.{all-at, all-true}
 use Rattle.numbers.specs.Tests.{and-true, both-true, le-head, eq-head, le-then, eq-then}
 use Rattle.model.specs.Limits.{allWithin}
 use Rattle.limits.specs.AllWithin.{within-at, within-true}
-use Rattle.model.specs.Wanted.{Comes, WantedRequest, rampQueueAfter, TableObeys, runningSum, wantedFrameOk, wantedOk}
+use Rattle.model.specs.Wanted.{ArrivalsOk, WantedRequest, rampQueueAfter, TableObeys, runningSum, wantedFrameOk, wantedOk}
 use Rattle.model.specs.Wanted.{lowestQueue, possibleOf, inflowOf, leastFrom, leastAt, leastRelease, leastTable}
 
 -- the inflow
@@ -28,15 +28,15 @@ module _ (start : ℕ) (arrivals : List ℕ) where
   unfolding inflowOf
   inflow-more k l = omega (arith, sum-more k arrivals l)
 
-  pub inflow-most : Comes start arrivals → (k : ℕ) → k ≤ length arrivals → inflowOf start arrivals k ≤ mostStart + k * mostRate
+  pub inflow-most : ArrivalsOk start arrivals → (k : ℕ) → k ≤ length arrivals → inflowOf start arrivals k ≤ mostStart + k * mostRate
   unfolding inflowOf
   inflow-most h k l = omega (arith, h .starts, sum-bound arrivals mostRate k l (λ i m. h .each i (omega arith)))
 
 module _ (start ceiling rate : ℕ) (arrivals : List ℕ) where
   -- the test of 23 passes exactly if its limits hold
-  pub asked-limits : (places : ℕ) → wantedOk start ceiling rate arrivals places ≡ true
+  pub ok-request : (places : ℕ) → wantedOk start ceiling rate arrivals places ≡ true
       → WantedRequest start ceiling rate arrivals places
-  asked-limits places h =
+  ok-request places h =
       let both = and-true (wantedFrameOk start ceiling rate (length arrivals) places) (allWithin arrivals mostRate) h in
       let some = le-head _ _ _ (both .0) in
       let most = le-head _ _ _ (some .1) in
@@ -53,8 +53,8 @@ module _ (start ceiling rate : ℕ) (arrivals : List ℕ) where
         same = same .0;
       }
 
-  pub limits-asked : (places : ℕ) → WantedRequest start ceiling rate arrivals places → wantedOk start ceiling rate arrivals places ≡ true
-  limits-asked places q =
+  pub request-ok : (places : ℕ) → WantedRequest start ceiling rate arrivals places → wantedOk start ceiling rate arrivals places ≡ true
+  request-ok places q =
       let h = q .limits in
       both-true (wantedFrameOk start ceiling rate (length arrivals) places) (allWithin arrivals mostRate)
       (le-then _ _ _ (h .some) (le-then _ _ _ (h .comes .most) (eq-then _ _ _ (q .same) (le-then _ _ _ (h .rates) (le-then _ _ _ (h .comes .starts) (le-leb _ _ (h .ceilings)))))))

@@ -5,7 +5,7 @@ use model::Wanted;
 ghost use mathlib.Core.Path.{_≡_};
 ghost use Prim.Native.Nat.{_-_, max};
 ghost use lib.ListN.{length};
-ghost use Rattle.model.specs.Wanted.{Comes, Limits, wantedFrameOk, possibleOf, inflowOf, leastTable, wantedAnswer, wantedOf, tableAfter, WantedEnds};
+ghost use Rattle.model.specs.Wanted.{ArrivalsOk, Limits, wantedFrameOk, possibleOf, inflowOf, leastTable, wantedAnswer, wantedOf, tableAfter, WantedEnds};
 
 // `most` less `used`; 0 if `used` is more.
 fn less(most: u32, used: u32) -> u32
@@ -49,7 +49,7 @@ fn possible(start: u32, ceiling: u32, rate: u32, arrivals: &[u32]) -> bool
 
 // The start queue and all arrivals.
 fn inflow(start: u32, arrivals: &[u32]) -> u32
-    requires { ⌜ Comes start (now arrivals) ⌝ }
+    requires { ⌜ ArrivalsOk start (now arrivals) ⌝ }
     ensures { λ r. ⌜ r ≡ inflowOf start (now (arrivals .entry)) (length (now (arrivals .entry))) ⌝ }
 {
     let mut total = start;

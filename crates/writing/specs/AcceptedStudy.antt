@@ -17,13 +17,13 @@ use Rattle.model.specs.Schedules.{Study}
 use Rattle.model.specs.Limits.{placeOk}
 use Rattle.model.specs.Reading.{sizeOf}
 use Rattle.model.specs.Encoding.{recordSize, recordOf, given}
-use Rattle.encoding.specs.Encoding.{Fits, length-record, record-stands}
+use Rattle.encoding.specs.Encoding.{Fits, length-record, record-in-target}
 use Rattle.model.specs.Writing.{WriteAnswer, written, givenOk, frameOf, writingBy, writingOf, targetAfter}
-use Rattle.writing.specs.Checks.{Framed, framed}
+use Rattle.writing.specs.Checks.{FrameOk, framed}
 
 -- no refusal applies
-pub record Accepted (a : Study) (numbers room : ℕ) : Type 0 where
-  pub frame : Framed a numbers
+pub record AcceptedStudy (a : Study) (numbers room : ℕ) : Type 0 where
+  pub frame : FrameOk a numbers
   pub places : (p : ℕ) → p < a .road .n + 1 → placeOk (a .road) (a .start) p ≡ true
   pub rows : (t : ℕ) → t < a .steps → givenOk a t ≡ true
   pub enough : recordSize a ≤ room
@@ -43,9 +43,9 @@ module _ (a : Study) (numbers room : ℕ) where
   roomOk = leb (recordSize a) room
 
   abbrev Taken : WriteAnswer → Type 0
-  Taken x = x .number ≡ 0 → Accepted a numbers room
+  Taken x = x .number ≡ 0 → AcceptedStudy a numbers room
 
-  pub accepted : writingBy a numbers room .number ≡ 0 → Accepted a numbers room
+  pub accepted : writingBy a numbers room .number ≡ 0 → AcceptedStudy a numbers room
   accepted =
       unless-elim Taken framedOk (λ e z. absurd (eqb-false (frameOf a numbers) 0 e z)) (λ frame.
       unless-elim Taken placesOk (λ _ z. absurd (omega arith)) (λ places.
@@ -75,7 +75,7 @@ module _ (road : Road) (T : ℕ) (start : Start) (rows target : List ℕ) where
   abbrev a : Study
   a = given road T start rows
 
-  pub given-accepted : writingOf road T start rows target .number ≡ 0 → Accepted (given road T start rows) (length rows) (length target)
+  pub given-accepted : writingOf road T start rows target .number ≡ 0 → AcceptedStudy (given road T start rows) (length rows) (length target)
   unfolding writingOf
   given-accepted h = accepted a (length rows) (length target) h
 
@@ -96,4 +96,4 @@ module _ (road : Road) (T : ℕ) (start : Start) (rows target : List ℕ) where
   pub target-put : writingOf road T start rows target .number ≡ 0 → (after : List ℕ) (end : ℕ) → Puts target 0 (recordOf (given road T start rows)) after end
       → after ≡ targetAfter road T start rows target
   target-put h after end p =
-      record-stands a target after end (length-record a) (given-accepted h .enough) p .1 ∙ sym (target-written h)
+      record-in-target a target after end (length-record a) (given-accepted h .enough) p .1 ∙ sym (target-written h)

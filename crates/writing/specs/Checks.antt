@@ -45,7 +45,7 @@ unfolding frameFault oneOf secondsSize
 on-paper = (refl, (refl, (refl, refl)))
 
 -- 2, 3, 19, 1 and 4 do not apply
-pub record Framed (a : Study) (numbers : ℕ) : Type 0 where
+pub record FrameOk (a : Study) (numbers : ℕ) : Type 0 where
   pub version : oneOf bothVersions (a .road .version) ≡ true
   pub counts : Counts (a .road .n) (a .steps)
   pub seconds : secondsOk (a .road .version) (a .road .seconds) ≡ true
@@ -83,10 +83,10 @@ module _ (version seconds n T numbers : ℕ) where
 
 module _ (a : Study) (numbers : ℕ) where
   abbrev Lets : ℕ → Type 0
-  Lets m = m ≡ 0 → Framed a numbers
+  Lets m = m ≡ 0 → FrameOk a numbers
 
   -- without a fault all five hold
-  pub framed : frameOf a numbers ≡ 0 → Framed a numbers
+  pub framed : frameOf a numbers ≡ 0 → FrameOk a numbers
   unfolding frameFault
   framed =
       unless-elim Lets (oneOf bothVersions (a .road .version)) (λ _ z. absurd (omega arith)) (λ version.
@@ -102,7 +102,7 @@ module _ (a : Study) (numbers : ℕ) where
         all = eqb-true numbers (a .steps * rowNumbers (a .road .n)) all;
       })))))
 
-  faultless : Framed a numbers → frameOf a numbers ≡ 0
+  faultless : FrameOk a numbers → frameOf a numbers ≡ 0
   faultless ok = sym (frame-none _ _ _ _ _ (ok .version) (facts-counts (ok .counts)) (ok .seconds) (ok .size) (ok .all))
 
 -- the loop over the rows: the row of step t begins at `from` and is within the list
@@ -114,7 +114,7 @@ module _ (a : Study) (numbers room : ℕ) where
   pub answer-frame : (frameOf a numbers ≡ 0 → ⊥) → unwritten (frameOf a numbers) 0 ≡ writingBy a numbers room
   answer-frame h = rw (ne-eqb (frameOf a numbers) 0 h)
 
-  module _ (ok : Framed a numbers) where
+  module _ (ok : FrameOk a numbers) where
     abbrev place : ℕ
     place = firstOf (placeOk (a .road) (a .start)) (a .road .n + 1)
 

@@ -1,7 +1,7 @@
 pub mod Checks
 pub mod AcceptedStudy
 pub mod CutLaws
-pub mod Stands
+pub mod StudyFields
 pub mod ReadBack
 pub mod ReadStudy
 pub mod WrittenAgain

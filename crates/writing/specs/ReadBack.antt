@@ -28,7 +28,7 @@ use Rattle.model.specs.Encoding.{recordSize, headerBytes, cellBytes, recordOf}
 use Rattle.encoding.specs.Encoding.{length-record}
 use Rattle.model.specs.Writing.{cutOf, keptSeconds, cutRoad, cutState}
 use Rattle.writing.specs.CutLaws.{kept-ok, cut-road, cut-state, cut-row}
-use Rattle.writing.specs.Stands.{HeaderFields, header-fields, CellFields, cell-fields, in-header, in-cell, in-row}
+use Rattle.writing.specs.StudyFields.{HeaderFields, header-fields, CellFields, cell-fields, in-header, in-cell, in-row}
 
 -- a study within the limits: its version is known, its record is short enough, and its road, its start and each row are within their limits
 pub record Recordable (a : Study) : Type 0 where

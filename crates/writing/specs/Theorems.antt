@@ -21,7 +21,7 @@ use Rattle.model.specs.Encoding.{recordOf, given}
 use Rattle.encoding.specs.Encoding.{length-record}
 use Rattle.model.specs.Writing.{WriteAnswer, written, givenOk, writingOf, targetAfter, cutRoad, cutState, ReadsBack}
 use Rattle.writing.specs.Checks.{answer-written, by-given}
-use Rattle.writing.specs.AcceptedStudy.{Accepted, given-accepted, refused-count, target-refused, target-written}
+use Rattle.writing.specs.AcceptedStudy.{AcceptedStudy, given-accepted, refused-count, target-refused, target-written}
 use Rattle.writing.specs.CutLaws.{kept-second, kept-none}
 use Rattle.writing.specs.ReadBack.{Recordable, reads-back, rows-read}
 use Rattle.writing.specs.ReadStudy.{read-size, read-recordable}
@@ -33,7 +33,7 @@ savedOf road T start rows target = take (writingOf road T start rows target .cou
 
 -- what writing accepts is within the limits
 recordable : (road : Road) (T : ℕ) (start : Start) (rows : List ℕ) (room : ℕ)
-    → Accepted (given road T start rows) (length rows) room → Recordable (given road T start rows)
+    → AcceptedStudy (given road T start rows) (length rows) room → Recordable (given road T start rows)
 recordable road T start rows room ok =
     let f = ok .frame in
     let r = places-road road (startState start) (ok .places) (f .counts .someCells) (f .counts .cells) in
@@ -50,14 +50,14 @@ recordable road T start rows room ok =
 
 module _ (road : Road) (T : ℕ) (start : Start) (rows target : List ℕ) where
   -- if writing isn't refused
-  pub record Saved : Type 0 where
+  pub record SavedRecord : Type 0 where
     pub count : writingOf road T start rows target .count ≡ sizeOf (road .version) (road .n) T
     -- the first `count` bytes read back as what was given (cut-at, cut-past)
     pub back : ReadsBack road T start rows (writingOf road T start rows target .count) (targetAfter road T start rows target)
     -- bytes beyond the record are unchanged
     pub beyond : drop (sizeOf (road .version) (road .n) T) (targetAfter road T start rows target) ≡ drop (sizeOf (road .version) (road .n) T) target
 
-  pub saved : writingOf road T start rows target .number ≡ 0 → Saved
+  pub saved : writingOf road T start rows target .number ≡ 0 → SavedRecord
   saved h =
       let ok = given-accepted road T start rows target h in
       let a = given road T start rows in
@@ -100,26 +100,26 @@ module _ (road : Road) (T : ℕ) (start : Start) (rows target : List ℕ) where
   unsaved h = (target-refused road T start rows target h, refused-count (given road T start rows) (length rows) (length target) h)
 
   -- so running and judging a written record under any table of lanes is running and judging what was given: road, start, T and rows are the same
-  pub saved-road : Saved → (lanes : List ℕ) → studyOf (savedOf road T start rows target) lanes .road ≡ cutRoad road
+  pub saved-road : SavedRecord → (lanes : List ℕ) → studyOf (savedOf road T start rows target) lanes .road ≡ cutRoad road
   saved-road k lanes = rw (k .back .reads)
 
-  pub saved-start : Saved → (lanes : List ℕ) → studyOf (savedOf road T start rows target) lanes .start ≡ cutState (road .n) (startState start)
+  pub saved-start : SavedRecord → (lanes : List ℕ) → studyOf (savedOf road T start rows target) lanes .start ≡ cutState (road .n) (startState start)
   saved-start k lanes = rw (k .back .reads)
 
-  pub saved-steps : Saved → (lanes : List ℕ) → studyOf (savedOf road T start rows target) lanes .steps ≡ T
+  pub saved-steps : SavedRecord → (lanes : List ℕ) → studyOf (savedOf road T start rows target) lanes .steps ≡ T
   saved-steps k lanes = rw (k .back .reads)
 
-  pub saved-rows : Saved → (lanes : List ℕ) (t : ℕ) → t < T → studyOf (savedOf road T start rows target) lanes .rows t ≡ rowAt rows (rowNumbers (road .n)) t
+  pub saved-rows : SavedRecord → (lanes : List ℕ) (t : ℕ) → t < T → studyOf (savedOf road T start rows target) lanes .rows t ≡ rowAt rows (rowNumbers (road .n)) t
   saved-rows k lanes t l = rw (k .back .reads) (k .back .row t l)
 
   -- the version is kept, and in version 2 the seconds; in version 1 they are 0
-  pub saved-version : Saved → readingOf (savedOf road T start rows target) .road .version ≡ road .version
+  pub saved-version : SavedRecord → readingOf (savedOf road T start rows target) .road .version ≡ road .version
   saved-version k = rw (k .back .reads)
 
-  pub saved-seconds : Saved → road .version ≡ secondVersion → readingOf (savedOf road T start rows target) .road .seconds ≡ road .seconds
+  pub saved-seconds : SavedRecord → road .version ≡ secondVersion → readingOf (savedOf road T start rows target) .road .seconds ≡ road .seconds
   saved-seconds k e = rw (k .back .reads) (kept-second (road .version) (road .seconds) e)
 
-  pub saved-untimed : Saved → (road .version ≡ secondVersion → ⊥) → readingOf (savedOf road T start rows target) .road .seconds ≡ 0
+  pub saved-untimed : SavedRecord → (road .version ≡ secondVersion → ⊥) → readingOf (savedOf road T start rows target) .road .seconds ≡ 0
   saved-untimed k h = rw (k .back .reads) (kept-none (road .version) (road .seconds) h)
 
 -- a record that reads without refusal, written again from what reading gave and its rows

@@ -15,7 +15,7 @@ use Rattle.model.specs.Record.{recordRow, bytesOf}
 use Rattle.fields.specs.FieldsLaws.{row-at}
 use Rattle.fields.specs.BytesLaws.{partOf, part-join, part-next, part-concat, bytes-part}
 use Rattle.model.specs.Reading.{sizeOf, ReadAnswer, readingOf}
-use Rattle.reading.specs.Cases.{Accepted}
+use Rattle.reading.specs.Cases.{AcceptedRecord}
 use Rattle.reading.specs.Numbers.{Numbers, read-numbers}
 use Rattle.reading.specs.Within.{read-within}
 use Rattle.model.specs.Encoding.{headerOf, cellOf, headerBytes, cellBytes, rowBytes, recordOf}
@@ -37,7 +37,7 @@ module _ (s : List ℕ) (small : (i : ℕ) → at s i < 256) (reads : readingOf 
   numbers : Numbers s (readingOf s .steps) (readingOf s .road) (readingOf s .state)
   numbers = read-numbers s (readingOf s) refl reads
 
-  within : Accepted s (readingOf s .steps) (readingOf s .road) (readingOf s .state)
+  within : AcceptedRecord s (readingOf s .steps) (readingOf s .road) (readingOf s .state)
   within = read-within s (readingOf s) refl reads
 
   part : (i w y : ℕ) → i + w ≤ length s → y ≡ numberOf s i w → bytesOf w y ≡ partOf s i w

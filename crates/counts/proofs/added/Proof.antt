@@ -6,11 +6,11 @@ use Rattle.counts.proofs.added.Tie as tie
 use borrow.Author.Needs.{needs}
 
 add-result : tie.Need-add-result
-add-result c = omega (arith, c .weighed-places .ensures .1, c .before .before .pre .0)
+add-result c = omega (arith, c .weighted-places .ensures .1, c .before .before .pre .0)
 
 returns : tie.Need-returns
 returns c =
-    let e = c .weighed-places .ensures in
+    let e = c .weighted-places .ensures in
     (λ s h. added-more (c .before .before .args .total) (c .before .if1 .taken) (e .0 s h), omega (arith, e .1))
 
 returns-2 : tie.Need-returns-2

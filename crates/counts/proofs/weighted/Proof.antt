@@ -18,7 +18,7 @@ queue : (c : tie.Start) → length (c .args .t2 .queue) ≡ mostCells
 queue c = search needs
 
 -- places of the code: the count of cells from the sum, over the lending of the state's and of the weights' columns
-abbrev to-weights : tie.After-weighed-places → tie.After-weights
+abbrev to-weights : tie.After-weighted-places → tie.After-weights
 to-weights c = c .before .before .before
 
 abbrev to-cells : tie.After-weights → tie.After-cells
@@ -30,7 +30,7 @@ returns c =
     let a = k .before .args in
     let w = at (a .t3 .places) in
     let u = at (a .t3 .ramps) in
-    c .weighed-places .ensures .0 (a .t2) (record { atGate = refl; onRoad = refl; atRamps = refl })
+    c .weighted-places .ensures .0 (a .t2) (record { atGate = refl; onRoad = refl; atRamps = refl })
     ∙ ap (λ (n : ℕ). weightedPresent w u n (a .t2)) (k .cells .ensures)
     ∙ weighted-min w u (a .r .n) (a .t2) (held (k .before)) (queue (k .before))
 

@@ -3,14 +3,14 @@ use Prim.Native.Nat.{_-_, _≤_}
 use Rattle.model.specs.Road.{startState}
 use Rattle.model.specs.Record.{cellSize}
 use Rattle.model.specs.Encoding.{cellBytes}
-use Rattle.encoding.specs.Encoding.{Putting, putting-none, putting-more, putting-end, putting-fits, length-cell}
+use Rattle.encoding.specs.Encoding.{PuttingLists, putting-none, putting-more, putting-end, putting-fits, length-cell}
 use Rattle.encoding.proofs.put_cells.Statement.{statement}
 use Rattle.encoding.proofs.put_cells.Tie as tie
 use native.Mathlib.Omega.{arith}
 use borrow.Author.Needs.{needs}
 
 abbrev Inv-loop : tie.InvT-loop
-Inv-loop target₀ at road start n end₀ i₀ target end i = (i ≤ n) × Putting target₀ at (cellBytes road (startState start)) cellSize i target end
+Inv-loop target₀ at road start n end₀ i₀ target end i = (i ≤ n) × PuttingLists target₀ at (cellBytes road (startState start)) cellSize i target end
 
 abbrev μ-loop : tie.MeasureT-loop
 μ-loop target₀ at road start n end₀ i₀ target end i = n - i

@@ -4,14 +4,14 @@ use lib.ListN.{length, getD}
 use Rattle.model.specs.Record.{numberSize, bytesOf}
 use Rattle.fields.specs.BytesLaws.{length-bytes}
 use Rattle.fields.specs.BytesStored.{stored-puts}
-use Rattle.encoding.specs.Encoding.{Putting, putting-none, putting-more, putting-end, putting-fits}
+use Rattle.encoding.specs.Encoding.{PuttingLists, putting-none, putting-more, putting-end, putting-fits}
 use Rattle.encoding.proofs.put_row.Statement.{statement}
 use Rattle.encoding.proofs.put_row.Tie as tie
 use native.Mathlib.Omega.{arith}
 use borrow.Author.Needs.{needs}
 
 abbrev Inv-loop : tie.InvT-loop
-Inv-loop target₀ at row end₀ k₀ target end k = (k ≤ length row) × Putting target₀ at (λ j. bytesOf numberSize (getD row j 0)) numberSize k target end
+Inv-loop target₀ at row end₀ k₀ target end k = (k ≤ length row) × PuttingLists target₀ at (λ j. bytesOf numberSize (getD row j 0)) numberSize k target end
 
 abbrev μ-loop : tie.MeasureT-loop
 μ-loop target₀ at row end₀ k₀ target end k = length row - k

@@ -3,14 +3,14 @@ use Prim.Native.Nat.{_+_, _-_, _≤_}
 use lib.ListN.{length}
 use Rattle.numbers.specs.TablesLaws.{part-row, part-length}
 use Rattle.model.specs.Record.{rowNumbers}
-use Rattle.encoding.specs.Encoding.{Rowing, rowing-none, rowing-more, rowing-end, row-there, row-room}
+use Rattle.encoding.specs.Encoding.{RowsPutSoFar, rowing-none, rowing-more, rowing-end, row-there, row-room}
 use Rattle.encoding.proofs.put_rows.Statement.{statement}
 use Rattle.encoding.proofs.put_rows.Tie as tie
 use native.Mathlib.Omega.{arith}
 use borrow.Author.Needs.{needs}
 
 abbrev Inv-loop : tie.InvT-loop
-Inv-loop target₀ at n rows steps numbers end₀ from₀ t₀ target end from t = Rowing target₀ at rows n steps t from target end
+Inv-loop target₀ at n rows steps numbers end₀ from₀ t₀ target end from t = RowsPutSoFar target₀ at rows n steps t from target end
 
 abbrev μ-loop : tie.MeasureT-loop
 μ-loop target₀ at n rows steps numbers end₀ from₀ t₀ target end from t = steps - t

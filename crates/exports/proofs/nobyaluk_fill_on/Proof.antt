@@ -5,7 +5,7 @@ use Prim.Native.Nat.{ℕ}
 use Rattle.model.specs.declared.Law.{Law}
 use Rattle.model.specs.GoingOn.{progressed, fillingOn, recordOn, filledListOn, longestFillOn, progressOn}
 use Rattle.exports.specs.Laws.{lawsOf}
-use Rattle.model.specs.Ramps.{Metered}
+use Rattle.model.specs.Filling.{MeterState}
 use Rattle.exports.specs.declared.NobyalukLongest.{NobyalukLongest}
 use Rattle.exports.specs.AnswersLaws.{longest-is, filled-is}
 use Rattle.exports.proofs.nobyaluk_fill_on.Statement.{statement}
@@ -23,7 +23,7 @@ abbrev A : tie.After-laws → tie.Start
 A c = c .before .before .before .before .before .before
 
 -- a definition of filling, with the laws given
-by : {X : Type 0} (c : tie.After-laws) (f : List Law → List ℕ → List ℕ → Metered → List ℕ → X) →
+by : {X : Type 0} (c : tie.After-laws) (f : List Law → List ℕ → List ℕ → MeterState → List ℕ → X) →
     let a = A c .args in
     f (c .laws .result) (a .bytes .now) (a .lanes .now) (progressed (a .from)) (a .list .now)
     ≡ f (lawsOf (a .kinds .now) (a .numbers .now)) (a .bytes .now) (a .lanes .now) (progressed (a .from)) (a .list .now)
@@ -38,7 +38,7 @@ returns c =
       filled-is (longest-is _ _ _ _ (c .longest .ensures) (e .0 ∙ by g fillingOn) (e .1 .1 .1 .0 ∙ by g longestFillOn)) on,
       (
         e .1 .0 ∙ by g recordOn,
-        (e .1 .1 .0 ∙ by g filledListOn, ap (λ (x : NobyalukLongest). x .ended .state) (c .longest .ensures) ∙ ap (λ (m : Metered). m .state) on),
+        (e .1 .1 .0 ∙ by g filledListOn, ap (λ (x : NobyalukLongest). x .ended .state) (c .longest .ensures) ∙ ap (λ (m : MeterState). m .state) on),
       ),
     )
 

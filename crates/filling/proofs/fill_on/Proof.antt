@@ -13,12 +13,12 @@ use Rattle.model.specs.Reading.{studyBy, readAnswer}
 use Rattle.reading.specs.Within.{read-within}
 use Rattle.model.specs.Running.{EndAnswer, endAnswer}
 use Rattle.model.specs.Longest.{longestQueues}
-use Rattle.model.specs.Ramps.{metered, unmetered}
+use Rattle.model.specs.Filling.{meterState, meterStart}
 use Rattle.model.specs.GoingOn.{progressed}
 use Rattle.limits.specs.LimitsLaws.{state-facts}
 use Rattle.theory.specs.StepLaws.{number-of}
 use Rattle.theory.specs.Readable.{Readable, readable}
-use Rattle.theory.specs.Started.{Begins, readable-from}
+use Rattle.theory.specs.StartingState.{Begins, readable-from}
 use Rattle.filling.specs.FillingLoop.{FillableFrom}
 use Rattle.filling.specs.Long.{Long, Started, started-fillable}
 use Rattle.filling.specs.LastStep.{last-asks, last-known}
@@ -253,7 +253,7 @@ returns-6 c =
     on-all (a .laws) (a .bytes .now) (a .table .now) (progressed (a .from)) (a .out .now) (r .read .ensures) (read-well p) (l .law-fault .ensures) (finite f)
     (f .refused .ensures) (opens k) (s .state-within .ensures) (n .entries-within .ensures) (g .start-refusal .ensures) (begins k4) (search needs)
     (ap (λ (x : Longest). endAnswer (x .ended)) (w .0) ∙ made .1 .1 .0) (made .0) (made .1 .0) (ap longestQueues (w .0) ∙ made .1 .1 .1 refl)
-    (ap (λ (x : Longest). metered (x .ended .state) (c .with-last .result .releases) (c .with-last .result .entries)) (w .0)
+    (ap (λ (x : Longest). meterState (x .ended .state) (c .with-last .result .releases) (c .with-last .result .entries)) (w .0)
     ∙ last-known (a .laws) (progressed (a .from)) (fillable e5) refl (held k4 .some) (made .0) (made .1 .0) state (w .1 .0) (w .1 .1))
 
 pub fill-on-spec : {M : Type 1} → statement M

@@ -17,7 +17,8 @@ use Rattle.outflows.specs.declared.Ledger.{Ledger}
 use Rattle.outflows.specs.Columns.{stateOf}
 use Rattle.model.specs.Reading.{studyBy}
 use Rattle.model.specs.Listing.{mostOutflows}
-use Rattle.model.specs.Ramps.{putTable, Metered, metered}
+use Rattle.model.specs.Filling.{MeterState, meterState}
+use Rattle.model.specs.Put.{putTable}
 use Rattle.model.specs.Running.{ended, endAnswer, tableOf}
 use Rattle.counts.specs.declared.AtGate.{AtGate}
 use Rattle.model.specs.Longest.{queuesOf}
@@ -39,10 +40,10 @@ Inv-loop bytes₀ table _ steps longs out₀ _ _ _ columns road₀ cell ramps he
     let s = stateOf l₀ held₀ queue₀ sent₀ in
     let a = studyBy bytes₀ table road₀ s steps in
     OnRoad a road × ((laws : List Law) → InColumns laws (columns .kinds) (columns .numbers) → (releases entries : List ℕ)
-    → ArraysOk (a .road .n) (a .road .share) (a .road .ramp) (metered s releases entries) ramps (arrays cell rest₀ room₀ release₀ waiting₀ came₀ demand₀)
-    → FilledSteps laws bytes₀ a (metered s releases entries) out₀ bytes out (stateOf l held queue sent) ramps
+    → ArraysOk (a .road .n) (a .road .share) (a .road .ramp) (meterState s releases entries) ramps (arrays cell rest₀ room₀ release₀ waiting₀ came₀ demand₀)
+    → FilledSteps laws bytes₀ a (meterState s releases entries) out₀ bytes out (stateOf l held queue sent) ramps
     (arrays cell rest room release waiting came demand) k to
-    × Raised longs (a .road .n) (λ j. meteredFrom laws a (metered s releases entries) j .state) (queuesOf (gate .gate) (gate .waiting) most) k)
+    × Raised longs (a .road .n) (λ j. meteredFrom laws a (meterState s releases entries) j .state) (queuesOf (gate .gate) (gate .waiting) most) k)
 
 abbrev μ-loop : tie.MeasureT-loop
 μ-loop bytes₀ table _ steps longs out₀ _ _ _ columns road₀ cell ramps held₀ queue₀ sent₀ l₀ rest₀ release₀ came₀ room₀ waiting₀ demand₀ _ _ _ _
@@ -91,13 +92,13 @@ S c l = let s = c .args .from .state in stateOf l (s .held) (s .queue) (s .cumul
 abbrev By : tie.Start Inv-loop μ-loop → Ledger → Study
 By c l = let a = c .args in studyBy (a .bytes .now) (a .table .now) (a .r) (S c l) (a .steps)
 
-abbrev From : tie.Start Inv-loop μ-loop → Ledger → Metered
-From c l = metered (S c l) (c .args .from .releases) (c .args .from .entries)
+abbrev From : tie.Start Inv-loop μ-loop → Ledger → MeterState
+From c l = meterState (S c l) (c .args .from .releases) (c .args .from .entries)
 
 abbrev Of : tie.After-of Inv-loop μ-loop → Study
 Of c = By (A c) (c .of .result)
 
-abbrev M : tie.After-of Inv-loop μ-loop → Metered
+abbrev M : tie.After-of Inv-loop μ-loop → MeterState
 M c = From (A c) (c .of .result)
 
 asked : (c : tie.After-of Inv-loop μ-loop) → FillableFrom (A c .args .bytes .now) (Of c) (M c) (A c .args .out .now)
@@ -240,7 +241,7 @@ loop-again c =
     let road = turned-road (turned j) in (
       turned-on (turned j),
       λ laws columns releases entries k.
-          let m = metered (S (A b) (b .of .result)) releases entries in
+          let m = meterState (S (A b) (b .of .result)) releases entries in
           let h = l .loop .inv .1 laws columns releases entries k in
           let by = goes-by p refl (h .0) in
           let asks = fills p refl (h .0) (t .loop-test .taken) road by columns (part-length (l .loop .out) (l .loop .to) (places (Of b)) (part t)) in

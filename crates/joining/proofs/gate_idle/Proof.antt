@@ -3,7 +3,7 @@ use mathlib.Core.Path.{_≡_, ap}
 use Prim.Native.Nat.{ℕ, _-_}
 use lib.Dec.{eqb}
 use borrow.Author.Tests.{eq-eqb, ne-eqb}
-use Rattle.numbers.specs.FirstLaws.{Passed, passed-none, passed-more, passed-fails, passed-all}
+use Rattle.numbers.specs.FirstLaws.{PassedTests, passed-none, passed-more, passed-fails, passed-all}
 use Rattle.reading.specs.ReadingLaws.{steps-row}
 use Rattle.joining.specs.JoiningLaws.{noArrival, idle-queue, idle-steps}
 use Rattle.joining.proofs.gate_idle.Statement.{statement}
@@ -11,7 +11,7 @@ use Rattle.joining.proofs.gate_idle.Tie as tie
 use borrow.Author.Needs.{needs}
 
 abbrev Inv-loop : tie.InvT-loop
-Inv-loop bytes n steps queue t₀ t = (queue ≡ 0) × Passed (noArrival bytes n) steps t
+Inv-loop bytes n steps queue t₀ t = (queue ≡ 0) × PassedTests (noArrival bytes n) steps t
 
 abbrev μ-loop : tie.MeasureT-loop
 μ-loop bytes n steps queue t₀ t = steps - t

@@ -6,13 +6,13 @@ use native.Mathlib.Omega.{arith}
 use lib.ListN.{length, take}
 use Rattle.fields.specs.FieldsLaws.{length-row}
 use Rattle.reading.specs.ReadingLaws.{steps-row}
-use Rattle.joining.specs.JoinedBytes.{JoinedRowing, rowing-none, rowing-room, rowing-more, rowing-end}
+use Rattle.joining.specs.JoinedBytes.{JoinedRowsSoFar, rowing-none, rowing-room, rowing-more, rowing-end}
 use Rattle.joining.proofs.put_joined_rows.Statement.{statement}
 use Rattle.joining.proofs.put_joined_rows.Tie as tie
 use borrow.Author.Needs.{needs}
 
 abbrev Inv-loop : tie.InvT-loop
-Inv-loop target₀ at up n down m steps _ _ _ _ target end t = JoinedRowing target₀ at up n down m steps t target end
+Inv-loop target₀ at up n down m steps _ _ _ _ target end t = JoinedRowsSoFar target₀ at up n down m steps t target end
 
 abbrev μ-loop : tie.MeasureT-loop
 μ-loop target₀ at up n down m steps _ _ _ _ target end t = steps - t

@@ -7,7 +7,7 @@ use Rattle.model.specs.Road.{mostCells}
 use Rattle.model.specs.Reading.{studyBy, readAnswer, readingOf}
 use Rattle.model.specs.Running.{endAnswer}
 use Rattle.theory.specs.RulesLaws.{Sized}
-use Rattle.theory.specs.Started.{found-readable}
+use Rattle.theory.specs.StartingState.{found-readable}
 use Rattle.theory.specs.Readable.{Readable}
 use Rattle.judging.specs.PromiseOn.{history-unstarted, history-length, history-short-held, history-short-queue, history-rows}
 use Rattle.judging.proofs.history_on.Statement.{statement}

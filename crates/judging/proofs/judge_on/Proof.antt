@@ -8,7 +8,7 @@ use Rattle.model.specs.Road.{mostCells}
 use Rattle.model.specs.Reading.{studyBy, readAnswer, readingOf}
 use Rattle.model.specs.Running.{endAnswer}
 use Rattle.theory.specs.RulesLaws.{Sized}
-use Rattle.theory.specs.Started.{found-readable}
+use Rattle.theory.specs.StartingState.{found-readable}
 use Rattle.theory.specs.Readable.{Readable}
 use Rattle.judging.specs.PromiseOn.{judges-unstarted, judges-length, judges-rows}
 use Rattle.judging.proofs.judge_on.Statement.{statement}

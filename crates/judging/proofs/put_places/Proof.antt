@@ -8,14 +8,14 @@ use borrow.Author.Tests.{not-true, not-false}
 use lib.ListN.{length, length-set}
 use Rattle.model.specs.Numbers.{placed}
 use Rattle.numbers.specs.PlacedText.{copied-length}
-use Rattle.model.specs.History.{placesOf}
-use Rattle.judging.specs.PutPlaces.{Putting, putting-none, putting-more, putting-end}
+use Rattle.model.specs.Judging.{placesOf}
+use Rattle.judging.specs.PutPlaces.{PuttingPlaces, putting-none, putting-more, putting-end}
 use Rattle.judging.proofs.put_places.Statement.{statement}
 use Rattle.judging.proofs.put_places.Tie as tie
 use borrow.Author.Needs.{needs}
 
 abbrev Inv-loop : tie.InvT-loop
-Inv-loop writes from gate cells n list₀ x₀ i₀ list x i = Putting gate cells n list₀ from list i x
+Inv-loop writes from gate cells n list₀ x₀ i₀ list x i = PuttingPlaces gate cells n list₀ from list i x
 
 abbrev μ-loop : tie.MeasureT-loop
 μ-loop writes from gate cells n list₀ x₀ i₀ list x i = n - i
@@ -24,12 +24,12 @@ abbrev μ-loop : tie.MeasureT-loop
 abbrev A : tie.At-loop Inv-loop μ-loop → tie.Start Inv-loop μ-loop
 A c = c .before .before
 
-asked : (c : tie.At-loop Inv-loop μ-loop) → A c .args .writes ≡ true
-asked c = not-false (A c .args .writes) (c .before .if1 .left)
+writing : (c : tie.At-loop Inv-loop μ-loop) → A c .args .writes ≡ true
+writing c = not-false (A c .args .writes) (c .before .if1 .left)
 
 -- the list has an entry for each place
 long : (c : tie.At-loop Inv-loop μ-loop) → A c .args .from + (A c .args .n + 1) ≤ length (c .loop .list)
-long c = omega (arith, A c .pre .1 .1 (asked c), copied-length (c .loop .inv .copied))
+long c = omega (arith, A c .pre .1 .1 (writing c), copied-length (c .loop .inv .copied))
 
 -- what is wanted, and what is not
 abbrev Row : tie.Start Inv-loop μ-loop → List ℕ
@@ -68,7 +68,7 @@ same-length c = simp length-set (copied-length (c .before .loop .inv .copied))
 returns-2 : tie.Need-returns-2 Inv-loop μ-loop
 returns-2 c =
     let a = A (c .before) in
-    putting-end (c .before .loop .inv) (c .loop-test .left) ∙ ap (λ (b : Bool). cond b (Row a) (a .args .list .now)) (sym (asked (c .before)))
+    putting-end (c .before .loop .inv) (c .loop-test .left) ∙ ap (λ (b : Bool). cond b (Row a) (a .args .list .now)) (sym (writing (c .before)))
 
 pub put-places-spec : {M : Type 1} → statement M
 put-places-spec =

@@ -4,7 +4,7 @@ use Prim.Native.Nat.{_+_, _*_, _-_, _<_}
 use lib.ListN.{length}
 use native.Mathlib.Omega.{arith}
 use borrow.Author.Tests.{not-true, not-false}
-use Rattle.numbers.specs.FirstLaws.{Passed, passed-none, passed-more, passed-fails, passed-all}
+use Rattle.numbers.specs.FirstLaws.{PassedTests, passed-none, passed-more, passed-fails, passed-all}
 use Rattle.numbers.specs.TablesLaws.{mul-more}
 use Rattle.model.specs.Lanes.{lanesAt, builtIn, openIn}
 use Rattle.lanes.specs.LanesLaws.{cell-found, byte-within}
@@ -13,7 +13,7 @@ use Rattle.lanes.proofs.cell_in_table.Tie as tie
 use borrow.Author.Needs.{needs}
 
 abbrev Inv-loop : tie.InvT-loop
-Inv-loop table n steps i built at₀ k₀ at k = (at ≡ k * n + i) × Passed (λ j. lanesAt (builtIn table n) (openIn table n j) i) steps k
+Inv-loop table n steps i built at₀ k₀ at k = (at ≡ k * n + i) × PassedTests (λ j. lanesAt (builtIn table n) (openIn table n j) i) steps k
 
 abbrev μ-loop : tie.MeasureT-loop
 μ-loop table n steps i built at₀ k₀ at k = steps - k

@@ -1,14 +1,14 @@
 -- `lanes::first_cell` meets its contract. The invariant: the lanes of the i cells passed are as they should be. Assumes nothing.
 use Prim.Native.Nat.{_-_}
 use borrow.Author.Tests.{not-true, not-false}
-use Rattle.numbers.specs.FirstLaws.{Passed, passed-none, passed-more, passed-stop, passed-end}
+use Rattle.numbers.specs.FirstLaws.{PassedTests, passed-none, passed-more, passed-stop, passed-end}
 use Rattle.model.specs.Lanes.{lanesAt}
 use Rattle.lanes.proofs.first_cell.Statement.{statement}
 use Rattle.lanes.proofs.first_cell.Tie as tie
 use borrow.Author.Needs.{needs}
 
 abbrev Inv-loop : tie.InvT-loop
-Inv-loop n built usable i₀ i = Passed (lanesAt built usable) n i
+Inv-loop n built usable i₀ i = PassedTests (lanesAt built usable) n i
 
 abbrev μ-loop : tie.MeasureT-loop
 μ-loop n built usable i₀ i = n - i

@@ -1,14 +1,14 @@
 -- `lanes::first_in_table` meets its contract. The invariant: the i cells passed pass in all rows. Assumes nothing.
 use Prim.Native.Nat.{_-_}
 use borrow.Author.Tests.{not-true, not-false}
-use Rattle.numbers.specs.FirstLaws.{Passed, passed-none, passed-more, passed-stop, passed-end}
+use Rattle.numbers.specs.FirstLaws.{PassedTests, passed-none, passed-more, passed-stop, passed-end}
 use Rattle.model.specs.Lanes.{tableAt}
 use Rattle.lanes.proofs.first_in_table.Statement.{statement}
 use Rattle.lanes.proofs.first_in_table.Tie as tie
 use borrow.Author.Needs.{needs}
 
 abbrev Inv-loop : tie.InvT-loop
-Inv-loop table n steps i₀ i = Passed (tableAt table n steps) n i
+Inv-loop table n steps i₀ i = PassedTests (tableAt table n steps) n i
 
 abbrev μ-loop : tie.MeasureT-loop
 μ-loop table n steps i₀ i = n - i

@@ -1,13 +1,13 @@
 -- `listing::lines` meets its contract. The invariant: the lines of the first i cells are put after the gate's. Assumes nothing.
 use native.Mathlib.Omega.{arith}
-use Rattle.listing.specs.ListingLaws.{Listed, listed-none, listed-more, listed-room, listed-end}
+use Rattle.listing.specs.ListingLaws.{ListedCells, listed-none, listed-more, listed-room, listed-end}
 use Rattle.listing.proofs.lines.Statement.{statement}
 use Rattle.listing.proofs.lines.Tie as tie
 use Prim.Native.Nat.{_-_}
 use borrow.Author.Needs.{needs}
 
 abbrev Inv-loop : tie.InvT-loop
-Inv-loop buffer₀ at step n outflows gate held queue end₀ i₀ buffer end i = Listed buffer₀ end₀ step n outflows gate held queue buffer end i
+Inv-loop buffer₀ at step n outflows gate held queue end₀ i₀ buffer end i = ListedCells buffer₀ end₀ step n outflows gate held queue buffer end i
 
 abbrev μ-loop : tie.MeasureT-loop
 μ-loop buffer₀ at step n outflows gate held queue end₀ i₀ buffer end i = n - i

@@ -2,13 +2,13 @@
 use Prim.Native.Nat.{_-_}
 use lib.ListN.{length}
 use native.Mathlib.Omega.{arith}
-use Rattle.numbers.specs.PlacedText.{Copied, copied-none, copied-length, copied-more, copied-end}
+use Rattle.numbers.specs.PlacedText.{CopiedText, copied-none, copied-length, copied-more, copied-end}
 use Rattle.listing.proofs.put.Statement.{statement}
 use Rattle.listing.proofs.put.Tie as tie
 use borrow.Author.Needs.{needs}
 
 abbrev Inv-loop : tie.InvT-loop
-Inv-loop buffer₀ at text i₀ buffer i = Copied buffer₀ at text buffer i
+Inv-loop buffer₀ at text i₀ buffer i = CopiedText buffer₀ at text buffer i
 
 abbrev μ-loop : tie.MeasureT-loop
 μ-loop buffer₀ at text i₀ buffer i = length text - i

@@ -2,7 +2,7 @@
 use native.Mathlib.Omega.{arith}
 use Rattle.numbers.specs.PlacedText.{room-more}
 use Rattle.model.specs.Listing.{totalWord, gateWord, roadWord, rampWord}
-use Rattle.listing.specs.WordsLaws.{Named, number-room}
+use Rattle.listing.specs.WordsLaws.{NamedNumber, number-room}
 use Rattle.listing.specs.ListingLaws.{total-put}
 use Rattle.listing.proofs.total.Statement.{statement}
 use Rattle.listing.proofs.total.Tie as tie
@@ -25,30 +25,30 @@ abbrev Exits : tie.After-slice-known6 → tie.After-named5
 Exits c = c .before .before
 
 named-requires-2 : tie.Need-named-requires-2
-named-requires-2 c κs = let one = number-room {name = totalWord} (Named.put (Total c .named .ensures)) in omega (arith, one .end, one .same)
+named-requires-2 c κs = let one = number-room {name = totalWord} (NamedNumber.put (Total c .named .ensures)) in omega (arith, one .end, one .same)
 
 named-requires-3 : tie.Need-named-requires-3
 named-requires-3 c κs =
-    let one = number-room {name = totalWord} (Named.put (Total (Gate c .before) .named .ensures)) in
-    let two = room-more one (number-room {name = gateWord} (Named.put (Gate c .named2 .ensures))) in
+    let one = number-room {name = totalWord} (NamedNumber.put (Total (Gate c .before) .named .ensures)) in
+    let two = room-more one (number-room {name = gateWord} (NamedNumber.put (Gate c .named2 .ensures))) in
     omega (arith, two .end, two .same)
 
 named-requires-4 : tie.Need-named-requires-4
 named-requires-4 c κs =
     let gate = Gate (OnRoad c .before) in
-    let one = number-room {name = totalWord} (Named.put (Total (gate .before) .named .ensures)) in
-    let two = room-more one (number-room {name = gateWord} (Named.put (gate .named2 .ensures))) in
-    let three = room-more two (number-room {name = roadWord} (Named.put (OnRoad c .named3 .ensures))) in
+    let one = number-room {name = totalWord} (NamedNumber.put (Total (gate .before) .named .ensures)) in
+    let two = room-more one (number-room {name = gateWord} (NamedNumber.put (gate .named2 .ensures))) in
+    let three = room-more two (number-room {name = roadWord} (NamedNumber.put (OnRoad c .named3 .ensures))) in
     omega (arith, three .end, three .same)
 
 named-requires-5 : tie.Need-named-requires-5
 named-requires-5 c κs =
     let road = OnRoad (AtRamps c .before) in
     let gate = Gate (road .before) in
-    let one = number-room {name = totalWord} (Named.put (Total (gate .before) .named .ensures)) in
-    let two = room-more one (number-room {name = gateWord} (Named.put (gate .named2 .ensures))) in
-    let three = room-more two (number-room {name = roadWord} (Named.put (road .named3 .ensures))) in
-    let four = room-more three (number-room {name = rampWord} (Named.put (AtRamps c .named4 .ensures))) in
+    let one = number-room {name = totalWord} (NamedNumber.put (Total (gate .before) .named .ensures)) in
+    let two = room-more one (number-room {name = gateWord} (NamedNumber.put (gate .named2 .ensures))) in
+    let three = room-more two (number-room {name = roadWord} (NamedNumber.put (road .named3 .ensures))) in
+    let four = room-more three (number-room {name = rampWord} (NamedNumber.put (AtRamps c .named4 .ensures))) in
     omega (arith, four .end, four .same)
 
 returns : tie.Need-returns
@@ -58,11 +58,11 @@ returns c =
     let gate = Gate (road .before) in
     let total = Total (gate .before) in
     total-put
-    (Named.put (total .named .ensures))
-    (Named.put (gate .named2 .ensures))
-    (Named.put (road .named3 .ensures))
-    (Named.put (ramps .named4 .ensures))
-    (Named.put (Exits c .named5 .ensures))
+    (NamedNumber.put (total .named .ensures))
+    (NamedNumber.put (gate .named2 .ensures))
+    (NamedNumber.put (road .named3 .ensures))
+    (NamedNumber.put (ramps .named4 .ensures))
+    (NamedNumber.put (Exits c .named5 .ensures))
 
 pub total-spec : {M : Type 1} → statement M
 total-spec =

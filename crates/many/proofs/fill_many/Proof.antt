@@ -4,7 +4,7 @@ use Prim.Native.Nat.{_+_, _≤_}
 use native.Mathlib.Omega.{arith}
 use Rattle.model.specs.Refusals.{refusalNumber}
 use Rattle.model.specs.Many.{arrivalsSize}
-use Rattle.many.specs.Whole.{many-unread, size-some, many-tables, many-room, many-none, many-asked, many-count, filled-refused, filled-all}
+use Rattle.many.specs.Whole.{many-unread, size-some, many-tables, many-room, many-none, studies-begin, many-count, filled-refused, filled-all}
 use Rattle.many.proofs.fill_many.Statement.{statement}
 use Rattle.many.proofs.fill_many.Tie as tie
 use borrow.Author.Needs.{needs}
@@ -81,7 +81,7 @@ fill-studies-requires c κs =
     let p = to-tables t in
     let r = to-read p in
     let a = A r .args in
-    many-asked (a .bytes .now) (a .arrivals .now) (a .answers .now) (r .read .ensures) (reads p) (t .if2 .left) (f .if3 .left)
+    studies-begin (a .bytes .now) (a .arrivals .now) (a .answers .now) (r .read .ensures) (reads p) (t .if2 .left) (f .if3 .left)
 
 returns-4 : tie.Need-returns-4
 returns-4 c =

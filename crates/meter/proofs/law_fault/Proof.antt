@@ -6,7 +6,7 @@ use Prim.Native.Nat.{_-_}
 use lib.Dec.{eqb}
 use lib.ListN.{length}
 use Rattle.model.specs.Numbers.{at}
-use Rattle.numbers.specs.FirstLaws.{Passed, passed-none, passed-more}
+use Rattle.numbers.specs.FirstLaws.{PassedTests, passed-none, passed-more}
 use Rattle.model.specs.Road.{mostCells}
 use Rattle.model.specs.Meter.{lawOk}
 use Rattle.meter.specs.MeterLaws.{ok-is, fault-stop, fault-past, fault-end}
@@ -16,7 +16,7 @@ use borrow.Author.Needs.{needs}
 use native.Mathlib.Omega.{arith}
 
 abbrev Inv-loop : tie.InvT-loop
-Inv-loop n laws ramp i₀ i = Passed (lawOk laws ramp) n i
+Inv-loop n laws ramp i₀ i = PassedTests (lawOk laws ramp) n i
 
 abbrev μ-loop : tie.MeasureT-loop
 μ-loop n laws ramp i₀ i = n - i

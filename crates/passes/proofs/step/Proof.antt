@@ -6,7 +6,7 @@ use Rattle.model.specs.declared.Road.{Road}
 use Rattle.model.specs.declared.State.{State}
 use Rattle.outflows.specs.Columns.{roadOf, stateOf}
 use Rattle.model.specs.Record.{versionOf, rowStart, recordRow}
-use Rattle.model.specs.Places.{gateArrivals}
+use Rattle.model.specs.Flow.{gateArrivals}
 use Rattle.passes.specs.ReleasesFit.{FitFound, supplies-ask, takes-ask, fit-found}
 use Rattle.passes.specs.Next.{demands-ask}
 use Rattle.passes.specs.Step.{StepAsks, gate-row, fittable, ready, gives-fault, gives-step}

@@ -8,10 +8,10 @@ use Rattle.model.specs.Numbers.{at}
 use Rattle.model.specs.declared.Road.{Road}
 use Rattle.model.specs.Record.{recordRow}
 use Rattle.model.specs.declared.Law.{Law}
-use Rattle.model.specs.Places.{arrivalsAt}
+use Rattle.model.specs.Flow.{arrivalsAt}
 use Rattle.outflows.specs.declared.Ledger.{Ledger}
 use Rattle.outflows.specs.Columns.{stateOf}
-use Rattle.model.specs.Ramps.{Metered, metered, grantedAt}
+use Rattle.model.specs.Filling.{MeterState, meterState, grantedAt}
 use Rattle.ramps.specs.Grants.{GrantAsks, Granting, GrantTurn, Given, granting-none, grant-turn, arrives-here, given-known, granting-more, granting-end, same-size}
 use Rattle.ramps.proofs.grant.Statement.{statement}
 use Rattle.ramps.proofs.grant.Tie as tie
@@ -20,9 +20,9 @@ use borrow.Author.Needs.{needs}
 abbrev Inv-loop : tie.InvT-loop
 Inv-loop bytes₀ start ramps cell kinds numbers held queue cumulative room₀ release₀ waits₀ came₀ j₀ bytes room release waits came j =
     (j ≤ ramps) × ((laws : List Law) (r : Road) (l : Ledger) (releases entries : List ℕ) (k : ℕ)
-    → GrantAsks laws r (metered (stateOf l held queue cumulative) releases entries) bytes₀ k start ramps cell kinds numbers room₀ release₀ waits₀ came₀
-    → Granting (grantedAt laws r (metered (stateOf l held queue cumulative) releases entries) (recordRow bytes₀ (r .n) k)) r
-    (metered (stateOf l held queue cumulative) releases entries) bytes₀ k ramps cell room₀ release₀ waits₀ came₀ bytes room release waits came j)
+    → GrantAsks laws r (meterState (stateOf l held queue cumulative) releases entries) bytes₀ k start ramps cell kinds numbers room₀ release₀ waits₀ came₀
+    → Granting (grantedAt laws r (meterState (stateOf l held queue cumulative) releases entries) (recordRow bytes₀ (r .n) k)) r
+    (meterState (stateOf l held queue cumulative) releases entries) bytes₀ k ramps cell room₀ release₀ waits₀ came₀ bytes room release waits came j)
 
 abbrev μ-loop : tie.MeasureT-loop
 μ-loop bytes₀ start ramps cell kinds numbers held queue cumulative room₀ release₀ waits₀ came₀ j₀ bytes room release waits came j = ramps - j
@@ -47,8 +47,8 @@ abbrev Put : tie.After-slice-known2 Inv-loop μ-loop → tie.After-granted Inv-l
 Put c = c .before .before .before .before
 
 -- by what the wishes go, and the releases granted, as the arguments are known to have them
-abbrev By : tie.Start Inv-loop μ-loop → Metered
-By c = let a = c .args in metered (stateOf (c .pre .ledger) (a .held .now) (a .queue .now) (a .cumulative .now)) (c .pre .releases) (c .pre .entries)
+abbrev By : tie.Start Inv-loop μ-loop → MeterState
+By c = let a = c .args in meterState (stateOf (c .pre .ledger) (a .held .now) (a .queue .now) (a .cumulative .now)) (c .pre .releases) (c .pre .entries)
 
 so-far : (c : tie.At-loop Inv-loop μ-loop) →
     let s = A c in

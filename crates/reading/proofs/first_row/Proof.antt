@@ -2,7 +2,7 @@
 use mathlib.Core.Path.{sym}
 use borrow.Author.Tests.{not-true, not-false}
 use Prim.Native.Nat.{_-_}
-use Rattle.numbers.specs.FirstLaws.{Passed, passed-none, passed-more, passed-stop, passed-end, first-none}
+use Rattle.numbers.specs.FirstLaws.{PassedTests, passed-none, passed-more, passed-stop, passed-end, first-none}
 use Rattle.model.specs.Record.{recordRow}
 use Rattle.model.specs.Limits.{rowOk}
 use Rattle.reading.specs.ReadingLaws.{steps-row}
@@ -11,7 +11,7 @@ use Rattle.reading.proofs.first_row.Tie as tie
 use borrow.Author.Needs.{needs}
 
 abbrev Inv-loop : tie.InvT-loop
-Inv-loop bytes steps n ramp t₀ t = Passed (λ j. rowOk ramp n (recordRow bytes n j)) steps t
+Inv-loop bytes steps n ramp t₀ t = PassedTests (λ j. rowOk ramp n (recordRow bytes n j)) steps t
 
 abbrev μ-loop : tie.MeasureT-loop
 μ-loop bytes steps n ramp t₀ t = steps - t

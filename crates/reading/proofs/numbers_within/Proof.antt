@@ -3,7 +3,7 @@ use borrow.Author.Tests.{not-true, not-false}
 use mathlib.Core.Path.{_≡_}
 use Prim.Native.Nat.{_-_, _+_, _*_, _≤_}
 use Rattle.model.specs.Numbers.{at}
-use Rattle.numbers.specs.FirstLaws.{Passed, passed-none, passed-more, passed-fails, passed-all}
+use Rattle.numbers.specs.FirstLaws.{PassedTests, passed-none, passed-more, passed-fails, passed-all}
 use Rattle.model.specs.Road.{mostRate}
 use Rattle.model.specs.Limits.{ratesAt}
 use Rattle.limits.specs.LimitsLaws.{gate-above, gate-within}
@@ -15,7 +15,7 @@ use borrow.Author.Needs.{needs}
 use native.Mathlib.Omega.{arith}
 
 abbrev Inv-loop : tie.InvT-loop
-Inv-loop bytes ramp n start i₀ i = let row = rowAt bytes n start in (at row 0 ≤ mostRate) × Passed (ratesAt ramp row) n i
+Inv-loop bytes ramp n start i₀ i = let row = rowAt bytes n start in (at row 0 ≤ mostRate) × PassedTests (ratesAt ramp row) n i
 
 abbrev μ-loop : tie.MeasureT-loop
 μ-loop bytes ramp n start i₀ i = n - i

@@ -10,7 +10,7 @@ use Rattle.model.specs.Record.{versionOf, secondsOf, headerSize}
 use Rattle.model.specs.Reading.{bothVersions, lengthOk, cellsAndStepsOk, secondsOk, sizeOf}
 use Rattle.fields.specs.HeaderLaws.{length-facts, counts-facts, size-small}
 use Rattle.reading.specs.Headers.{Header}
-use Rattle.reading.specs.ReadingLaws.{Opened, header-passed, answer-length, answer-version, answer-counts, answer-seconds, answer-size, answer-caller}
+use Rattle.reading.specs.ReadingLaws.{LengthAndVersionOk, header-passed, answer-length, answer-version, answer-counts, answer-seconds, answer-size, answer-caller}
 use Rattle.reading.specs.Caller.{answer-within}
 use Rattle.reading.proofs.read_within.Statement.{statement}
 use Rattle.reading.proofs.read_within.Tie as tie
@@ -62,7 +62,7 @@ long c = length-facts (A (c .before) .args .bytes .now) (lengthy c) .0
 known : (c : tie.After-version-known) → c .version-known .result ≡ oneOf bothVersions (versionOf (Of (Version c)))
 known c = c .version-known .ensures ∙ ap (oneOf bothVersions) (Version c .version .ensures)
 
-opened : (c : tie.After-number2) → Opened (Of (Version (Known c .before))) (c .before .number .result) (c .number2 .result)
+opened : (c : tie.After-number2) → LengthAndVersionOk (Of (Version (Known c .before))) (c .before .number .result) (c .number2 .result)
 opened c =
     let k = Known c in
     record {

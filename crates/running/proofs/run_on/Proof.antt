@@ -10,7 +10,7 @@ use Rattle.model.specs.Reading.{studyBy, readAnswer, readingOf}
 use Rattle.model.specs.Running.{endAnswer}
 use Rattle.theory.specs.RulesLaws.{Sized}
 use Rattle.theory.specs.Readable.{Readable}
-use Rattle.theory.specs.Started.{found-readable}
+use Rattle.theory.specs.StartingState.{found-readable}
 use Rattle.running.specs.PromiseOn.{promise-unstarted, promise-short, promise-long}
 use Rattle.running.proofs.run_on.Statement.{statement}
 use Rattle.running.proofs.run_on.Tie as tie

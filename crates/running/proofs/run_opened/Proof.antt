@@ -5,7 +5,7 @@ use Rattle.model.specs.Reading.{studyBy, readAnswer}
 use Rattle.model.specs.Running.{endAnswer}
 use Rattle.theory.specs.Opening.{opened-readable}
 use Rattle.theory.specs.Readable.{Readable}
-use Rattle.running.specs.Promise.{with-tallies, promise-unopened, promise-short, promise-long, weighed-unopened, weighed-short, weighed-long, longs-unopened, longs-short}
+use Rattle.running.specs.Promise.{with-tallies, promise-unopened, promise-short, promise-long, total-unopened, total-short, total-long, longs-unopened, longs-short}
 use Rattle.running.specs.Promise.{longs-long}
 use Rattle.model.specs.Numbers.{at}
 use Rattle.running.proofs.run_opened.Statement.{statement}
@@ -42,7 +42,7 @@ returns c =
     let n : refusalNumber (o .opened .result .refusal) ≡ 0 → ⊥ = λ z. t .if1 .taken (t .before .number .ensures ∙ z) in
     with-tallies
     (promise-unopened (a .bytes .now) (a .table .now) (a .out .now) (o .opened .ensures) n (ap endAnswer (c .unbegun .ensures .0)))
-    (weighed-unopened (a .bytes .now) (a .table .now) (a .out .now) (o .opened .ensures) (a .weighs) (at (a .weights .places)) (at (a .weights .ramps)) n
+    (total-unopened (a .bytes .now) (a .table .now) (a .out .now) (o .opened .ensures) (a .weighs) (at (a .weights .places)) (at (a .weights .ramps)) n
     (c .unbegun .ensures .1 .1))
     (longs-unopened (a .bytes .now) (a .table .now) (a .out .now) (o .opened .ensures) n (c .unbegun .ensures .1 .0))
 
@@ -59,7 +59,7 @@ returns-2 c =
     let e = to-opened k .opened .ensures in
     with-tallies
     (promise-short (a .bytes .now) (a .table .now) (a .out .now) e (opens k) (omega arith) (ap endAnswer (c .unbegun2 .ensures .0)))
-    (weighed-short (a .bytes .now) (a .table .now) (a .out .now) e (opens k) (a .weighs) (at (a .weights .places)) (at (a .weights .ramps)) (omega arith)
+    (total-short (a .bytes .now) (a .table .now) (a .out .now) e (opens k) (a .weighs) (at (a .weights .places)) (at (a .weights .ramps)) (omega arith)
     (c .unbegun2 .ensures .1 .1))
     (longs-short (a .bytes .now) (a .table .now) (a .out .now) e (opens k) (omega arith) (c .unbegun2 .ensures .1 .0))
 
@@ -74,7 +74,7 @@ returns-3 c =
     let e = to-opened k .opened .ensures in
     with-tallies
     (promise-long (a .bytes .now) (a .table .now) (a .out .now) e (opens k) (search needs) (r .run-rows .ensures .0) (r .run-rows .ensures .1 .0))
-    (weighed-long (a .bytes .now) (a .table .now) (a .out .now) e (opens k) (a .weighs) (at (a .weights .places)) (at (a .weights .ramps)) (search needs)
+    (total-long (a .bytes .now) (a .table .now) (a .out .now) e (opens k) (a .weighs) (at (a .weights .places)) (at (a .weights .ramps)) (search needs)
     (r .run-rows .ensures .1 .1 .0))
     (longs-long (a .bytes .now) (a .table .now) (a .out .now) e (opens k) (search needs) (r .run-rows .ensures .1 .1 .1))
 

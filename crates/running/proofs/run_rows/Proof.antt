@@ -30,7 +30,7 @@ use Rattle.counts.specs.LongestSoFar.{Raised, raised-none, raised-more, raised-
 use Rattle.passes.specs.Step.{Arrays, StepAsks}
 use Rattle.running.specs.Steps.{RanTurn, same-places, passes-ask, steps-all, ends-ran, ends-fault, steps-fault}
 use Rattle.running.specs.Arrays.{arrays-start, arrays-on, arrays-off}
-use Rattle.running.specs.WeightedTotal.{weighedEnd, Totalled, totalled-none, totalled-fits, totalled-more, totalled-end}
+use Rattle.running.specs.WeightedTotal.{weightedTotalEnd, Totalled, totalled-none, totalled-fits, totalled-more, totalled-end}
 use Rattle.running.specs.LentList.{Runnable, part-back, RowsInList, made-none, made-more, same-length, row-fits, row-ends-by, table-end, table-fault}
 use Rattle.running.proofs.run_rows.Statement.{statement}
 use Rattle.running.proofs.run_rows.Tie as tie
@@ -150,16 +150,16 @@ ends : (c : tie.After-of Inv-loop μ-loop) {x : EndAnswer} {out : List ℕ} {t :
     let a = Begun (Listing c) .args in
     let w = at (a .t6 .places) in
     let u = at (a .t6 .ramps) in
-    x ≡ runEnd (Of c) → out ≡ runTable (Of c) (a .out .now) → t ≡ weighedEnd (a .weighs) w u (Of c) → (a .longs ≡ true → q ≡ longestEnd (Of c)) →
+    x ≡ runEnd (Of c) → out ≡ runTable (Of c) (a .out .now) → t ≡ weightedTotalEnd (a .weighs) w u (Of c) → (a .longs ≡ true → q ≡ longestEnd (Of c)) →
     let b = studyBy (a .bytes .now) (a .table .now) (a .r) (a .s) (a .steps) in
-    (x ≡ runEnd b) × ((out ≡ runTable b (a .out .now)) × ((t ≡ weighedEnd (a .weighs) w u b) × (a .longs ≡ true → q ≡ longestEnd b)))
+    (x ≡ runEnd b) × ((out ≡ runTable b (a .out .now)) × ((t ≡ weightedTotalEnd (a .weighs) w u b) × (a .longs ≡ true → q ≡ longestEnd b)))
 ends c e o t q =
     let a = Begun (Listing c) .args in
     let k = begins c in (
       e ∙ ap runEnd k,
       (
         o ∙ ap (λ (b : Study). runTable b (a .out .now)) k,
-        (t ∙ ap (weighedEnd (a .weighs) (at (a .t6 .places)) (at (a .t6 .ramps))) k, λ asked. q asked ∙ ap longestEnd k),
+        (t ∙ ap (weightedTotalEnd (a .weighs) (at (a .t6 .places)) (at (a .t6 .ramps))) k, λ asked. q asked ∙ ap longestEnd k),
       ),
     )
 

@@ -4,25 +4,25 @@ use mathlib.Core.Bool.{true}
 use lib.ListN.{length}
 use borrow.Author.Tests.{not-true, not-false}
 use Rattle.model.specs.Street.{streetOk}
-use Rattle.street.specs.StreetLaws.{asked-limits, refused-answer, refused-grants, granted-answer, granted-grants}
+use Rattle.street.specs.StreetLaws.{ok-request, refused-answer, refused-grants, granted-answer, granted-grants}
 use Rattle.street.specs.Theorems.{ended}
 use Rattle.street.proofs.grant.Statement.{statement}
 use Rattle.street.proofs.grant.Tie as tie
 use borrow.Author.Needs.{needs}
 
 -- places of the code: the arguments, and the facts that the test gives about them
-abbrev A : tie.After-asked-within → tie.Start
+abbrev A : tie.After-request-within → tie.Start
 A c = c .before .before .before .before
 
 accepted : (c : tie.Else1) →
     let a = A (c .before) .args in
     streetOk (a .limit) (a .guarantees .now) (a .wishes .now) (length (a .grants .now)) ≡ true
-accepted c = sym (c .before .asked-within .ensures) ∙ not-false _ (c .if1 .left)
+accepted c = sym (c .before .request-within .ensures) ∙ not-false _ (c .if1 .left)
 
 returns : tie.Need-returns
 returns c =
     let a = A (c .before) .args in
-    let n = sym (c .before .asked-within .ensures) ∙ not-true _ (c .if1 .taken) in
+    let n = sym (c .before .request-within .ensures) ∙ not-true _ (c .if1 .taken) in
     let e = refused-answer (a .limit) (a .guarantees .now) (a .wishes .now) (a .grants .now) n in
     ended (a .limit) (a .guarantees .now) (a .wishes .now) (a .grants .now) (sym e)
     (sym (refused-grants (a .limit) (a .guarantees .now) (a .wishes .now) (a .grants .now) n))
@@ -31,7 +31,7 @@ share-requires : tie.Need-share-requires
 share-requires c κs =
     let e = c .before in
     let a = A (e .before) .args in
-    asked-limits (a .limit) (a .guarantees .now) (a .wishes .now) _ (accepted e)
+    ok-request (a .limit) (a .guarantees .now) (a .wishes .now) _ (accepted e)
 
 returns-2 : tie.Need-returns-2
 returns-2 c =

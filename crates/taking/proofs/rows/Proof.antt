@@ -3,7 +3,7 @@ use Prim.Native.Nat.{_+_, _-_, _≤_}
 use lib.ListN.{length}
 use Rattle.numbers.specs.TablesLaws.{part-length}
 use Rattle.model.specs.Record.{rowNumbers}
-use Rattle.taking.specs.TakingLaws.{Roomy, mostNumbers, over-cells, over-steps, too-short, count-small, untaken, Listed, listed-none, listed-length, row-fits, row-small}
+use Rattle.taking.specs.TakingLaws.{Roomy, mostNumbers, over-cells, over-steps, too-short, count-small, untaken, RowsSoFar, listed-none, listed-length, row-fits, row-small}
 use Rattle.taking.specs.TakingLaws.{listed-more, listed-end}
 use Rattle.taking.proofs.rows.Statement.{statement}
 use Rattle.taking.proofs.rows.Tie as tie
@@ -11,7 +11,7 @@ use borrow.Author.Needs.{needs}
 use native.Mathlib.Omega.{arith}
 
 abbrev Inv-loop : tie.InvT-loop
-Inv-loop bytes n steps list₀ numbers from₀ t₀ list from t = Listed bytes n steps list₀ list from t
+Inv-loop bytes n steps list₀ numbers from₀ t₀ list from t = RowsSoFar bytes n steps list₀ list from t
 
 abbrev μ-loop : tie.MeasureT-loop
 μ-loop bytes n steps list₀ numbers from₀ t₀ list from t = steps - t

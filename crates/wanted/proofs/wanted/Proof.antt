@@ -7,7 +7,7 @@ use Rattle.model.specs.Road.{mostRate}
 use Rattle.numbers.specs.Tests.{both-true}
 use Rattle.model.specs.Limits.{allWithin}
 use Rattle.model.specs.Wanted.{WantedRequest, wantedFrameOk}
-use Rattle.wanted.specs.WantedLaws.{asked-limits}
+use Rattle.wanted.specs.WantedLaws.{ok-request}
 use Rattle.wanted.specs.Theorems.{ended}
 use Rattle.wanted.specs.Loops.{ends-frame, ends-arrivals, ends-none, ends-found}
 use Rattle.wanted.proofs.wanted.Statement.{statement}
@@ -33,13 +33,13 @@ framed c = sym (c .before .frame-within .ensures) ∙ not-false _ (c .if1 .left)
 arrive : (c : tie.Else2) → allWithin (A (framed-at (c .before) .before) .args .arrivals .now) mostRate ≡ true
 arrive c = sym (c .before .all-within .ensures) ∙ not-false _ (c .if2 .left)
 
-asked : (c : tie.Else2) →
+request : (c : tie.Else2) →
     let a = A (framed-at (c .before) .before) .args in
     WantedRequest (a .start) (a .ceiling) (a .rate) (a .arrivals .now) (length (a .table .now))
-asked c =
+request c =
     let e = framed-at (c .before) in
     let a = A (e .before) .args in
-    asked-limits (a .start) (a .ceiling) (a .rate) (a .arrivals .now) (length (a .table .now)) (both-true _ _ (framed e) (arrive c))
+    ok-request (a .start) (a .ceiling) (a .rate) (a .arrivals .now) (length (a .table .now)) (both-true _ _ (framed e) (arrive c))
 
 returns : tie.Need-returns
 returns c =
@@ -57,7 +57,7 @@ returns-2 c =
     ended (a .start) (a .ceiling) (a .rate) (a .arrivals .now) (a .table .now) (e .says) (e .leaves)
 
 possible-requires : tie.Need-possible-requires
-possible-requires c κs = asked c .limits
+possible-requires c κs = request c .limits
 
 returns-3 : tie.Need-returns-3
 returns-3 c =
@@ -69,7 +69,7 @@ returns-3 c =
     ended (a .start) (a .ceiling) (a .rate) (a .arrivals .now) (a .table .now) (e .says) (e .leaves)
 
 fill-requires : tie.Need-fill-requires
-fill-requires c κs = let q = asked (arrived-at (c .before .before)) in (q .limits, q .same)
+fill-requires c κs = let q = request (arrived-at (c .before .before)) in (q .limits, q .same)
 
 returns-4 : tie.Need-returns-4
 returns-4 c =

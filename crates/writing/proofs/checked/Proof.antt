@@ -10,7 +10,7 @@ use Rattle.model.specs.Limits.{placeOk}
 use Rattle.fields.specs.HeaderLaws.{size-small}
 use Rattle.model.specs.Writing.{unwritten, written, frameOf, writingBy, writingOf}
 use Rattle.model.specs.Encoding.{given}
-use Rattle.writing.specs.Checks.{Framed, framed, answer-frame, answer-place, answer-step, answer-short, answer-written, by-given}
+use Rattle.writing.specs.Checks.{FrameOk, framed, answer-frame, answer-place, answer-step, answer-short, answer-written, by-given}
 use Rattle.writing.proofs.checked.Statement.{statement}
 use Rattle.writing.proofs.checked.Tie as tie
 use native.Mathlib.Omega.{arith}
@@ -43,7 +43,7 @@ abbrev room : tie.Start → ℕ
 room c = length (c .args .target .now)
 
 -- after the first five tests
-ok : (c : tie.Else1) → Framed (Of (A (Frame c))) (numbers (A (Frame c)))
+ok : (c : tie.Else1) → FrameOk (Of (A (Frame c))) (numbers (A (Frame c)))
 ok c =
     let z : refusalNumber (Frame c .frame-refusal .result) ≡ 0 = search needs in
     framed (Of (A (Frame c))) (numbers (A (Frame c))) (sym (Frame c .frame-refusal .ensures) ∙ z)

@@ -4,7 +4,7 @@ use mathlib.Core.List.{List}
 use Prim.Native.Nat.{ℕ, _+_, _-_, _*_, _≤_}
 use lib.ListN.{length, take, drop}
 use borrow.Author.Tests.{not-true, not-false}
-use Rattle.numbers.specs.FirstLaws.{Passed, passed-none, passed-more, passed-stop, passed-end}
+use Rattle.numbers.specs.FirstLaws.{PassedTests, passed-none, passed-more, passed-stop, passed-end}
 use Rattle.model.specs.Numbers.{rowAt}
 use Rattle.numbers.specs.TablesLaws.{part-row, part-length, mul-more}
 use Rattle.model.specs.Record.{rowNumbers}
@@ -17,7 +17,7 @@ use native.Mathlib.Omega.{arith}
 
 abbrev Inv-loop : tie.InvT-loop
 Inv-loop ramp n rows steps numbers from₀ t₀ from t =
-    (from ≡ t * rowNumbers n) × Passed (λ j. rowOk ramp n (rowAt rows (rowNumbers n) j)) steps t
+    (from ≡ t * rowNumbers n) × PassedTests (λ j. rowOk ramp n (rowAt rows (rowNumbers n) j)) steps t
 
 abbrev μ-loop : tie.MeasureT-loop
 μ-loop ramp n rows steps numbers from₀ t₀ from t = steps - t

@@ -5,7 +5,7 @@ use Prim.Native.Nat.{ℕ, _+_, _-_, _*_}
 use native.Mathlib.Omega.{arith}
 use lib.Seq.{getD-take}
 use Rattle.model.specs.Numbers.{at}
-use Rattle.model.specs.Places.{releaseAt}
+use Rattle.model.specs.Flow.{releaseAt}
 use Rattle.model.specs.Record.{recordRow}
 use Rattle.passes.specs.Supplies.{FilledTo, filled-none, filled-more, filled-end}
 use Rattle.filling.proofs.last_step.put_releases.Statement.{statement}

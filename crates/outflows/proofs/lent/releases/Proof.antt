@@ -12,7 +12,7 @@ use Rattle.model.specs.Stepping.{releaseFaultAt}
 use Rattle.theory.specs.StepLaws.{lowest-stop, lowest-end}
 use Rattle.outflows.specs.declared.Ledger.{Ledger}
 use Rattle.outflows.specs.Columns.{supplying, stateOf}
-use Rattle.outflows.specs.Rooms.{Roomed, roomed-none, roomed-more, roomed-end}
+use Rattle.outflows.specs.Rooms.{RoomsSoFar, roomed-none, roomed-more, roomed-end}
 use Rattle.outflows.specs.Faults.{release-found}
 use Rattle.outflows.proofs.lent.releases.Statement.{statement}
 use Rattle.outflows.proofs.lent.releases.Tie as tie
@@ -23,7 +23,7 @@ Inv-loop n wave jam capacity held queue row room₀ i₀ room i =
     (length room ≡ 64) × ((r : Road) (l : Ledger) (cumulative : List ℕ) →
     let q = supplying r n wave jam capacity in
     let s = stateOf l held queue cumulative in
-    Faultless (releaseFaultAt q s row) n i × Roomed q s row room₀ room i)
+    Faultless (releaseFaultAt q s row) n i × RoomsSoFar q s row room₀ room i)
 
 abbrev μ-loop : tie.MeasureT-loop
 μ-loop n wave jam capacity held queue row room₀ i₀ room i = n - i

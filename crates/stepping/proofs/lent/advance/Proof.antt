@@ -3,7 +3,7 @@
 use mathlib.Core.Path.{_≡_}
 use Prim.Native.Nat.{_+_, _-_, _≤_, _<_}
 use lib.ListN.{length}
-use Rattle.numbers.specs.SumLaws.{Summed, summed-none, summed-more}
+use Rattle.numbers.specs.SumLaws.{SummedRow, summed-none, summed-more}
 use Rattle.model.specs.declared.Road.{Road}
 use Rattle.model.specs.Road.{mostCells}
 use Rattle.model.specs.Numbers.{at}
@@ -19,7 +19,7 @@ abbrev Inv-loop : tie.InvT-loop
 Inv-loop n share l held₀ queue₀ cumulative₀ row y first waiting entering₀ on-road₀ at-ramps₀ i₀ held queue cumulative entering on-road at-ramps i =
     ((r : Road) → MovedCells (sharing r n share) (stateOf l held₀ queue₀ cumulative₀) row y
     (stateOf (gated l waiting (l .«gate_cumulative» + first)) held queue cumulative) entering i)
-    × (Summed held on-road i × Summed queue at-ramps i)
+    × (SummedRow held on-road i × SummedRow queue at-ramps i)
 
 abbrev μ-loop : tie.MeasureT-loop
 μ-loop n share l held₀ queue₀ cumulative₀ row y first waiting entering₀ on-road₀ at-ramps₀ i₀ held queue cumulative entering on-road at-ramps i = n - i

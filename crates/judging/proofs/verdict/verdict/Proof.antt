@@ -1,13 +1,13 @@
--- `verdict::lent::verdict` meets its contract. Assumes nothing.
+-- `judging::verdict::verdict` meets its contract. Assumes nothing.
 use mathlib.Core.Path.{sym, _∙_}
 use Rattle.model.specs.declared.Road.{Road}
 use Rattle.model.specs.declared.State.{State}
 use Rattle.outflows.specs.declared.Ledger.{Ledger}
 use Rattle.outflows.specs.Columns.{roadOf, gated, stateOf}
 use Rattle.model.specs.Refusals.{faultAnswer}
-use Rattle.verdict.specs.ProposedRow.{ReleaseFinding, verdict-fault, verdict-end}
-use Rattle.verdict.proofs.lent.verdict.Statement.{statement}
-use Rattle.verdict.proofs.lent.verdict.Tie as tie
+use Rattle.judging.specs.ProposedRow.{ReleaseFinding, verdict-fault, verdict-end}
+use Rattle.judging.proofs.verdict.verdict.Statement.{statement}
+use Rattle.judging.proofs.verdict.verdict.Tie as tie
 use borrow.Author.Needs.{needs}
 
 -- places of the code: the arguments from the number of the releases' refusal

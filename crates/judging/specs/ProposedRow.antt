@@ -11,12 +11,12 @@ use Rattle.model.specs.declared.State.{State}
 use Rattle.model.specs.Road.{mostCells}
 use Rattle.model.specs.Numbers.{at}
 use Rattle.numbers.specs.FirstLaws.{Faultless, faultless-more}
-use Rattle.model.specs.Places.{roomAt, demandAt}
+use Rattle.model.specs.Flow.{roomAt, demandAt}
 use Rattle.model.specs.Stepping.{releasesOf}
 use Rattle.model.specs.Judging.{outflowFault, outflowFaultAt, outflowsFaultOf, verdictOf}
 use Rattle.theory.specs.StepLaws.{number-of, lowest-stop, lowest-end}
 use Rattle.theory.specs.VerdictLaws.{fault-before-last, last-passes, last-above-demand, verdict-releases, verdict-outflows}
-use Rattle.outflows.specs.CarriedValues.{Carried}
+use Rattle.outflows.specs.CarriedValues.{CarriedValues}
 
 -- the row of a step and a row of outflows, gate first, for a road of n cells
 pub record Proposed (n : ℕ) (row y : List ℕ) : Type 0 where
@@ -25,7 +25,7 @@ pub record Proposed (n : ℕ) (row y : List ℕ) : Type 0 where
   pub places : length y ≡ n + 1
 
 -- the loop over the places: the code's numbers at a place before the last, and the number of the refusal that it finds
-module _ {r : Road} {s : State} (row y : List ℕ) {share cumulative demand i : ℕ} (k : Carried r s share cumulative demand i) where
+module _ {r : Road} {s : State} (row y : List ℕ) {share cumulative demand i : ℕ} (k : CarriedValues r s share cumulative demand i) where
   pub outflow-found : {room entering m : ℕ} → i < r .n → room ≡ roomAt r s row i → entering ≡ enteringOf share cumulative (at y i)
       → m ≡ outflowFault (at y i) demand entering room → m ≡ outflowFaultAt r s row y i
   outflow-found l er ee e = rw (ee, er, k .shares, k .cumulatives, k .demands) at e ∙ sym (fault-before-last r s row y i l)

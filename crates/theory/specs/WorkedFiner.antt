@@ -10,7 +10,7 @@ use Rattle.model.specs.Flow.{thousandthsOf, demandOf, gateDemandOf, supplyOf, r
 use Rattle.model.specs.declared.Road.{Road}
 use Rattle.model.specs.declared.State.{State}
 use Rattle.model.specs.Schedules.{Study, study, roadAt, outflowsOf, engineAfter}
-use Rattle.model.specs.Places.{capacityAt, demandAt, shareAt, cumulativeAt}
+use Rattle.model.specs.Flow.{capacityAt, demandAt, shareAt, cumulativeAt}
 use Rattle.model.specs.Move.{movedTo, countedOf}
 use Rattle.theory.specs.Finer.{timesOf, scaled, productFrom, countFrom, reachOf, thousandsOf}
 
@@ -45,7 +45,7 @@ start = record {
 abbrev printed : Study
 printed = study road start 3 (λ k. 1000 ∷ 0 ∷ 0 ∷ 500 ∷ 300 ∷ []) []
 
-pub record Worked : Type 0 where
+pub record WorkedNumbers : Type 0 where
   -- counts are ten times as large; speeds, waves and shares do not change
   jam : scaled 10 printed .road .jam ≡ 80000 ∷ 80000 ∷ []
   capacity : scaled 10 printed .road .capacity ≡ 20000 ∷ 10000 ∷ []
@@ -65,7 +65,7 @@ pub record Worked : Type 0 where
   fromLast : reachOf road 2 ≡ 1
   fromLastThousands : thousandsOf road 2 ≡ 1
 
-pub worked : Worked
+pub worked : WorkedNumbers
 unfolding timesOf productFrom countFrom reachOf thousandsOf shareAt
 worked = record {
   jam = refl;

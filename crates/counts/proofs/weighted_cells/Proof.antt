@@ -1,9 +1,9 @@
--- `counts::weighed_cells` meets its contract. The invariant: the weighted counts of the first i cells are added. Assumes nothing.
+-- `counts::weighted_cells` meets its contract. The invariant: the weighted counts of the first i cells are added. Assumes nothing.
 use Prim.Native.Nat.{_+_, _-_, _*_}
 use Rattle.model.specs.Numbers.{at}
 use Rattle.counts.specs.WeightSums.{SummedProducts, summed-none, summed-more, summed-end}
-use Rattle.counts.proofs.weighed_cells.Statement.{statement}
-use Rattle.counts.proofs.weighed_cells.Tie as tie
+use Rattle.counts.proofs.weighted_cells.Statement.{statement}
+use Rattle.counts.proofs.weighted_cells.Tie as tie
 use borrow.Author.Needs.{needs}
 
 abbrev Inv-loop : tie.InvT-loop
@@ -16,13 +16,13 @@ loop-holds : tie.Need-loop-holds Inv-loop μ-loop
 loop-holds c = summed-none
 
 loop-again : tie.Need-loop-again Inv-loop μ-loop
-loop-again c = let i = c .before .before .before in summed-more (i .before .loop .inv) (i .loop-test .taken) (c .weighed .ensures .0) (c .weighed .ensures .1)
+loop-again c = let i = c .before .before .before in summed-more (i .before .loop .inv) (i .loop-test .taken) (c .weighted-count .ensures .0) (c .weighted-count .ensures .1)
 
 returns : tie.Need-returns Inv-loop μ-loop
 returns c = summed-end (c .before .loop .inv) (c .loop-test .left) (search needs)
 
-pub weighed-cells-spec : {M : Type 1} → statement M
-weighed-cells-spec =
+pub weighted-cells-spec : {M : Type 1} → statement M
+weighted-cells-spec =
     tie.close
     (tie.spec
     Inv-loop μ-loop loop-holds (λ c. search needs) (λ c. search needs) (λ c. search needs) (λ c. search needs) (λ c κs. search needs)

@@ -1,4 +1,4 @@
--- `verdict::lent::outflows_fault` meets its contract. The invariant: the outflows of the first i places obey. Assumes nothing.
+-- `judging::verdict::outflows_fault` meets its contract. The invariant: the outflows of the first i places obey. Assumes nothing.
 use mathlib.Core.Path.{_≡_, sym, ap, _∙_}
 use mathlib.Core.List.{List}
 use Prim.Native.Nat.{ℕ, _+_, _-_}
@@ -11,10 +11,10 @@ use Rattle.model.specs.Judging.{outflowFaultAt}
 use Rattle.outflows.specs.declared.Ledger.{Ledger}
 use Rattle.outflows.specs.Columns.{sending, gated, stateOf}
 use Rattle.outflows.specs.Rooms.{Rooms}
-use Rattle.outflows.specs.CarriedValues.{Carried, carried-gate, carried-cell}
-use Rattle.verdict.specs.ProposedRow.{outflow-found, last-fault, last-end}
-use Rattle.verdict.proofs.lent.outflows_fault.Statement.{statement}
-use Rattle.verdict.proofs.lent.outflows_fault.Tie as tie
+use Rattle.outflows.specs.CarriedValues.{CarriedValues, carried-gate, carried-cell}
+use Rattle.judging.specs.ProposedRow.{outflow-found, last-fault, last-end}
+use Rattle.judging.proofs.verdict.outflows_fault.Statement.{statement}
+use Rattle.judging.proofs.verdict.outflows_fault.Tie as tie
 use borrow.Author.Needs.{needs}
 use native.Mathlib.Omega.{arith}
 
@@ -23,7 +23,7 @@ Inv-loop n gate-capacity speed share capacity gate-queue gate-cumulative held cu
     (r : Road) (l : Ledger) (queue row : List ℕ) →
     let q = sending r n gate-capacity speed share capacity in
     let s = stateOf (gated l gate-queue gate-cumulative) held queue cumulative in
-    Rooms q s row room → Carried q s part before demand i × Faultless (outflowFaultAt q s row y) (n + 1) i
+    Rooms q s row room → CarriedValues q s part before demand i × Faultless (outflowFaultAt q s row y) (n + 1) i
 
 abbrev μ-loop : tie.MeasureT-loop
 μ-loop n gate-capacity speed share capacity gate-queue gate-cumulative held cumulative room y part₀ before₀ demand₀ i₀ part before demand i = n - i

@@ -1,4 +1,4 @@
--- `street::asked_within` meets its contract. Each return follows from the tests before it. Assumes nothing.
+-- `street::request_within` meets its contract. Each return follows from the tests before it. Assumes nothing.
 use mathlib.Core.Path.{_≡_, sym, _∙_}
 use mathlib.Core.Bool.{true}
 use native.Mathlib.Omega.{arith}
@@ -7,9 +7,9 @@ use borrow.Author.Tests.{not-true, not-false}
 use Rattle.model.specs.Road.{mostRate}
 use Rattle.model.specs.Limits.{allWithin}
 use Rattle.model.specs.Street.{streetFrameOk}
-use Rattle.street.specs.StreetLaws.{asked-frame, frame-ramps, asked-guarantees, asked-wishes, asked-sum}
-use Rattle.street.proofs.asked_within.Statement.{statement}
-use Rattle.street.proofs.asked_within.Tie as tie
+use Rattle.street.specs.StreetLaws.{frame-fails, frame-ramps, guarantees-fail, wishes-fail, sum-decides}
+use Rattle.street.proofs.request_within.Statement.{statement}
+use Rattle.street.proofs.request_within.Tie as tie
 use borrow.Author.Needs.{needs}
 
 -- places of the code: the arguments from each place, and the facts that the tests give there
@@ -30,19 +30,19 @@ wished c = sym (c .before .all-within2 .ensures) ∙ not-false _ (c .if3 .left)
 returns : tie.Need-returns
 returns c =
     let a = c .before .before .before .before .args in
-    asked-frame (a .limit) (a .guarantees .now) (a .wishes .now) (a .places) (sym (c .before .frame-within .ensures) ∙ not-true _ (c .if1 .taken))
+    frame-fails (a .limit) (a .guarantees .now) (a .wishes .now) (a .places) (sym (c .before .frame-within .ensures) ∙ not-true _ (c .if1 .taken))
 
 returns-2 : tie.Need-returns-2
 returns-2 c =
     let e = c .before .before in
     let a = A e .args in
-    asked-guarantees (a .limit) (a .guarantees .now) (a .wishes .now) (a .places) (framed e) (sym (c .before .all-within .ensures) ∙ not-true _ (c .if2 .taken))
+    guarantees-fail (a .limit) (a .guarantees .now) (a .wishes .now) (a .places) (framed e) (sym (c .before .all-within .ensures) ∙ not-true _ (c .if2 .taken))
 
 returns-3 : tie.Need-returns-3
 returns-3 c =
     let e = c .before .before in
     let a = A (e .before .before) .args in
-    asked-wishes (a .limit) (a .guarantees .now) (a .wishes .now) (a .places) (framed (e .before .before)) (guaranteed e)
+    wishes-fail (a .limit) (a .guarantees .now) (a .wishes .now) (a .places) (framed (e .before .before)) (guaranteed e)
     (sym (c .before .all-within2 .ensures) ∙ not-true _ (c .if3 .taken))
 
 sum-requires : tie.Need-sum-requires
@@ -56,10 +56,10 @@ returns-4 c =
     let w = c .before in
     let e = w .before .before in
     let a = A (e .before .before) .args in
-    asked-sum (a .limit) (a .guarantees .now) (a .wishes .now) (a .places) (framed (e .before .before)) (guaranteed e) (wished w) (c .sum .ensures .0)
+    sum-decides (a .limit) (a .guarantees .now) (a .wishes .now) (a .places) (framed (e .before .before)) (guaranteed e) (wished w) (c .sum .ensures .0)
 
-pub asked-within-spec : {M : Type 1} → statement M
-asked-within-spec =
+pub request-within-spec : {M : Type 1} → statement M
+request-within-spec =
     tie.close
     (tie.spec
     (λ c κs. search needs) returns (λ c κs. search needs) returns-2 (λ c κs. search needs) returns-3 sum-requires returns-4)

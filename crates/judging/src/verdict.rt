@@ -1,4 +1,5 @@
-// The verdict on one row, on a road and a state that are lent column by column, so that judging copies neither.
+// What judging says of one row: 9 and 10 as in stepping, then 13 and 14. Road and state are lent column by column, so that judging
+// copies neither.
 use model::Fault;
 use model::Refusal;
 use model::Road;
@@ -8,12 +9,25 @@ ghost use Prim.Native.Nat.{ℕ, _+_, _≤_};
 ghost use lib.ListN.{length};
 ghost use Rattle.model.specs.Road.{mostCells};
 ghost use Rattle.model.specs.declared.Road.{Road};
-ghost use Rattle.model.specs.Judging.{outflowsFaultOf, verdictOf};
+ghost use Rattle.model.specs.Judging.{outflowFault, outflowsFaultOf, verdictOf};
 ghost use Rattle.outflows.specs.declared.Ledger.{Ledger};
 ghost use Rattle.outflows.specs.Columns.{roadOf, sending, gated, stateOf};
 ghost use Rattle.outflows.specs.Rooms.{Rooms};
-ghost use Rattle.model.specs.Refusals.{faultAnswer};
-ghost use Rattle.verdict.specs.ProposedRow.{Proposed};
+ghost use Rattle.model.specs.Refusals.{refusalNumber, faultAnswer};
+ghost use Rattle.judging.specs.ProposedRow.{Proposed};
+
+// The refusal of one place's outflow: 13 above its demand, then 14 if more than the room enters the next cell.
+fn outflow_refusal(outflow: u32, demand: u32, entering: u64, room: u32) -> Refusal
+    ensures { λ q. ⌜ refusalNumber q ≡ outflowFault outflow demand entering room ⌝ }
+{
+    if demand < outflow {
+        return Refusal::OutflowAboveDemand;
+    }
+    if (room as u64) < entering {
+        return Refusal::EnteringAboveRoom;
+    }
+    Refusal::None
+}
 
 // The lowest place whose outflow does not obey, with its refusal; `room` holds the room of each cell. At the last place, which no cell
 // follows, only the demand is tested.
@@ -44,7 +58,7 @@ fn outflows_fault<'a, 'b>(
     while i < n {
         let outflow = y[i];
         let entering = flow::entering(part, before, outflow);
-        let refusal = crate::outflow_refusal(outflow, demand, entering, room[i]);
+        let refusal = outflow_refusal(outflow, demand, entering, room[i]);
         if refusal.number() != 0 {
             return Fault {
                 refusal: refusal,

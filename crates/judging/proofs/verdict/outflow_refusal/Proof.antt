@@ -1,8 +1,8 @@
--- `verdict::outflow_refusal` meets its contract. Assumes nothing.
+-- `judging::verdict::outflow_refusal` meets its contract. Assumes nothing.
 use borrow.Author.Tests.{lt-leb, le-leb}
 use native.Mathlib.Omega.{arith}
-use Rattle.verdict.proofs.outflow_refusal.Statement.{statement}
-use Rattle.verdict.proofs.outflow_refusal.Tie as tie
+use Rattle.judging.proofs.verdict.outflow_refusal.Statement.{statement}
+use Rattle.judging.proofs.verdict.outflow_refusal.Tie as tie
 
 returns : tie.Need-returns
 returns c = let a = c .before .args in simp (lt-leb (a .outflow) (a .demand) (omega arith))
