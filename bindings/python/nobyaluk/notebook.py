@@ -1,7 +1,4 @@
-"""Studies and runs as a notebook shows them.
-
-A few lines of HTML, the totals and a small picture.
-"""
+"""Studies and runs as a notebook shows them: a few lines of HTML, the totals, a small picture."""
 from __future__ import annotations
 
 import base64
@@ -39,9 +36,9 @@ def _table(rows: Iterable[tuple[str, str]]) -> str:
 
 
 def run_html(run: StudyRun) -> str:
-    """Return the totals of a run and where its road fills.
+    """Return the totals of a run and a picture of where its road fills.
 
-    Without a picture where matplotlib is missing or the road can't be drawn.
+    There is no picture if matplotlib is missing or the road can't be drawn.
     """
     study, w = run.study, hours(run, run.study.seconds)
     rows = [

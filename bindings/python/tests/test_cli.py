@@ -55,7 +55,7 @@ def test_judge(examples, told, tmp_path):
     status, out, _ = told("judge", examples / "classroom.rec", examples / "classroom-cut.schedule.csv", "--seconds", 36)
     assert (status, out) == (0, "accepted total 8123346 gate 1756916 road 6366430 ramp 0 exits 627782\n"
                                 "  81.23 vehicle-hours, where the engine's run has 30.00: it loses 51.23 (+170.8 %)\n"
-                                "  it departs first at step 10, 6:00 min, cell 2: it sends 0.000 vehicles, and 20.000 could go\n")
+                                "  it first differs at step 10, 6:00 min, cell 2: it sends 0.000 vehicles, and 20.000 could leave\n")
     run = load(examples / "printed-run.rec").run()
     np.savetxt(tmp_path / "own.csv", run.outflow, "%d", ",", header="gate,1,2", comments="")
     status, out, _ = told("judge", examples / "printed-run.rec", tmp_path / "own.csv")
@@ -88,7 +88,7 @@ def test_judge_of_a_metered_study(examples, told, tmp_path):
     zs[101:, :] = 0
     np.savetxt(tmp_path / "s.csv", zs, "%d", ",")
     status, out, err = told("judge", path, tmp_path / "s.csv")
-    assert (status == 0 and "it departs first at step 100, 07:33:20, cell 5" in out) or (status == 1 and "refused 10" in err)
+    assert (status == 0 and "it first differs at step 100, 07:33:20, cell 5" in out) or (status == 1 and "refused 10" in err)
 
 
 def test_compare(examples, told, tmp_path):
@@ -125,7 +125,7 @@ def test_street(examples, told, tmp_path):
     (tmp_path / "street.toml").write_text("limit = 100\n" + ramp.format("north") + ramp.format("south"))
     assert told("street", tmp_path / "street.toml")[::2] == (1, f"nobyaluk: refused 24: {meaning(24, 'grant').words}\n")
     (tmp_path / "street.toml").write_text("limit = 100\n" + ramp.format("north") + ramp.format("north"))
-    assert "which is there already" in told("street", tmp_path / "street.toml")[2]
+    assert "which is named twice" in told("street", tmp_path / "street.toml")[2]
 
 
 def test_join(examples, told, tmp_path):
@@ -306,7 +306,7 @@ def test_an_old_library_is_told(checkout, tmp_path):
     (there / "target/bindings").mkdir(parents=True)
     subprocess.run(["cc", "-shared", "-fPIC", "-o", there / "target/bindings/libnobyaluk.so", tmp_path / "old.c"], check=True)
     out = subprocess.run(command, env=env, capture_output=True, text=True)
-    assert out.returncode == 3 and out.stderr == "nobyaluk: the engine's library has no nobyaluk_read: it is older than this package; build it anew with bindings/build\n"
+    assert out.returncode == 3 and out.stderr == "nobyaluk: the engine's library has no nobyaluk_read: it is older than this package; build it again with bindings/build\n"
 
 
 def test_a_read_only_checkout(checkout, tmp_path):

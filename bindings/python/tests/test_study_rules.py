@@ -334,7 +334,7 @@ def test_marks_that_may_be_thousands(write):
 
 
 def test_counts_say_how_long_they_are(write):
-    fault(write(FILE, 'unit = "count"\n', OPEN, a="time,gate,North,South\n07:00,9,9,9\n"), "row 2", "how long")
+    fault(write(FILE, 'unit = "count"\n', OPEN, a="time,gate,North,South\n07:00,9,9,9\n"), "row 2", "the length of the only row of counts is unknown")
     rows = "".join(f"{m},10,1,1\n" for m in (0, 1, 2, 4, 5, *range(6, 60)))
     s = load(write(FILE, 'unit = "count"\n', OPEN, a="minutes,gate,North,South\n" + rows))
     assert any("row 4" in note and "120 s" in note for note in s.notes)
@@ -445,7 +445,7 @@ BAD_TOMLS = {
     "a day": ('start = "07:00"', "start = 2024-02-30", "date"),
     "a missing number": ("speed = 90", "", "`speed` is missing; it is a number from 0.000001"),
     "no steps": ("steps = 120", "", "`steps` is missing; it is a number from 1 to 17280"),
-    "steps": ("steps = 120", "steps = 17281", "it is at most 17280; a longer study goes on with `after`"),
+    "steps": ("steps = 120", "steps = 17281", "it is at most 17280; a further study continues with `after`"),
 }
 
 
@@ -508,7 +508,7 @@ def test_a_street_reads_whole_names(examples, tmp_path):
     st = street.read_street(path)
     assert [s.name for s in st.studies] == ["north-road", "south-road"] and st.names[0] == "north-road, ramp Mill Street"
     path.write_text("limit = 1260\n" + ramp.format("north/road.toml") + ramp.format("./north/../north/road.toml"))
-    with pytest.raises(StudyError, match="already"):
+    with pytest.raises(StudyError, match="which is named twice"):
         street.read_street(path)
     south = tmp_path / "south/road.toml"
     south.write_text(south.read_text().replace('"07:', '"08:'))

@@ -1,6 +1,6 @@
-"""Answers marked: the first broken rule, what a schedule costs, why a total is wrong.
+"""Marks answers: the first broken rule, what a schedule costs, why a total is wrong.
 
-Rules are judged by the proved engine.
+The proved engine judges the rules.
 """
 import csv
 import html
@@ -42,10 +42,7 @@ def _variants(e: Exercise, x: engine.Run | wrong_rules.WrongRun) -> dict[str, in
 
 
 def find_mistakes(e: Exercise) -> list[tuple[str, int]]:
-    """Return mistakes with the totals that they give, for the key.
-
-    Those that give another total than the right one.
-    """
+    """Return the mistakes that give a wrong total, each with that total, for the key."""
     found = [
         *_variants(e, e.run).items(),
         *((key, rule(e.study.record, e.study.lanes).total) for key, rule in WRONG.items()),
@@ -117,11 +114,11 @@ class Units:
 
 
 def _units(e: Exercise, answer: Answer, m: Mark) -> Units:
-    """Return the unit of each column; whatever the file itself does not settle is in the notes.
+    """Return the unit of each column; the notes say what the file itself does not settle.
 
-    The page's file is in thousandths, and a file that says vehicles is in vehicles. Any other goes
-    column by column: vehicles where a number has decimals, thousandths where one is larger than all
-    vehicles of the exercise. A column that shows neither is as the rest of the table.
+    The page's file is in thousandths, and a file that says vehicles is in vehicles. Any other file
+    is read column by column: vehicles if a number has decimals, thousandths if one is larger than
+    all vehicles of the exercise. A column that shows neither is read as the rest of the table.
     """
     columns = answer.columns()
     if answer.vehicles:
@@ -177,8 +174,8 @@ def _units(e: Exercise, answer: Answer, m: Mark) -> Units:
 def _settled(columns: set[Column], vehicles: set[Column], large: set[Column]) -> set[Column]:
     """Return the columns in vehicles.
 
-    Those that show it, and those that show nothing where the rest of the table, or of the times, is
-    in vehicles.
+    A column that does not show its unit is in vehicles if the rest of the table, or of the times,
+    is.
     """
     table = {column for column in columns if column[0] in TABLES}
     out = set(vehicles)
@@ -192,9 +189,9 @@ def _settled(columns: set[Column], vehicles: set[Column], large: set[Column]) ->
 
 
 def _too_many(e: Exercise, x: Number, column: Column) -> bool:
-    """Return whether a number can't be of vehicles.
+    """Return whether a number is too large to be in vehicles.
 
-    The exercise has fewer, at the start and arriving; a time is at most these in every step.
+    The limit is all vehicles of the exercise, for a time in every step.
     """
     most = e.run.present + e.run.exits
     return x.groups is None and x.value * 1000 > (
@@ -267,10 +264,7 @@ def _schedule(e: Exercise, answer: Answer, units: Units, m: Mark) -> tuple[np.nd
 
 
 def _judge(e: Exercise, schedule: np.ndarray, done: int, m: Mark) -> engine.Run | None:
-    """Return what the judge says of the steps that are filled in.
-
-    The accepted schedule's run where all are.
-    """
+    """Judge the steps that are filled in; return the run if all are and it is accepted."""
     steps, record, lanes = e.study.record.steps, e.study.record, e.study.lanes
     if not done:
         m.outflows = "wrong" if m.rule else "none"
@@ -343,9 +337,9 @@ def _shown(parts: Fraction) -> str:
 
 
 def _bases(e: Exercise, own: engine.Run | None) -> Iterator[tuple[str, int, dict[str, int]]]:
-    """Yield the runs of which a total may be: the engine's, the student's, those of wrong rules.
+    """Yield possible sources of a total: the engine's run, the student's, those of wrong rules.
 
-    Each with its total and its variants.
+    Each comes with its total and its variants.
     """
     yield "", e.run.total, _variants(e, e.run)
     if own is not None and own.total != e.run.total:
@@ -363,9 +357,9 @@ def _total(
     schedule: np.ndarray | None,
     m: Mark,
 ) -> None:
-    """Note whether the total is right, or where a wrong one comes from.
+    """Note whether the total is right, or the cause of a wrong one.
 
-    Outflows of a wrong rule are recognised too, also with a right total.
+    Outflows of a wrong rule are recognised too, even with a right total.
     """
     by_rule = next(
         (
@@ -395,7 +389,7 @@ def _total(
 
 
 def diagnose(e: Exercise, same: Callable[[int], bool], own: engine.Run | None = None) -> str:
-    """Return what a wrong total comes from, in words; nothing where it is not recognised.
+    """Return what a wrong total comes from, in words; nothing if it is not recognised.
 
     `same` says whether a total is the one given.
     """
@@ -510,7 +504,7 @@ def _kind(m: Mark, column: int) -> str:
 
 
 def marks_page(marks: Sequence[Mark], title: str) -> str:
-    """Return the table as one HTML page, with the numbers of how many are right."""
+    """Return the table as one HTML page, with the number of right answers."""
     heading = [
         "student",
         "outflows",
