@@ -262,7 +262,7 @@ def no_records(page):
     """What is no record is named, with what to do, in each language and in both views; so is a link that was cut."""
     toml, record = (ROOT / "examples/studies/five-cells.toml").read_bytes(), (ROOT / "examples/printed-run.rec").read_bytes()
     cases = [("a road.toml", toml, "study (TOML)", "convert 'a road.toml' 'a road.rec'"), ("arrivals.CSV", b"time,gate\n", "table (CSV)", "convert road.toml road.rec"),
-             ("it's.txt", b"cell v 1\n", "is a text", r"convert 'it'\''s.txt' 'it'\''s.rec'"), ("empty.toml", b"", "study (TOML)", "convert empty.toml empty.rec"),
+             ("it's.txt", b"cell v 1\n", "is a text", r"reference record 'it'\''s.txt' 'it'\''s.rec'"), ("empty.toml", b"", "study (TOML)", "convert empty.toml empty.rec"),
              ("report.pdf", b"%PDF-1.7", "is not a record", "convert road.toml road.rec"), ("named.rec", toml, "is not a record", ".rec files"), ("noname", toml, "is not a record", "")]
     for mode, box in (("study", "refused"), ("exercise", "exercise-refused")):
         for name, data, kind, does in cases:

@@ -86,7 +86,7 @@ _ROWS: list[tuple[Refusal, str, str, str]] = [
         Refusal.SIZE,
         "write",
         "none",
-        "rows of other than T × (1 + 2n) numbers",
+        "the rows do not have T × (1 + 2n) numbers",
     ),
     (
         Refusal.LIMITS,

@@ -126,8 +126,8 @@ _WORDS = {
     ),
     "rule.next": (
         (
-            "All from the state before the step. Then: held + entering + release − outflow; queue +"
-            " arrivals − release; at the gate queue + arrivals − outflow."
+            "All values are those of the state before the step. Then: held + entering + release −"
+            " outflow; queue + arrivals − release; at the gate queue + arrivals − outflow."
         ),
         (
             "Alles folgt aus dem Zustand vor dem Schritt. Danach gilt: Bestand + einfahrend +"
