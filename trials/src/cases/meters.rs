@@ -189,7 +189,7 @@ fn not_finite(cases: &mut Cases) {
     }
 }
 
-/// Numbers that aren't finite where nobody looks: at a cell without a ramp,
+/// Numbers that aren't finite where they are not read: at a cell without a ramp,
 /// past cell n, and in what a law doesn't use.
 fn ignored(cases: &mut Cases) {
     for number in NOT_FINITE {
@@ -214,7 +214,7 @@ fn ignored(cases: &mut Cases) {
     }
 }
 
-/// 16 beside the other refusals: after 6, before 11.
+/// 16 together with the other refusals: after 6, before 11.
 fn several(cases: &mut Cases) {
     let changes: [Change; 7] = [
         |_| (),
