@@ -39,7 +39,7 @@ class Refusal(IntEnum):
 
 
 class Meaning(NamedTuple):
-    """What a refusal means where an operation gives it."""
+    """The meaning of a refusal of an operation."""
 
     place: str  # none, place, cell, step, step and cell, step and place, list
     words: str
@@ -298,7 +298,7 @@ _MEANINGS = {
 
 
 def meaning(number: int, operation: str | None = None) -> Meaning:
-    """Return what a refusal means where an operation gives it, or else the first row."""
+    """Return the meaning of a refusal of an operation, or else the first row."""
     operation = _SAME.get(operation or "", operation or "")
     for refusal in Refusal:
         if refusal == number:

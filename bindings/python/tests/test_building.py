@@ -53,7 +53,7 @@ def test_the_archive_is_built_by_one_at_a_time(proving):
     both = [subprocess.Popen([there / "bindings/build"], env=env, stderr=subprocess.PIPE, text=True) for _ in range(2)]
     said = [p.communicate()[1] for p in both]
     assert [p.returncode for p in both] == [0, 0] and (there / "target/staticlib/libexports.a").exists()
-    assert sum("another proves and builds here; this one waits for it" in x for x in said) == 1 and calls.read_text() == "check exports\nstaticlib exports\n" * 2
+    assert sum("another process proves and builds here; this one waits for it" in x for x in said) == 1 and calls.read_text() == "check exports\nstaticlib exports\n" * 2
 
 
 def test_what_fails_is_shown(proving, tmp_path):

@@ -285,7 +285,7 @@ def test_front_door(checkout, tmp_path):
     assert calls.read_text() == "check exports\nstaticlib exports\n"
     said = "".join(err for _, err in told)
     assert re.search("nobyaluk: the engine is proved and built first: 2 crates, (about|two to) [a-z]+ minutes\n", said)
-    assert "nobyaluk: crate 1 of 2: rows proved (1 s)" in said and "another proves and builds here; this one waits for it" in said
+    assert "nobyaluk: crate 1 of 2: rows proved (1 s)" in said and "another process proves and builds here; this one waits for it" in said
     again = subprocess.run(command, cwd=tmp_path, env=env, capture_output=True, text=True)
     assert again.returncode == 0 and again.stderr == "" and calls.read_text().count("\n") == 2
     shown = subprocess.run([there / "nobyaluk", "new", "my road"], cwd=tmp_path, env=env, capture_output=True, text=True).stdout.splitlines()
