@@ -1,4 +1,4 @@
-"""The commands as a user calls them: what they print, what they say, how they end; and ./nobyaluk itself."""
+"""The commands as a user calls them: their output, messages and exit statuses; and ./nobyaluk itself."""
 import csv
 import os
 import re
@@ -26,7 +26,7 @@ def test_run_says_who_waits_where(examples, told):
 
 
 def test_listing_is_ctms(examples, told):
-    """Where a program ctm is built, byte for byte on every example; else by the printed run of docs/MODEL.md."""
+    """If the program ctm is built, byte for byte on every example; else by the printed run of docs/MODEL.md."""
     ctm = examples.parent / "target/bin/ctm"
     for record in sorted(examples.glob("*.rec")):
         status, out, err = told("run", record, "--listing")
@@ -204,7 +204,7 @@ def test_new(told, tmp_path):
 
 
 def test_without_matplotlib_only_pictures_are_missing(root):
-    """run, compare and sweep print as ever; what draws says what to install."""
+    """run, compare and sweep print as before; a command that draws names what to install."""
     study = root / "examples/studies/five-cells.toml"
     for words, status, part in (("run", 0, "170.32"), ("compare", 0, "170.32"), ("sweep", 0, "170.3150"), ("plot", 3, "apt-get install python3-matplotlib"),
                                 ("report -o -", 3, "apt-get install python3-matplotlib")):
@@ -363,7 +363,7 @@ def test_without_a_compiler_the_kit_links(checkout, tmp_path):
 
 @pytest.mark.parametrize("user, settings, installs", [(0, {}, True), (0, {"NOBYALUK_NO_INSTALL": "1"}, False), (0, {"PYTHON": "/bin/false"}, False), (1000, {}, False)])
 def test_what_the_checks_install(root, tmp_path, user, settings, installs):
-    """Where something is missing, and only as root: all that bindings/apt.txt names, with a stand-in for apt-get; why it failed is said."""
+    """If something is missing, and only as root: everything that bindings/apt.txt names, with a stand-in for apt-get; a failure gives its reason."""
     apt = f'echo "$@" >>"{tmp_path}/calls"\ncase $* in *install*) echo "E: no network" && exit 100 ;; esac'
     path = only(tmp_path / "few", "sh", "bash", "env", "dirname", "tr", "cat", "grep", apt_get=apt, id=f"echo {user}")
     out = subprocess.run([root / "bindings/install"], env={"PATH": path, **settings}, capture_output=True, text=True)

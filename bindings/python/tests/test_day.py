@@ -1,4 +1,4 @@
-"""A day: more than 1,440 steps in one go, in parts that go on from one another; and roads of more than 64 cells, which the engine does not take."""
+"""A day: more than 1,440 steps in one study, in parts that go on from one another; and roads of more than 64 cells, which the engine refuses."""
 import csv
 import io
 from dataclasses import replace

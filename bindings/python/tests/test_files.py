@@ -213,7 +213,7 @@ def test_faults_are_told(road, name):
     assert said in str(caught.value) and (str(path) in str(caught.value) or "none.csv" in str(caught.value))
 
 
-# Rows of a CSV file, and what is said of them.
+# Rows of a CSV file, and their messages.
 CSV_FAULTS = {
     "a field": ("time,gate\n07:00,3000\n\n07:10,3OO0\n", "a.csv, row 4, column 'gate' is '3OO0', where a number is needed"),
     "an empty field": ("time,gate,Mill Street\n07:00,3000,\n", "a.csv, row 2, column 'Mill Street' is empty; write 0 where nothing came"),

@@ -1,4 +1,4 @@
-"""Studies, roads, records and runs as somebody who programs meets them: built from numbers, compared, printed, and never changed in silence."""
+"""Studies, roads, records and runs as a programmer uses them: built from numbers, compared, printed, and never changed silently."""
 import doctest
 import pickle
 from dataclasses import replace

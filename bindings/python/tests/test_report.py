@@ -1,4 +1,4 @@
-"""A report can be redone from itself: it states all that went into a study, has the study as a file, and its totals are those of that file's run."""
+"""A report can be redone from its own page: it states all inputs of a study, has the study as a file, and its totals are those of that file's run."""
 import html
 import re
 from dataclasses import replace

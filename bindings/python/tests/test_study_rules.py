@@ -1,4 +1,4 @@
-"""Study files leave nothing out in silence: every entry has arrivals, every ramp a law or a table, every name exists, and no input ends in a traceback."""
+"""Study files leave nothing out silently: every entry has arrivals, every ramp a law or a table, every name exists, and no input ends in a traceback."""
 import re
 
 import numpy as np
@@ -53,7 +53,7 @@ def write(tmp_path):
 
 
 def fault(path, *parts):
-    """A study that is no study: its fault names the folder and says all of these."""
+    """A faulty study: the message names the folder and has all of these words."""
     with pytest.raises(StudyError) as caught:
         load(path)
     said = str(caught.value)
@@ -191,7 +191,7 @@ def test_works_weights_and_length_with_a_table_beside_laws(write):
     assert a.outflow[30:60, 5].max() < a.outflow[:, 5].max()
 
 
-# A study beside a record.
+# A study next to a record.
 
 
 def test_a_study_beside_a_record(write, tmp_path):
@@ -205,7 +205,7 @@ def test_a_study_beside_a_record(write, tmp_path):
     assert law.laws.keys() == {2} and (law.run().record.rows[:, 8] == whole.run().record.rows[:, 8]).all()  # South as in the record
     exact = load(write(f'record = "r.rec"\n{cells}[releases]\nNorth = 0\ncap = false\n', road="")).run()
     assert exact.record.rows[:, 4].sum() == 0 and (exact.record.rows[:, 8] == whole.run().record.rows[:, 8]).all()
-    fault(write(f'record = "r.rec"\n{cells}[releases]\nNorth = 0\n', road=""), "South")  # a plan shuts nobody in silence
+    fault(write(f'record = "r.rec"\n{cells}[releases]\nNorth = 0\n', road=""), "South")  # a plan shuts no ramp silently
     for more, says in (("steps = 3\n", "`steps`"), ("[arrivals]\ngate = 0\n", "`arrivals`"), ("step = 30\n", "steps of 20 s"), ("[[cell]]\n", "1 times"), ("[gate]\ncapacity = 1\n", "`gate`")):
         fault(write('record = "r.rec"\n' + more, road=""), says)
     fault(write('record = "r.rec"\n' + cells.replace("lanes = 2", "speed = 2"), road=""), "cell 4: `speed`", "`record`")
@@ -298,7 +298,7 @@ def test_headings_of_any_name(write):
 
 
 def test_columns_choose_among_headings(write):
-    """Two columns of times, of places or of numbers: `columns` says which, and nothing is taken in silence."""
+    """Two columns of times, of places or of numbers: `columns` says which, and nothing is chosen silently."""
     want = load(write(LISTS, OPEN, name="l.toml")).record.rows
     rows = "".join(f"{30 * i * (1 if i < 2 else 1.5):g},{t},{d},x{d},{v},9\n" for i, (t, vs) in enumerate(ROWS) for d, v in zip(("gate", "North", "South"), vs))
     text = "step,Zeit,detector,station,flow,count\n" + rows
@@ -341,7 +341,7 @@ def test_counts_say_how_long_they_are(write):
 
 
 def test_rows_that_all_begin_before_the_study_are_noted(write):
-    """A start of 17:00 beside a file of the morning: one rate holds in every step, which is noted; so is a file's last day."""
+    """A start of 17:00 with a file of the morning: one rate holds in every step, and a note says so; so does one about a file's last day."""
     evening = TWO.replace('"07:00"', '"17:00"')
     for tables_, csv in (((LISTS,), {}), ((FILE,), {"a": WIDE}), ((FILE,), {"a": detectors(["gate", "North", "South"])})):
         s = load(write(*tables_, OPEN, road=evening, **csv))
@@ -351,7 +351,7 @@ def test_rows_that_all_begin_before_the_study_are_noted(write):
     assert not load(write(one, OPEN, road=evening)).notes  # one row is a constant, as it is written
 
 
-# A base's files are beside the base.
+# A base's files are next to the base.
 
 
 def test_files_of_a_base_are_beside_the_base(write, tmp_path):
@@ -386,7 +386,7 @@ def test_small_tables_are_merged_with_the_bases(write, tmp_path):
     assert s.weights == ([3, 1, 1, 1, 1, 1], [1, 2, 1, 2, 1])
 
 
-# Names and numbers that are passed over.
+# Names and numbers that were ignored.
 
 
 def test_nothing_is_passed_over(write):
