@@ -250,7 +250,7 @@ def records(page):
     page["mode-exercise"].click()
     page["own"].click()
     assert page.text("sheet-name") == "Own record: 2 cells, 3 steps"
-    assert not any(page[name].is_displayed() for name in ("seed", "cells", "steps")), "what draws a road is hidden beside a record"
+    assert not any(page[name].is_displayed() for name in ("seed", "cells", "steps")), "with a record, the controls that draw a road are hidden"
     page["mode-study"].click()
     page["file"].send_keys(str(ROOT / "examples/rocade-sud.rec"))
     page.until(lambda: page.text("last").startswith("total 294407512 "))

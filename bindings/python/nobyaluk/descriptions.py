@@ -51,7 +51,7 @@ def format_number(x: float) -> str:
 
 
 def format_rate(s: Study, parts: float) -> str:
-    """Return parts a step as veh/h, where a step's seconds are known."""
+    """Return parts a step as veh/h, or as vehicles a step if a step's seconds are unknown."""
     return (
         f"{format_number(parts * 3.6 / float(s.seconds))} veh/h"
         if s.seconds
@@ -60,7 +60,7 @@ def format_rate(s: Study, parts: float) -> str:
 
 
 def format_count(s: Study, cell: int, parts: float) -> str:
-    """Return parts in a cell as vehicles, and as a density where its length is known."""
+    """Return parts in a cell as vehicles, and as a density if its length is known."""
     more = (
         f" ({format_number(round(parts / 1000 / s.lengths[cell - 1], 3))} veh/km)"
         if s.lengths and s.lengths[cell - 1]

@@ -31,7 +31,7 @@ class FaultList:
         self.found: dict[str, list[int]] = {}
 
     def add(self, row: int | None, says: object) -> None:
-        """Add a fault of a row, or of the file where `row` is None.
+        """Add a fault of a row, or of the file if `row` is None.
 
         The message may begin with file and row.
         """

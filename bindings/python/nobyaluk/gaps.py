@@ -73,7 +73,7 @@ class Grid:
     names: list[str]
     columns: dict[str, str]  # of each place the heading of its numbers
     begins: list[Fraction]
-    rows: list[int]  # of each time its first row, or the row before it where it has none
+    rows: list[int]  # of each time its first row, or the row before it if it has none
     cells: dict[str, list[tuple[int, str] | None]]
     unit: str
 
@@ -268,7 +268,7 @@ def _regular(grid: Grid, rule: str, clock: Times, faults: FaultList) -> None:
         if span % interval or count > MOST_MISSING:
             faults.add(
                 grid.rows[k + 1],
-                f": {apart}; beside `gaps` rows are one interval apart, or a few of them",
+                f": {apart}; with `gaps` rows are a whole number of intervals apart",
             )
         elif rule == "fault":
             faults.hint = HINT

@@ -70,7 +70,7 @@ def _tqdm() -> Callable[..., Any] | None:
         from tqdm import tqdm
     except ImportError:
         return None
-    tqdm.monitor_interval = 0  # no thread of its own: processes are forked beside it
+    tqdm.monitor_interval = 0  # no own thread: processes are forked while it runs
     return tqdm
 
 

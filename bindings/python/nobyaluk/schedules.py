@@ -47,7 +47,7 @@ def parse_schedule(text: str, n: int, name: str = "schedule") -> np.ndarray:
             )
         if len(row) != n + 1 + counted:
             decimals = (
-                "; where a comma is the decimal sign, mind that outflows are whole parts"
+                "; if a comma is the decimal mark: outflows are whole parts"
                 if len(row) == 2 * (n + 1)
                 else ""
             )

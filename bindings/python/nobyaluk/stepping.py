@@ -35,7 +35,7 @@ _STATE = np.dtype(
 _BEGIN = [
     8,
     *range(10, 10 + 2 * engine.CELLS),
-]  # where a state's words have what a start has: the gate's queue, held counts and queues
+]  # the places of a start's numbers in a state: the gate's queue, held counts and queues
 
 
 class Stepper:
@@ -170,7 +170,7 @@ class MeteredStepper:
         self._own = {i: (int(kinds[i]), *numbers[i].tolist()) for i in self.by_law}
         self._rates = np.zeros(
             (engine.CELLS, 3)
-        )  # open where a law wishes, the plan's where there is one
+        )  # open at a ramp with a law, otherwise the plan's if there is one
         self._rates[self.by_law, 0] = engine.RATE
         if record.steps:
             self.walk.granted(

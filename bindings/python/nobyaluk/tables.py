@@ -254,7 +254,7 @@ class _Sheet:
     rows: list[tuple[int, list[str]]]
     faults: FaultList
     times: int = 0
-    day: int | None = None  # the column of the days, where they have one of their own
+    day: int | None = None  # the column of the days, if they have a separate one
 
     def second(self, row: list[str], number: int, clock: Clock) -> Fraction | None:
         """Return when a row begins; None after a fault."""
@@ -580,7 +580,7 @@ def _value(sheet: _Sheet, place: int, table: TomlTable, called: TomlTable) -> tu
         )
         unit = f" of unit {table.values['unit']!r}" if "unit" in table else ""
         raise StudyError(
-            f"{sheet.path}: beside `{heading[place]}` there is no column"
+            f"{sheet.path}: next to `{heading[place]}` there is no column"
             f" {', '.join(VALUES)}{unit}{more}"
         )
     return found[0], table.choice("unit", UNITS, VALUES[heading[found[0]]])

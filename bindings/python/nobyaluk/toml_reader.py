@@ -492,7 +492,7 @@ class StudyReader:
         self.called(c, i, ramp)
 
     def called(self, c: TomlTable, i: int, ramp: Any) -> None:
-        """Take a cell's name, its ramp's where it has one, and its lanes."""
+        """Take a cell's name, its ramp's name if it has one, and its lanes."""
         if ramp is not None:
             name = _name(c, "ramp", ramp)
             if name in self.ramps or name in tables.TAKEN:
@@ -856,7 +856,7 @@ class StudyReader:
             f"{w.where}: ramps",
             self.ramps,
         )
-        ramps = [1] * road.n  # also where there is no ramp
+        ramps = [1] * road.n  # also at cells without a ramp
         for name in each.values:
             ramps[self.ramps[name] - 1] = each.whole(name, high=255)
         return [w.whole("gate", 1, high=255), *places], ramps

@@ -54,7 +54,7 @@ def test_csv(examples, told, tmp_path):
 def test_judge(examples, told, tmp_path):
     status, out, _ = told("judge", examples / "classroom.rec", examples / "classroom-cut.schedule.csv", "--seconds", 36)
     assert (status, out) == (0, "accepted total 8123346 gate 1756916 road 6366430 ramp 0 exits 627782\n"
-                                "  81.23 vehicle-hours, where the engine's run has 30.00: it loses 51.23 (+170.8 %)\n"
+                                "  81.23 vehicle-hours, and the engine's run has 30.00: it loses 51.23 (+170.8 %)\n"
                                 "  it first differs at step 10, 6:00 min, cell 2: it sends 0.000 vehicles, and 20.000 could leave\n")
     run = load(examples / "printed-run.rec").run()
     np.savetxt(tmp_path / "own.csv", run.outflow, "%d", ",", header="gate,1,2", comments="")

@@ -152,7 +152,7 @@ def test_a_study_that_goes_on_and_a_long_one(examples, told, tmp_path):
 
 
 def test_the_source_keeps_what_the_record_does_not(examples, told, tmp_path):
-    """`convert road.toml road.rec`: the study beside the record is the source itself."""
+    """`convert road.toml road.rec`: the study next to the record is the source itself."""
     path = tmp_path / "road.toml"
     path.write_text(FULL + METERS["laws"])
     before = path.read_text()

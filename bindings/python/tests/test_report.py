@@ -138,7 +138,7 @@ def test_two_studies_of_one_file_name(examples, told, tmp_path):
 
 
 def test_a_record_without_seconds(examples, told, tmp_path):
-    """Its bytes are in the page, with a study beside them."""
+    """Its bytes are in the page, with a study next to them."""
     assert told("report", examples / "printed-run.rec", "-o", tmp_path / "r.html")[0] == 0
     assert told("redo", tmp_path / "r.html", "-o", tmp_path / "out")[0] == 0
     assert (tmp_path / "out/printed-run.rec").read_bytes() == (examples / "printed-run.rec").read_bytes()

@@ -107,7 +107,7 @@ fn numbers_past_the_limits_are_kept_where_that_is_meant() {
 /// Lines 1 to 3 of a sound text without its row.
 const HEAD: &str = "steps 1\ngate capacity 1\ncell v 1 w 1 b 0 jam 1 capacity 1\n";
 
-/// What follows the head, and what is said of it.
+/// What follows the head, and its message.
 const FAULTY: [(&str, &str); 48] = [
     ("lane 3", "line 4: unknown statement 'lane'"),
     ("row\nsteps 1", "line 5: 'steps' is given twice"),

@@ -166,7 +166,7 @@ fn the_search_finds_what_is_worked_out_of_random_numbers() {
     assert!(found > 300 && none > 300, "{found} {none}");
 }
 
-/// A large table obeys, and none of those that obey beside it has a smaller sum
+/// A large table obeys, and no other table that obeys has a smaller sum
 /// anywhere. Where there is none, no table that releases all it can obeys.
 #[test]
 fn large_tables_obey_and_are_the_least() {

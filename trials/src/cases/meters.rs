@@ -251,7 +251,7 @@ fn lists(cases: &mut Cases) {
     }
 }
 
-/// Each cap alone: queue and arrivals, supply, 1,000,000; and one beside it.
+/// Each cap alone: queue and arrivals, supply, 1,000,000; and one next to it.
 fn caps(cases: &mut Cases) {
     // Ramp 1 has 700 and 80 waiting, ramp 3 700 and 90; supplies 1500 and 500.
     for rate in [499.0, 500.0, 501.0, 779.0, 780.0, 781.0, 1e6, 1e18] {

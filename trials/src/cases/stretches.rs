@@ -338,7 +338,7 @@ fn limits_of_states(all: &mut Vec<Stretch>, dice: &mut Dice) {
     }
 }
 
-/// Each cell's entry at what it holds and past it, with 8 beside it; and past cell n.
+/// Each cell's entry at what it holds and past it, also together with 8; and past cell n.
 fn limits_of_entries(all: &mut Vec<Stretch>, dice: &mut Dice) {
     let draft = samples::three_cells();
     for steps in [0, 934, 1_438] {

@@ -1,4 +1,4 @@
-"""Pictures of the command line: matplotlib where it is installed, and figures saved."""
+"""Pictures of the command line: imports matplotlib if it is installed, and saves figures."""
 import os
 from pathlib import Path
 from types import ModuleType

@@ -188,7 +188,7 @@ def judge(args: argparse.Namespace) -> None:
         return
     more = f" ({100 * (w.total / b.total - 1):+.1f} %)" if b.total else ""
     print(
-        f"  {w.total:,.2f} {w.unit}, where the engine's run has {b.total:,.2f}:"
+        f"  {w.total:,.2f} {w.unit}, and the engine's run has {b.total:,.2f}:"
         f" it loses {w.total - b.total:,.2f}{more}"
     )
     print(

@@ -140,14 +140,14 @@ def run_sweep(
 
 
 def plan_sweep(s: Study, args: argparse.Namespace) -> Sweep:
-    """Return what is swept; files are read here, where a cluster may not see them."""
+    """Return what is swept; files are read here, because a cluster may not see them."""
     if args.load is not None:
         loads = parse_span(args.load, "--load", least=0)
         return Sweep(["load"], [loads], partial(partial, s.scaled))
     if args.vary is not None:
         return plan_variants(args)
     if args.peak is None:
-        raise StudyError("--seeds needs --peak, and --ramp-peak where the road has ramps, in veh/h")
+        raise StudyError("--seeds needs --peak, and --ramp-peak if the road has ramps, in veh/h")
     seeds = parse_span(args.seeds, "--seeds", whole_numbers=True, least=0, most=(1 << 32) - 1)
     peaks = parse_rate(s, args.peak, "--peak"), parse_ramp_peak(s, args.ramp_peak)
     return Sweep(["seed"], [seeds], lambda x: partial(s.with_stated_load, int(x), *peaks), peaks)

@@ -93,7 +93,7 @@ class Answer:
     file: str
     name: str = ""
     exercise: str = ""  # what it says of itself, as a sheet's last line
-    record: bytes | None = None  # the exercise itself, where the file has it
+    record: bytes | None = None  # the exercise itself, if the file has it
     outflows: list[list[Number | None]] = field(
         default_factory=list
     )  # a row a step: the gate, then each cell

@@ -52,13 +52,13 @@ def find_mistakes(e: Exercise) -> list[tuple[str, int]]:
 
 @dataclass
 class Mark:
-    """The mark of one answer; fields are empty where there is nothing to report."""
+    """The mark of one answer; a field is empty if there is nothing to report."""
 
     student: str
     file: str = ""
     exercise: str = ""
     outflows: str = ""  # in a few words
-    rule: str = ""  # the first broken rule, or where a schedule departs from the engine's run
+    rule: str = ""  # the first broken rule, or where a schedule differs from the engine's run
     cost: int | None = None  # the accepted schedule's total, in part-steps
     best: int | None = None  # the engine's
     states: str = ""
@@ -182,7 +182,7 @@ def _settled(columns: set[Column], vehicles: set[Column], large: set[Column]) ->
     for group in (table, columns - table):
         seen = (
             group & (vehicles | large) or vehicles | large
-        )  # where a group shows nothing, the other one
+        )  # if a group shows nothing, the other one
         if seen and seen <= vehicles:
             out |= group
     return out
@@ -212,7 +212,7 @@ def _fits(e: Exercise, columns: Mapping[Column, Sequence[Number]], vehicles: boo
 
 
 def _columns(e: Exercise, columns: Iterable[Column], vehicles: set[Column]) -> str:
-    """Return the columns in vehicles, in words; the table where all of it is."""
+    """Return the columns in vehicles, in words; `the table` if all columns are."""
     table = [column for column in columns if column[0] in TABLES]
     named = (
         ["the table"]
