@@ -57,7 +57,7 @@ class Filled:
     begin: str
     end: str
     rows: int
-    stood: str
+    original: str
     numbers: str
     rule: str
 
@@ -208,7 +208,7 @@ def _fill(
         if span.stop < len(grid.begins)
         else 2 * last - grid.begins[span.stop - 2] if span.stop > 1 else last
     )
-    stood = sorted(
+    original = sorted(
         {"no row" if (cell := grid.cells[name][k]) is None else cell[1] or "empty" for k in span}
     )
     if before is None or rule == "interpolate" and after is None:
@@ -218,11 +218,11 @@ def _fill(
         faults.add(
             grid.rows[span.start],
             (
-                f": {name!r} has no number from {begin} to {end} ({', '.join(stood)}), and there is"
-                f" none {lacks}; write numbers there"
+                f": {name!r} has no number from {begin} to {end} ({', '.join(original)}), and there"
+                f" is none {lacks}; write numbers there"
             ),
         )
-        return Filled(grid.path, name, begin, end, len(span), ", ".join(stood), "", rule)
+        return Filled(grid.path, name, begin, end, len(span), ", ".join(original), "", rule)
     a = grid.known(name, before) or Fraction(0)
     line = [a] * len(span)
     if rule == "interpolate" and after is not None:
@@ -237,7 +237,7 @@ def _fill(
         begin,
         end,
         len(span),
-        ", ".join(stood),
+        ", ".join(original),
         " to ".join(dict.fromkeys(numbers)),
         rule,
     )
@@ -330,7 +330,7 @@ def gap_notes(path: str, filled: list[Filled], rows: int) -> list[str]:
     out = []
     for name in dict.fromkeys(x.name for x in filled):
         own = [x for x in filled if x.name == name]
-        spans = ", ".join(f"{x.begin} to {x.end} ({x.stood}: {x.numbers})" for x in own[:LISTED])
+        spans = ", ".join(f"{x.begin} to {x.end} ({x.original}: {x.numbers})" for x in own[:LISTED])
         more = f", and {len(own) - LISTED} more, which a report lists" if len(own) > LISTED else ""
         count = sum(x.rows for x in own)
         out.append(

@@ -67,8 +67,8 @@ def _picture(study: Study, run: StudyRun) -> str:
 def study_html(study: Study) -> str:
     """Return a study's road, arrivals and meters; it is not run."""
     rows = study.record.rows.astype(np.int64)
-    told = [("length", f"{sum(study.lengths):,.3f} km")] if study.lengths else []
-    told.append(("arrivals at the gate", f"{rows[:, 0].sum() / 1000:,.1f} vehicles"))
+    lines = [("length", f"{sum(study.lengths):,.3f} km")] if study.lengths else []
+    lines.append(("arrivals at the gate", f"{rows[:, 0].sum() / 1000:,.1f} vehicles"))
     for name, cell in list(study.ramps.items())[:12]:
         law = study.laws.get(cell)
         meter = (
@@ -78,12 +78,12 @@ def study_html(study: Study) -> str:
                 law[0] if law else "at most a plan" if study.plan is not None else "stated releases"
             )
         )
-        told.append(
+        lines.append(
             (
                 f"on-ramp {make_legible(name, 40)} (cell {cell})",
                 f"{rows[:, 2 * cell - 1].sum() / 1000:,.1f} vehicles, {meter}",
             )
         )
     if len(study.ramps) > 12:
-        told.append((f"and {len(study.ramps) - 12} on-ramps", ""))
-    return f"<div>{_head(study)}{_table(told)}</div>"
+        lines.append((f"and {len(study.ramps) - 12} on-ramps", ""))
+    return f"<div>{_head(study)}{_table(lines)}</div>"

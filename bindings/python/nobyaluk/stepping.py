@@ -88,7 +88,7 @@ class Stepper:
 
     @property
     def before(self) -> State:
-        """The state before the next step; at a part's start its steps and outflows are 0."""
+        """The state before the next step; at a part's start no step is done and nothing sent."""
         new = self.states and self.done % engine.STEPS == 0
         return start_anew(self.state) if new else self.state
 

@@ -173,14 +173,14 @@ def _cells(s: Study, whole: bool) -> list[str]:
                 if x
             )
             seen = descriptions.cell_in_field_units(s, i)
-            told = (
+            comment = (
                 f"    # {seen[1]} km/h, wave {seen[2]} km/h, {seen[3]} veh/km, {seen[4]} veh/h"
                 if seen
                 else ""
             )
             out.append(
                 f"parts = {{ v = {r.speed[i]}, w = {r.wave[i]}, b = {r.share[i]}, J = {r.jam[i]}, C"
-                f" = {r.capacity[i]}{more} }}{told}"
+                f" = {r.capacity[i]}{more} }}{comment}"
             )
     return out
 

@@ -500,13 +500,13 @@ def _detectors(
     Other columns are ignored.
     """
     path, (what, unit) = sheet.path, _value(sheet, at, table, called)
-    stands = _stands(sheet, at, called, entries)
+    meanings = _meanings(sheet, at, called, entries)
     named = any(
-        x in stands and name in (*entries, LEFT_OUT) for x, name in called.values.items()
+        x in meanings and name in (*entries, LEFT_OUT) for x, name in called.values.items()
     )  # then detectors without a name are ignored
     kept = []
     for number, row in sheet.rows:
-        if stands[row[at]] in entries:
+        if meanings[row[at]] in entries:
             kept.append((number, row))
         elif not named:
             more = f"`columns` can name what each detector counts{suggest(row[at], entries)}"
@@ -517,7 +517,7 @@ def _detectors(
     found: dict[str, dict[Fraction, tuple[int, str]]] = {}
     where: dict[Fraction, int] = {}
     for number, row in kept:
-        begin, name = sheet.second(row, number, clock), stands[row[at]]
+        begin, name = sheet.second(row, number, clock), meanings[row[at]]
         there = found.setdefault(name, {})
         if begin is not None and begin in there:
             sheet.faults.add(number, f": {name!r} has a row for {row[sheet.times]} already")
@@ -526,7 +526,7 @@ def _detectors(
             where.setdefault(begin, number)
     begins, names = sorted(where), [x for x in entries if x in found]
     cells = {name: [found[name].get(begin) for begin in begins] for name in names}
-    others = [x for x, name in stands.items() if name not in entries]
+    others = [x for x, name in meanings.items() if name not in entries]
     return (
         Grid(
             str(path),
@@ -541,7 +541,7 @@ def _detectors(
     )
 
 
-def _stands(sheet: _Sheet, at: int, called: TomlTable, entries: list[str]) -> dict[str, str]:
+def _meanings(sheet: _Sheet, at: int, called: TomlTable, entries: list[str]) -> dict[str, str]:
     """Return what each detector of a file counts.
 
     Every name in `columns` is a heading or a detector.

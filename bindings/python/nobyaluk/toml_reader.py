@@ -153,7 +153,7 @@ def read_source(path: Path, depth: int = 0) -> StudySource:
 def _over(base: Any, own: Any) -> Any:
     """Return a table merged with the base's, key by key.
 
-    If either has the engine's own numbers, it replaces the base's as a whole.
+    If either has the engine's own numbers, the table replaces the base's as a whole.
     """
     if not isinstance(base, dict) or not isinstance(own, dict) or "parts" in base or "parts" in own:
         return own
@@ -269,7 +269,7 @@ class StudyReader:
         else:
             self.seconds = Fraction(self.of("step").whole("step", low=1, high=engine.SECONDS))
             self.steps = self.number_of_steps()
-            self.tell_time()
+            self.set_clock()
             road, start = self.road()
             rows = self.arrivals(road)
         plan, tabled = self.releases(road, rows)
@@ -327,7 +327,7 @@ class StudyReader:
             )
         return steps
 
-    def tell_time(self) -> None:
+    def set_clock(self) -> None:
         """Set the clock, and the clock time of step 0 if the study has one."""
         self.start: Fraction | None = None
         day = zone = None
@@ -369,9 +369,9 @@ class StudyReader:
                     "step", f"is {step}, and {path.name} has steps of {self.seconds} s"
                 )
             self.seconds = step
-        elif self.seconds is None and self.asks_seconds():
+        elif self.seconds is None and self.needs_seconds():
             raise self.of("record").fault("step", f"is missing: {path.name} has no step's seconds")
-        self.tell_time()
+        self.set_clock()
         cells = self.several("cell") or [TomlTable({}, "") for _ in range(road.n)]
         if len(cells) != road.n:
             raise self.of("cell").fault(
@@ -393,7 +393,7 @@ class StudyReader:
             self.called(c, i, c.values.get("ramp", str(i + 1)) if road.ramp[i] else None)
         return road, record.begin, record.rows.copy()
 
-    def asks_seconds(self) -> bool:
+    def needs_seconds(self) -> bool:
         """Return whether laws or releases need a step's seconds."""
         laws, table = self.top.values.get("meter", {}), self.top.values.get("releases", {})
         own = lambda x: isinstance(x, dict) and ("parts" in x or x.get("law") == "open")

@@ -259,7 +259,7 @@ class Page(HTMLParser):
                 pass
 
 
-def test_a_report_stands_alone(five, tmp_path):
+def test_a_report_needs_no_other_file(five, tmp_path):
     text = report.make_page(five, "Five <cells>")
     page = Page()
     page.feed(text)

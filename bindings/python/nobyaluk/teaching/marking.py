@@ -549,7 +549,7 @@ def marks_page(marks: Sequence[Mark], title: str) -> str:
         body.append(f"<tr{' class=fault' if m.fault else ''}>{tds}</tr>")
     read = [m for m in marks if not m.fault]
     outflows, totals = sum(m.outflows == "right" for m in read), sum(bool(m.right) for m in read)
-    told = (
+    counts = (
         f"{len(marks)} students or files: {len(read)} marked, {outflows} with right outflows,"
         f" {totals} with the right total. Times are in thousandths of a vehicle × steps."
     )
@@ -568,5 +568,5 @@ def marks_page(marks: Sequence[Mark], title: str) -> str:
     )
     return (
         f"<!doctype html><html lang=en><head>{head}</head><body><h1>{html.escape(title)}</h1><p"
-        f" class=note>{told}</p>{table}<p class=note>{proof}</p></body></html>\n"
+        f" class=note>{counts}</p>{table}<p class=note>{proof}</p></body></html>\n"
     )
