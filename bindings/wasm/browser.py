@@ -216,7 +216,7 @@ def verdicts(page):
     page["open-box"].click()
     page.until(lambda: "times its critical" in page["map-open"].get_attribute("aria-label"), "the picture with open meters")
     assert page["map-open"].get_attribute("aria-label") != page["map"].get_attribute("aria-label")
-    assert "Together it is a loss" in page.text("verdict") and "would call it a gain" in page.text("verdict"), page.text("verdict")
+    assert "Together it is a loss" in page.text("verdict") and "would look like a gain" in page.text("verdict"), page.text("verdict")
 
 
 def records(page):
@@ -426,7 +426,7 @@ def paper(page):
         page.driver.execute_cdp_cmd("Emulation.setEmulatedMedia", {"media": ""})
         page.driver.execute_cdp_cmd("Emulation.clearDeviceMetricsOverride", {})
         assert len(wide) == 7 and max(wide) <= 680, f"{lang}: tables end at {wide} of 680 px"
-    assert key.startswith("Question four: key") and all(x in key for x in asked) and "Of everyone in the system" in key and numbers <= {*cells, "0"}, numbers - {*cells}
+    assert key.startswith("Question four: key") and all(x in key for x in asked) and "That of everyone in the system" in key and numbers <= {*cells, "0"}, numbers - {*cells}
 
 
 def graded(page):
@@ -596,7 +596,7 @@ def main():
                 assert not errors, f"{part.__name__}: the console says {errors}"
         finally:
             page.driver.quit()
-    print(f"page: in Chromium {len(SETTINGS)} settings, every example's record and three exercises are as the command line has them ({time.time() - began:.0f} s)")
+    print(f"page: in Chromium {len(SETTINGS)} settings, every example's record and three exercises agree with the command line ({time.time() - began:.0f} s)")
 
 
 if __name__ == "__main__":
