@@ -1,4 +1,4 @@
-# One word for each thing to do here; each is a script that can be called by itself.
+# One target for each task; each calls a script that also works by itself.
 PYTHON ?= /usr/bin/python3
 .PHONY: help prove test check page wheel bench docs release
 
@@ -8,12 +8,12 @@ help: ## this list
 prove: ## proves every crate that has changed since it was last proved
 	rt check
 
-test: ## tests all that is beside the proofs: reference, programs, C, Rust, Python, WebAssembly, the page in a browser
+test: ## tests everything except the proofs: reference, programs, C, Rust, Python, WebAssembly, the page in a browser
 	cargo test --quiet --offline --manifest-path reference/Cargo.toml
 	./run examples/printed-run.rec >/dev/null && ./run --exercise examples/printed-run.rec >/dev/null
 	bindings/check
 
-check: ## the checks that a change must pass before it lands: proofs from nothing, wrong programs, all tests; about 47 minutes
+check: ## the checks that a change must pass before it lands: proofs from nothing, wrong programs, all tests; about 35 minutes
 	.ci/run
 
 page: ## target/wasm/nobyaluk.html, one file for a browser
@@ -24,7 +24,7 @@ wheel: ## target/python: wheel and source archive
 	bindings/build --unless-built
 	$(PYTHON) -m build --no-isolation --outdir target/python bindings/python
 
-bench: ## the engine beside Rust and C: compared, then timed
+bench: ## compares the engine with Rust and C, then times them
 	bench/run
 
 docs: ## writes docs/contracts.txt, the version and the pictures; compares the documents with the sources
@@ -34,5 +34,5 @@ docs: ## writes docs/contracts.txt, the version and the pictures; compares the d
 	bindings/build --unless-built && bindings/pictures
 	tools/documents && tools/definitions && tools/refusals
 
-release: ## dist/, all that a user takes, of a clean tree that is proved and tested
+release: ## dist/ with all packages, from a clean tree that is proved and tested
 	./release

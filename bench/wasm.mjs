@@ -1,4 +1,4 @@
-// The engine in WebAssembly beside the same engine on x86-64: the answers on all records of bench/run first, then the times.
+// Compares the engine in WebAssembly with the same engine on x86-64: the answers on all records of bench/run first, then the times.
 // node bench/wasm.mjs PROGRAM MODULE, where PROGRAM is bench's own, which gives the native answers and times.
 import fs from 'fs';
 import { spawn } from 'child_process';
@@ -15,7 +15,7 @@ const answer = first, list = answer + 4096, record = list + 65536;
 const bytes = (at, count) => new Uint8Array(wasm.memory.buffer, at, count);
 const run = (at, size, count) => wasm.nobyaluk_run(answer, at, BigInt(size), at, 0n, list, BigInt(count));
 
-// Parts of a process's output: so many bytes, or those after their count.
+// Parts of a process's output: a given number of bytes, or those after their count.
 class Output {
   constructor(...words) {
     this.process = spawn(program, words, { stdio: ['pipe', 'pipe', 'inherit'] });

@@ -1,12 +1,12 @@
 # shellcheck shell=sh disable=SC2154
-# What ./run, bindings/build and bindings/wasm/build share: the one lock, how long it takes, the lines of progress, and the prover's verdict on a program or
-# on the archive. They source it in the repository's root, in sh or bash, with `who` set to the word before their messages.
+# Shared by ./run, bindings/build and bindings/wasm/build: the one lock, the time that it takes, the lines of progress, and the prover's verdict on a
+# program or on the archive. They source it in the repository's root, in sh or bash, with `who` set to the word before their messages.
 
-# Waits until no other proves and builds in this checkout, where flock is there to tell. The lock ends with the process that took it.
+# Waits until no other process proves and builds in this checkout, if flock is installed. The lock ends with the process that took it.
 lock() {
     command -v flock >/dev/null || return 0
     exec 9<crates
-    flock -n 9 || { echo "$who: another proves and builds here; this one waits for it" >&2 && flock 9; }
+    flock -n 9 || { echo "$who: another process proves and builds here; this one waits for it" >&2 && flock 9; }
 }
 
 # How long a first build takes: some eight minutes of one processor, shared by two. Measured on 17 November 2026.
@@ -18,7 +18,7 @@ about() {
     esac
 }
 
-# estimate CRATE: says what is proved and built now, and how long that takes.
+# estimate CRATE: prints what is proved and built now, and how long that takes.
 estimate() {
     all=$(bindings/sources "$1" | grep -c '/src$')
     proved=$(find target/stamp -type f 2>/dev/null) || true
@@ -29,7 +29,7 @@ estimate() {
     fi
 }
 
-# progress CRATE LOG: reads rt's lines, adds them to LOG, and passes on one for each crate as it is proved, with its place among all.
+# progress CRATE LOG: reads rt's lines, adds them to LOG, and prints one for each crate as it is proved, with its place among all.
 progress() {
     all=$(bindings/sources "$1" | grep -c '/src$')
     count=0
@@ -43,8 +43,8 @@ progress() {
     done
 }
 
-# prove CRATE LOG [LEADER]: proves a crate, with progress. It fails, with rt's lines on standard error, where the crate is not proved.
-# LEADER starts rt: setsid gives it a process group of its own, whose number is in LOG.group, for whoever must end it with all that it has started.
+# prove CRATE LOG [LEADER]: proves a crate, with progress. It fails, with rt's lines on standard error, if the crate is not proved.
+# LEADER starts rt: setsid gives it its own process group, whose number is in LOG.group, so that it can be ended with everything that it has started.
 prove() {
     rm -f "$2.failed"
     : >"$2"

@@ -1,4 +1,4 @@
-//! Compiles src/limit.c for x86-64 without extensions, as the engine is: by the compiler that CC names, by clang where there is one,
+//! Compiles src/limit.c for x86-64 without extensions, as the engine is: by the compiler that CC names, by clang if it is installed,
 //! or by cc.
 use std::env;
 use std::path::PathBuf;

@@ -22,7 +22,7 @@ impl Refusals {
     fn exactly(&self, wanted: &[u64]) -> Result<String, String> {
         let seen: Vec<u64> = self.0.keys().copied().collect();
         if seen != wanted {
-            return Err(format!("not every refusal was met: {seen:?}"));
+            return Err(format!("not every refusal occurred: {seen:?}"));
         }
         let counts = |(number, count): (&u64, &u32)| format!("{number}: {count}");
         let counts: Vec<String> = self.0.iter().map(counts).collect();
@@ -63,7 +63,7 @@ fn compare_runs(record: &[u8], length: usize) -> Result<u64, String> {
     Ok(engine.refusal[0])
 }
 
-/// A record's cells and steps, as its header says, where they are within the limits.
+/// A record's cells and steps from its header, if they are within the limits.
 fn size(record: &[u8]) -> Option<(usize, usize)> {
     let [_, _, _, _, _, n, high, low, ..] = *record else {
         return None;
@@ -72,7 +72,7 @@ fn size(record: &[u8]) -> Option<(usize, usize)> {
     ((1..=CELLS).contains(&n) && (1..=STEPS).contains(&steps)).then_some((n, steps))
 }
 
-/// No table of lanes, one with some lanes closed, one of a wrong length, or one with a byte drawn anew.
+/// No table of lanes, one with some lanes closed, one of a wrong length, or one with a byte drawn again.
 fn draw_lanes(record: &[u8], draws: &mut Draws) -> Vec<u8> {
     let (Some((n, steps)), kind @ 0..=6) = (size(record), draws.draw(9)) else {
         return vec![];
@@ -89,7 +89,7 @@ fn draw_lanes(record: &[u8], draws: &mut Draws) -> Vec<u8> {
     lanes
 }
 
-/// What goes with a record: lanes and weights as drawn, and the laws of the road of so many cells.
+/// What goes with a record: lanes and weights as drawn, and the laws of a road of this many cells.
 fn draw_besides(record: &[u8], draws: &mut Draws) -> Besides {
     let lanes = draw_lanes(record, draws);
     let mut weight = |_| draws.draw(255) as u8;
@@ -103,7 +103,7 @@ fn draw_besides(record: &[u8], draws: &mut Draws) -> Besides {
     }
 }
 
-/// The engine's runs and fillings with what they can take and give besides, and straightforward Rust; gives the run's refusal.
+/// The engine's runs and fillings with all further arguments and answers, and straightforward Rust; gives the run's refusal.
 fn compare_besides(record: &[u8], length: usize, besides: &Besides) -> Result<u64, String> {
     let asked = |call: &dyn Fn(&mut [u8], &mut [u32]) -> Tally| {
         let (mut changed, mut list) = (record.to_vec(), vec![UNTOUCHED; length]);
@@ -143,7 +143,7 @@ fn put(record: &[u8], at: usize, number: u32) -> Vec<u8> {
     changed
 }
 
-/// One byte or one number of a record drawn anew, or its end cut off, with a first field that fits or doesn't.
+/// One byte or one number of a record drawn again, or its end cut off, with a first field that fits or doesn't.
 fn spoil(record: &[u8], draws: &mut Draws) -> Vec<u8> {
     let mut changed = record.to_vec();
     let last = changed.len() as u32 - 1;
@@ -208,7 +208,7 @@ pub fn each_record(
     Ok(())
 }
 
-/// Compares, and says how many records there were, by refusal.
+/// Compares, and prints how many records there were, by refusal.
 pub fn compare_all() -> Result<String, String> {
     let (mut plain, mut extended) = (Refusals::default(), Refusals::default());
     let mut draws = Draws(SEED);

@@ -1,4 +1,4 @@
-//! The straightforward program with what running and filling can take and give besides: a table of lanes, weights, the longest
+//! The straightforward program with the further arguments and answers of running and filling: a table of lanes, weights, the longest
 //! queues, and releases filled by ALINEA. It is compared with the engine, and not timed.
 use crate::programs::Besides;
 use crate::straight;
@@ -6,7 +6,7 @@ use nobyaluk::{Law, Refusal as Why, Weights};
 use rules::{check_releases, move_on, nothing, read, refuse, write_outflows};
 use rules::{Refusal, Road, Row, State, Study, CELLS, RATE};
 
-/// The straightforward program once more: of functions with two callers the compiler would inline fewer into the one that is timed.
+/// The straightforward program once more: with two callers, the compiler would inline fewer functions into the one that is timed.
 #[path = "straight.rs"]
 #[allow(dead_code, clippy::duplicate_mod)]
 mod rules;
@@ -152,7 +152,7 @@ fn release(road: &Road, state: &State, row: &Row, i: usize, last: u32, law: Law)
     let wish = f64::from(last) + gain * (target - f64::from(state.held[i]));
     let most = state.queue[i] + row.arrivals(i);
     let cap = most.min(road.supply(i, state.held[i])).min(RATE);
-    (wish as u32).min(cap) // its whole part, and 0 where it is negative
+    (wish as u32).min(cap) // its whole part, and 0 if it is negative
 }
 
 /// Fills a record's releases by ALINEA, and runs it. Of the refusals of running, 9 and 10 do not apply to the releases it had.

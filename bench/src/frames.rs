@@ -1,4 +1,4 @@
-//! The engine's native answers and times for another process, `bench/wasm.mjs`, which sets WebAssembly beside them. Numbers are
+//! The engine's native answers and times for another process, `bench/wasm.mjs`, which compares WebAssembly with them. Numbers are
 //! little-endian, as in the module's memory.
 use crate::compare::{each_record, UNTOUCHED};
 use crate::load::{record, PEAK, SEED};

@@ -56,7 +56,7 @@ pub fn road(n: usize) -> Road {
     road
 }
 
-/// What that road starts from.
+/// The start of that road.
 fn start(n: usize) -> Start {
     let mut start = Start {
         gate_queue: 10_000,
@@ -108,7 +108,7 @@ pub fn closures(n: usize, steps: usize) -> Vec<u8> {
     std::iter::repeat_n(BUILT, n).chain(rows).collect()
 }
 
-/// What the engine's runs and fillings of that road take besides: a table of lanes, its laws, and weights that fall from place to place.
+/// The further arguments of the engine's runs and fillings of that road: a table of lanes, its laws, and weights that fall from place to place.
 pub fn besides(n: usize, lanes: Vec<u8>) -> Besides {
     Besides {
         lanes,
@@ -120,7 +120,7 @@ pub fn besides(n: usize, lanes: Vec<u8>) -> Besides {
     }
 }
 
-/// The record of a seed, a peak, n cells and T steps, or the refusal that writing, loading or filling meets.
+/// The record of a seed, a peak, n cells and T steps, or the refusal of writing, loading or filling.
 pub fn record(seed: u32, peak: u32, n: usize, steps: usize) -> Result<Vec<u8>, Refused> {
     record_under(seed, peak, n, steps, &[])
 }
@@ -134,7 +134,7 @@ pub fn record_under(
     lanes: &[u8],
 ) -> Result<Vec<u8>, Refused> {
     let road = road(n);
-    // beyond the limits there are no rows, and writing refuses n or T before it looks for them
+    // beyond the limits there are no rows, and writing refuses n or T before it reads them
     let within = (1..=CELLS).contains(&n) && (1..=STEPS).contains(&steps);
     let rows = if within {
         rows(seed, peak, n, steps)?

@@ -1,4 +1,4 @@
-//! The proved engine beside straightforward Rust, tuned Rust and an expert's C. First all are compared, then timed.
+//! Compares the proved engine with straightforward Rust, tuned Rust and an expert's C, then times all of them.
 //!
 //! `bench` compares and times; `bench --compare-only` only compares; `bench record SEED PEAK N T` writes such a record to
 //! standard output; `bench calls engine|straight|tuned|c|lanes|weights|longest|fill|fill-longest N T COUNT` makes that many calls on
@@ -50,7 +50,7 @@ fn turns(n: &str, steps: &str) -> Result<(), String> {
     frames::take_turns(number(n)?, number(steps)?)
 }
 
-/// A word as a number of the kind that is asked for.
+/// A word as a number of the wanted type.
 fn number<T: FromStr>(word: &str) -> Result<T, String> {
     word.parse().map_err(|_| format!("not a number: {word}"))
 }

@@ -1,5 +1,5 @@
-//! The programs that are compared and timed: the engine, and three that it is measured by; the engine with what running and filling
-//! can take and give besides.
+//! The programs that are compared and timed: the engine, and three others; the engine with the further arguments and answers of
+//! running and filling.
 use crate::{extended, straight, tuned};
 use nobyaluk::{lent, Ended, Law, Longest, Weighed, Weights, CELLS};
 use std::hint::black_box;
@@ -21,7 +21,7 @@ pub const ENGINE: Program = Program {
     answer: |record, list| of_boundary(lent::run(record, &[], list).value),
 };
 
-/// What the engine is measured by.
+/// The programs that the engine is compared with.
 pub const OTHERS: [Program; 3] = [
     Program {
         name: "straightforward Rust",
@@ -45,14 +45,14 @@ pub const OTHERS: [Program; 3] = [
     },
 ];
 
-/// What running and filling take besides a record and a list.
+/// The arguments of running and filling in addition to a record and a list.
 pub struct Besides {
     pub lanes: Vec<u8>,
     pub weights: Weights,
     pub laws: Vec<Law>,
 }
 
-/// What the engine answers to a run or a filling.
+/// The engine's answer to a run or a filling.
 #[allow(clippy::large_enum_variant)] // there is one at a time
 pub enum Answered {
     Plain(Ended),
@@ -119,7 +119,7 @@ fn whole(ended: straight::Ended) {
     black_box(ended);
 }
 
-/// What a program answers, in one form.
+/// A program's answer, in one form.
 #[derive(Debug, PartialEq)]
 pub struct Answer {
     pub refusal: [u64; 3],
@@ -180,7 +180,7 @@ fn of_boundary(ended: Ended) -> Answer {
 }
 
 /// An answer with the weighted total and the longest queues (of the gate, of the gate without the step's arrivals, of each ramp),
-/// where they are asked for.
+/// if they are asked for.
 pub struct Tally {
     pub answer: Answer,
     weighted: Option<u64>,
@@ -209,7 +209,7 @@ impl Tally {
         }
     }
 
-    /// Whether all that was asked for is the same in one that has all.
+    /// Whether everything that was asked for is the same as in an answer that has all.
     pub fn agrees(&self, whole: &Tally) -> bool {
         self.answer == whole.answer
             && (self.weighted.is_none() || self.weighted == whole.weighted)

@@ -172,7 +172,7 @@ impl Row<'_> {
     }
 }
 
-/// Reads one cell, or says that it is out of its limits.
+/// Reads one cell, or reports that it is out of its limits.
 fn read_cell(bytes: &[u8], i: usize, road: &mut Road, state: &mut State) -> bool {
     let (speed, wave, share) = (u16_at(bytes, 0), u16_at(bytes, 2), u16_at(bytes, 4));
     road.speed[i] = u32::from(speed);
@@ -295,7 +295,7 @@ pub fn move_on(road: &Road, state: &mut State, row: &Row, outflows: &[u32]) {
     state.ramp_time += sum(&state.queue[..n]);
 }
 
-/// Runs a record and writes its outflows, a row of n + 1 numbers a step.
+/// Runs a record and writes its outflows, one row of n + 1 numbers per step.
 pub fn run(record: &[u8], list: &mut [u32]) -> Ended {
     let Study {
         road,

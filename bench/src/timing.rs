@@ -13,11 +13,11 @@ const ROUNDS: usize = 4_000;
 pub const RECORDS: u32 = 8;
 /// How often each program runs all loads of the study.
 const PASSES: usize = 15;
-/// At each size, the ratios to straightforward Rust and to C that are aimed for, and the instructions a step-cell.
+/// For each size, the target ratios to straightforward Rust and to C, and the target instructions per step and cell.
 const BARS: [(f64, f64, f64); SIZES.len()] =
     [(0.35, 1.3, 55.0), (0.35, 1.3, 60.0), (0.38, 1.3, 80.0)];
 
-/// What the calls of one size are given: the records, and what goes with them; the same with lanes closed, under which their records
+/// The arguments of the calls of one size: the records, and what goes with them; the same with lanes closed, under which their records
 /// were filled.
 struct Given {
     length: usize,
@@ -43,7 +43,7 @@ impl Given {
 /// A call of one program on the record of a number.
 type Call<'a> = Box<dyn FnMut(usize) + 'a>;
 
-/// The engine's run and those of the others, each with a list of its own.
+/// The engine's run and those of the others, each with its own list.
 fn runs<'a>(records: &'a [Vec<u8>], length: usize) -> impl Iterator<Item = Call<'a>> {
     std::iter::once(ENGINE).chain(OTHERS).map(move |program| {
         let mut list = vec![0; length];
@@ -51,7 +51,7 @@ fn runs<'a>(records: &'a [Vec<u8>], length: usize) -> impl Iterator<Item = Call<
     })
 }
 
-/// The engine's other runs and fillings, each with a list and records of its own; filling writes the releases that a record already has.
+/// The engine's other runs and fillings, each with its own list and records; filling writes the releases that a record already has.
 fn variants(given: &Given) -> impl Iterator<Item = Call<'_>> {
     VARIANTS.into_iter().map(|variant| {
         let (records, besides) = if variant.closed {
@@ -109,7 +109,7 @@ fn least(times: impl Iterator<Item = Duration>) -> f64 {
     times.min().map_or(0.0, |time| time.as_nanos() as f64)
 }
 
-/// A line of the table: nanoseconds a step-cell, microseconds a call, and instructions a step-cell.
+/// A line of the table: nanoseconds per step and cell, microseconds per call, and instructions per step and cell.
 fn print_line(name: &str, time: f64, cells: f64, counted: Option<f64>) {
     let counted = counted.map_or("-".into(), |count| format!("{count:.1}"));
     let (cell, call) = (time / cells, time / 1e3);
@@ -123,7 +123,7 @@ fn within(name: &str, value: f64, bar: f64) -> String {
 
 /// The median of each call's times, over the records in turn.
 fn medians(mut calls: Vec<Call>) -> Vec<f64> {
-    // each record as often as there are calls, since a round begins one call later than the round before
+    // each record as often as there are calls, because a round begins one call later than the round before
     let turns = calls.len();
     let order = (0..ROUNDS).map(|round| round / turns % RECORDS as usize);
     let times = interleaved(&mut calls, order);
@@ -137,7 +137,7 @@ fn time_size(size: usize) -> Result<Vec<f64>, Refused> {
     let mut times = medians(runs(&given.plain.0, given.length).collect());
     let beside = runs(&given.plain.0, given.length).take(1);
     let variants = medians(beside.chain(variants(&given)).collect());
-    // the variants' times as if the run had taken as long beside them as it took beside the others
+    // the variants' times, scaled as if the run had taken as long among them as it took among the others
     let scale = times[0] / variants[0];
     times.extend(variants[1..].iter().map(|time| time * scale));
 
@@ -157,7 +157,7 @@ fn time_size(size: usize) -> Result<Vec<f64>, Refused> {
     Ok(ratios)
 }
 
-/// The ratios engine / other and the instructions, each beside its bar where it has one.
+/// The ratios engine / other and the instructions, each with its target if it has one.
 fn print_bars(size: usize, ratios: &[f64], instructions: Option<f64>) {
     let (bar_straight, bar_c, bar_instructions) = BARS[size];
     println!(
@@ -184,8 +184,8 @@ fn print_variants(times: &[f64]) {
     }
 }
 
-/// A thousand loads over one road, one after the other, as a study has them. Of each load the least of several passes counts, so
-/// that an interruption spoils one load of one pass.
+/// A thousand loads over one road, one after the other, as in a study. For each load the least time of several passes counts, so
+/// an interruption affects only one load of one pass.
 fn time_study() -> Result<(), Refused> {
     let (n, steps) = SIZES[0];
     let records: Vec<Vec<u8>> = LOADS
@@ -245,7 +245,7 @@ pub fn make_calls(program: &str, n: &str, steps: &str, count: &str) -> Result<()
     Ok(())
 }
 
-/// Instructions a step-cell, as callgrind counts them: those of many calls less those of none; none where valgrind isn't installed.
+/// Instructions per step and cell, as callgrind counts them: those of many calls less those of none; none if valgrind isn't installed.
 fn instructions(program: &str, n: usize, steps: usize) -> Option<f64> {
     const COUNT: usize = 20;
     let whole = |count: usize| -> Option<f64> {

@@ -1,5 +1,5 @@
-//! The straightforward program, tuned by ideas of the engine: the rooms that the look at the releases finds are kept for the outflows,
-//! a share of 1,000 takes no division, and what is on the road and at the ramps is added up along the move.
+//! The straightforward program with three ideas of the engine: the rooms from the check of the releases are kept for the outflows,
+//! a share of 1,000 takes no division, and what is on the road and at the ramps is summed during the move.
 use crate::straight::{nothing, outflow, part, read, refuse};
 use crate::straight::{Ended, Road, Row, State, Study, CELLS, WHOLE};
 use nobyaluk::Refusal as Why;
@@ -61,7 +61,7 @@ fn move_on(road: &Road, state: &mut State, row: &Row, outflows: &[u32]) {
     state.gate_time += u64::from(state.gate_queue);
 }
 
-/// Runs a record and writes its outflows, a row of n + 1 numbers a step.
+/// Runs a record and writes its outflows, one row of n + 1 numbers per step.
 pub fn run(record: &[u8], list: &mut [u32]) -> Ended {
     let Study {
         road,

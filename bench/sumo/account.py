@@ -1,5 +1,5 @@
 #!/usr/bin/env python3
-"""Runs one scenario with SUMO's usual outputs and says who is counted where, in vehicle-hours up to the end.
+"""Runs one scenario with SUMO's usual outputs and prints who is counted where, in vehicle-hours up to the end.
 
     account.py FOLDER open|tight|alinea [--meso] [--seed N] [--end S] [--defaults] [--study TOML] [--factor F] [--into FILE]
 
@@ -31,7 +31,7 @@ def arguments():
 
 
 def command(a, out):
-    """SUMO's command with every output that is looked at, written into a folder."""
+    """SUMO's command with every output that is used, written into a folder."""
     meter = "open" if a.meter == "alinea" else a.meter
     (out / "edge.add.xml").write_text(f'<additional><edgeData id="e" file="{out}/edges.xml"/></additional>')
     more = [a.folder / f"meso-{meter}.add.xml", a.folder / "open.add.xml"] if a.meso else [a.folder / f"{meter}.add.xml"]

@@ -16,7 +16,7 @@ import traci  # noqa: E402
 def run(command, study, end, factor):
     study = tomllib.loads(Path(study).read_text())
     speed = study["defaults"]["speed"]
-    with open(os.devnull, "w") as nowhere, contextlib.redirect_stdout(nowhere):  # it tells of each try to connect
+    with open(os.devnull, "w") as nowhere, contextlib.redirect_stdout(nowhere):  # it prints each attempt to connect
         traci.start(command, stdout=nowhere)
     have, ramps = set(traci.edge.getIDList()), []
     for i, c in enumerate(study["cell"], 1):

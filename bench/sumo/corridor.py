@@ -33,7 +33,7 @@ class Net:
 
 
 def pieces(cells, lanes, aux):
-    """The pieces of the mainline: edge, cell, lanes, length, entry, exit. Where a cell has capacity for a lane more, its ramp's lane goes on."""
+    """The pieces of the mainline: edge, cell, lanes, length, entry, exit. If a cell has the capacity of one more lane, its ramp's lane continues."""
     out = []
     for i, c in enumerate(cells, 1):
         rest, entry, leaves = c["length"] * 1000, "ramp" in c, "split" in c
@@ -52,7 +52,7 @@ def pieces(cells, lanes, aux):
 
 
 def network(road, lanes, storage, speed):
-    """The mainline from west to east, its ramps beside it."""
+    """The mainline from west to east, with its ramps."""
     net, x = Net(speed), 0.0
     net.node("n0", x, 0)
     for k, (name, i, wide, length, entry, leaves) in enumerate(road):

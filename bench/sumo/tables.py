@@ -45,7 +45,7 @@ def first(runs):
 
 
 def cut(lines):
-    """The study cut before its end, with and without those who have not arrived."""
+    """The study cut before its end, with and without vehicles that have not arrived."""
     table(["cut short", "vehicles", "running + waiting (h)", "totalTravelTime + totalDepartDelay (h)", "on the road", "never inserted", "departDelayWaiting (s)"],
           [[f"{r['net']} {r['meter']}, {r['end']} s, {r['counted']}", f"{r['count']:,.0f}", f"{r['total']:,.1f}", f"{r['statistics']:,.1f}", *r["at the end"].values(),
             r["departDelayWaiting"]] for r in lines if r["end"] != END])

@@ -1,4 +1,4 @@
-/* Calls the operations on lent lists, reading for a caller with limits of its own, the rules of one place and the counts of a state, by numbers
+/* Calls the operations on lent lists, reading for a caller with its own limits, the rules of one place and the counts of a state, with numbers
  * worked out on paper: cc lists.c libexports.a && ./a.out */
 #include "nobyaluk.h"
 #include <stdio.h>
@@ -50,7 +50,7 @@ static void longest(const uint8_t *record, size_t bytes) {
     hold("a ramp that stays shut", a.ended.number == 0 && a.ramps[1] == 3000);
 }
 
-/* the entries of many studies beside single calls: the arrivals of each are varied, those of study 2 are above the limits in step 1 */
+/* the entries of many studies, compared with single calls: each study has other arrivals, those of study 2 are above the limits in step 1 */
 static void many(const uint8_t *given, size_t bytes) {
     enum { STUDIES = 5, N = 2, T = 3, TABLE = T * (N + 1) };
     static uint8_t record[NOBYALUK_BYTES], single[NOBYALUK_BYTES];
@@ -183,7 +183,7 @@ static void puts_release(uint8_t *record, size_t bytes) {
     hold("a release put", a.number == 0 && nobyaluk_rows(record, bytes, 2, 3, rows, 15) == 15 && rows[9] == 7 && rows[8] == 500 && rows[14] == 300);
 }
 
-/* the printed run before itself without its gate's queue and arrivals, which stand at these bytes */
+/* the printed run, joined to itself without the gate's queue and arrivals, which are at these bytes */
 static void joins(const uint8_t *record, size_t bytes) {
     static uint8_t second[NOBYALUK_BYTES], target[NOBYALUK_BYTES];
     static const size_t gate[4] = {12, 64, 84, 104};
@@ -200,7 +200,7 @@ static void joins(const uint8_t *record, size_t bytes) {
     hold("nothing beyond", target[220] == 7 && !memcmp(target + 16 + 48 + 24, second + 16 + 24, 24));
 }
 
-/* the rules of one place (docs/MODEL.md), of numbers out of their limits too */
+/* the rules of one place (docs/MODEL.md), also with numbers out of their limits */
 static void rules(void) {
     hold("demands", nobyaluk_demand(500, 2000, 2566) == 1283 && nobyaluk_gate_demand(2000, 3000) == 2000 && nobyaluk_gate_demand(2000, 1) == 1);
     hold("room", nobyaluk_supply(250, 2000, 8000, 2566) == 1358 && nobyaluk_room(1358, 300) == 1058 && nobyaluk_room(300, 1358) == 0);

@@ -1,5 +1,5 @@
-"""What pyproject.toml can't say: the engine's library comes from the checkout around this folder, where bindings/build makes it unless it is built; a
-source archive has it. The library makes the wheel one of its platform, for any Python 3.
+"""What pyproject.toml can't say. The engine's library comes from the checkout around this folder, where bindings/build makes it unless it is built;
+a source archive contains it. With the library the wheel has its platform's tag, for any Python 3.
 
 NOBYALUK_LIB_DIR names an archive proved elsewhere, NOBYALUK_ROOT a checkout elsewhere.
 """

@@ -15,7 +15,7 @@ fn main() {
             given
         }
         None if here.join("libexports.a").exists() => packaged(here),
-        // what this script writes itself is not watched, or it would run at every build
+        // files that this script writes are not watched, or it would run at every build
         None => proved(),
     };
     // a copy, since `rt ci` removes the repository's target/
@@ -37,7 +37,7 @@ fn packaged(here: &Path) -> PathBuf {
     here.join("libexports.a")
 }
 
-/// Proves and builds, one at a time in a checkout; rt skips each library that is unchanged since it was last proved.
+/// Proves and builds, one call at a time in a checkout; rt skips each library that is unchanged since it was last proved.
 fn proved() -> PathBuf {
     let root = Path::new(env!("CARGO_MANIFEST_DIR"))
         .join("../..")
@@ -59,8 +59,8 @@ fn proved() -> PathBuf {
     root.join("target/staticlib/libexports.a")
 }
 
-/// Shows each line as it comes, since this takes minutes, and gives all of them. Cargo keeps what a build script writes to itself
-/// (`cargo build -vv` shows it), so lines also go to the terminal, where there is one.
+/// Shows each line as it comes, because this takes minutes, and returns all of them. Cargo hides what a build script writes
+/// (`cargo build -vv` shows it), so lines also go to the terminal, if there is one.
 fn passed_on(lines: impl Read) -> String {
     let mut terminal = fs::OpenOptions::new().write(true).open("/dev/tty").ok();
     let mut all = String::new();

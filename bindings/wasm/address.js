@@ -10,7 +10,7 @@ export const NAMED = ["title", "names"];
 const HELD = ["load", "works", "cell", "from", "to", "law", "gain", ...WEIGHTS, ...DRAWN, ...NAMED];
 export let mode = "study";
 export let own = null;     // the bytes of a record of the user's
-export let fault = null;   // what was given in place of one
+export let fault = null;   // what was given instead of one
 export function setMode(to) { mode = to; }
 export function clearFault() { fault = null; }
 // Takes a record of the user's, or keeps what is wrong with it.

@@ -1,4 +1,4 @@
-"""The page in a real browser: headless Chromium, driven by its own driver, beside the command line (ctm and the reference)."""
+"""Tests the page in a real browser, headless Chromium with its own driver, against the command line (ctm and the reference)."""
 import base64
 import csv
 import functools
@@ -29,7 +29,7 @@ CTM, REFERENCE = ROOT / "target/bin/ctm", ROOT / "target-rust/release/reference"
 BASES = {"bottleneck": "bottleneck", "rocade": "rocade-sud-seconds", "classroom": "classroom", "printed": "printed-run"}
 RAMPS = {"bottleneck": (4, 6), "rocade": (2, 5, 7, 11, 14, 16, 19, 21), "classroom": (), "printed": (2,)}
 
-# study, law, and what the address says beside them
+# study, law, and what else the address has
 SETTINGS = [
     ("rocade", "record", {}), ("rocade", "open", {}), ("rocade", "fixed", {}), ("rocade", "alinea", {}),
     ("rocade", "demand-capacity", {"load": 96, **{f"ramp-{c}": 450 for c in RAMPS["rocade"]}}), ("rocade", "alinea", {"load": 110, "gain": 25}),
@@ -52,7 +52,7 @@ class Quiet(http.server.SimpleHTTPRequestHandler):
 
 
 class Record:
-    """What this test looks at of a record: its shape, speeds and capacities, and its rows."""
+    """The parts of a record that this test uses: its shape, speeds and capacities, and its rows."""
 
     def __init__(self, data):
         self.data, version, self.n, self.steps = bytearray(data), data[4], data[5], struct.unpack(">H", data[6:8])[0]
@@ -67,7 +67,7 @@ class Record:
         return struct.unpack(f">{self.steps * (1 + 2 * self.n)}I", self.data[self.at :])
 
     def scaled(self, load):
-        """With each arrival at so many hundredths, halves up."""
+        """With each arrival scaled to these hundredths, halves up."""
         width = 1 + 2 * self.n
         rows = [(x * load + 50) // 100 if k % width == 0 or k % width % 2 else x for k, x in enumerate(self.rows())]
         return bytes(self.data[: self.at]) + struct.pack(f">{len(rows)}I", *rows)
@@ -216,7 +216,7 @@ def verdicts(page):
     page["open-box"].click()
     page.until(lambda: "times its critical" in page["map-open"].get_attribute("aria-label"), "the picture with open meters")
     assert page["map-open"].get_attribute("aria-label") != page["map"].get_attribute("aria-label")
-    assert "Together it is a loss" in page.text("verdict") and "would call it a gain" in page.text("verdict"), page.text("verdict")
+    assert "Together it is a loss" in page.text("verdict") and "would look like a gain" in page.text("verdict"), page.text("verdict")
 
 
 def records(page):
@@ -250,7 +250,7 @@ def records(page):
     page["mode-exercise"].click()
     page["own"].click()
     assert page.text("sheet-name") == "Own record: 2 cells, 3 steps"
-    assert not any(page[name].is_displayed() for name in ("seed", "cells", "steps")), "what draws a road is hidden beside a record"
+    assert not any(page[name].is_displayed() for name in ("seed", "cells", "steps")), "with a record, the controls that draw a road are hidden"
     page["mode-study"].click()
     page["file"].send_keys(str(ROOT / "examples/rocade-sud.rec"))
     page.until(lambda: page.text("last").startswith("total 294407512 "))
@@ -259,10 +259,10 @@ def records(page):
 
 
 def no_records(page):
-    """What is no record is named, with what to do, in each language and in both views; so is a link that was cut."""
+    """A file that is no record gives a message with what to do, in each language and in both views; so does a link that was cut."""
     toml, record = (ROOT / "examples/studies/five-cells.toml").read_bytes(), (ROOT / "examples/printed-run.rec").read_bytes()
     cases = [("a road.toml", toml, "study (TOML)", "convert 'a road.toml' 'a road.rec'"), ("arrivals.CSV", b"time,gate\n", "table (CSV)", "convert road.toml road.rec"),
-             ("it's.txt", b"cell v 1\n", "is a text", r"convert 'it'\''s.txt' 'it'\''s.rec'"), ("empty.toml", b"", "study (TOML)", "convert empty.toml empty.rec"),
+             ("it's.txt", b"cell v 1\n", "is a text", r"reference record 'it'\''s.txt' 'it'\''s.rec'"), ("empty.toml", b"", "study (TOML)", "convert empty.toml empty.rec"),
              ("report.pdf", b"%PDF-1.7", "is not a record", "convert road.toml road.rec"), ("named.rec", toml, "is not a record", ".rec files"), ("noname", toml, "is not a record", "")]
     for mode, box in (("study", "refused"), ("exercise", "exercise-refused")):
         for name, data, kind, does in cases:
@@ -279,7 +279,7 @@ def no_records(page):
     page.open(mode="exercise")
     page.drop("road.toml", toml)
     page.until(lambda: "study (TOML)" in page.text("exercise-refused"))
-    page["next"].click()  # another road goes on without it
+    page["next"].click()  # another road continues without it
     assert page["sheet"].is_displayed()
     whole = base64.urlsafe_b64encode(record).decode().rstrip("=")
     for cut in (1, 2, 3, 4, 50, len(whole) - 6):
@@ -298,7 +298,7 @@ def no_records(page):
 
 
 def addresses(page):
-    """Whatever the address says, the page stands: names that every object of JavaScript has are no studies and no languages."""
+    """Whatever the address says, the page works: names that every object of JavaScript has are no studies and no languages."""
     page.open()
     first = page.text("last")
     for word in ("constructor", "toString", "__proto__", "hasOwnProperty", "valueOf", "", "%00", "%F0%9F%92%A1", "<b>"):
@@ -326,7 +326,7 @@ def policy(page):
 
 
 def gate(page):
-    """What the gate counts of each arrival is shown apart, and is in no queue; numbers have their words in each language."""
+    """The step of arrival at the gate is shown separately, and is in no queue; numbers have their words in each language."""
     for study in BASES:
         page.open(study=study, law="record")
         record = Record((ROOT / f"examples/{BASES[study]}.rec").read_bytes())
@@ -384,7 +384,7 @@ def exercise(page):
 
 
 def all_ramps(cells, steps):
-    """A record of version 2 with an on-ramp at each cell and numbers of six digits: the widest exercise of so many cells."""
+    """A record of version 2 with an on-ramp at each cell and numbers of six digits: the widest exercise of this many cells."""
     size, rows = 18 + 24 * cells + steps * (4 + 8 * cells), [[150000, *[40000, 30000] * cells]] * steps
     road = b"".join(struct.pack(">4H4I", 500, 250, 0 if i == cells else 900, 1, 800000, 200000, 110000, 120000) for i in range(1, cells + 1))
     return struct.pack(">IBBHHII", size - 4, 2, cells, steps, 30, 200000, 130000) + road + b"".join(struct.pack(f">{len(row)}I", *row) for row in rows)
@@ -426,7 +426,7 @@ def paper(page):
         page.driver.execute_cdp_cmd("Emulation.setEmulatedMedia", {"media": ""})
         page.driver.execute_cdp_cmd("Emulation.clearDeviceMetricsOverride", {})
         assert len(wide) == 7 and max(wide) <= 680, f"{lang}: tables end at {wide} of 680 px"
-    assert key.startswith("Question four: key") and all(x in key for x in asked) and "Of everyone in the system" in key and numbers <= {*cells, "0"}, numbers - {*cells}
+    assert key.startswith("Question four: key") and all(x in key for x in asked) and "That of everyone in the system" in key and numbers <= {*cells, "0"}, numbers - {*cells}
 
 
 def graded(page):
@@ -489,7 +489,7 @@ def graded(page):
 
 
 def marked(page, exercise, seed, total):
-    """The file that the page has saved, marked as it is: against the exercise, and in a class of the same seed with a second student."""
+    """The file that the page has saved is marked: against the exercise, and in a class of the same seed with a second student."""
     folder, file = page.folder / f"class-{seed}", page.folder / "answers-zoë-o-neill.json"
     (page.folder / "exercise.rec").write_bytes(exercise)
     (page.folder / "names.txt").write_text("Zoë O’Neill\nBen\n")
@@ -512,7 +512,7 @@ def nobyaluk(*words):
 
 
 def widths(page):
-    """Four cells fit a screen of 1280 px, eight are seen to go on; a telephone shows every column of the totals."""
+    """Four cells fit a screen of 1280 px, eight visibly continue beyond it; a telephone shows every column of the totals."""
     over = "((x) => x.scrollWidth - x.clientWidth)(document.querySelector('#grid').parentElement)"
     edge = "document.querySelector('#grid').parentElement.parentElement.className"
     for mode in ("exercise", "graded"):
@@ -596,7 +596,7 @@ def main():
                 assert not errors, f"{part.__name__}: the console says {errors}"
         finally:
             page.driver.quit()
-    print(f"page: in Chromium {len(SETTINGS)} settings, every example's record and three exercises are as the command line has them ({time.time() - began:.0f} s)")
+    print(f"page: in Chromium {len(SETTINGS)} settings, every example's record and three exercises agree with the command line ({time.time() - began:.0f} s)")
 
 
 if __name__ == "__main__":

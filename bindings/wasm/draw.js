@@ -99,7 +99,7 @@ export function lines(canvas, height, curves, time, label, say, between = false)
   g.setLineDash([]); timeAxis(f, time);
 }
 
-// Layers one on the other, each {values, colour}, and a dashed line beside them.
+// Stacked layers, each {values, colour}, and a dashed line.
 export function layers(canvas, height, stack, beside, time, label, say) {
   const f = frame(canvas, height), { g } = f, size = beside.length, sums = new Array(size).fill(0);
   const all = sums.map((_, k) => stack.reduce((sum, s) => sum + s.values[k], 0));

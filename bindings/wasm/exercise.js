@@ -9,7 +9,7 @@ import { Fault, count, el, lang, refusal, say, showEdges, t, table } from "./wor
 const MOST_CELLS = 8, MOST_BYTES = 4096, DRAWS = 96, MOST_OUTFLOW = 1e6;
 export let task = null;   // the record, what it gives, its title and names, and for practice the engine's run of it
 
-// A road of a seed, as `nobyaluk exercise --seed` draws it. A road on which nobody is held back, or without an off-ramp, is passed over.
+// A road of a seed, as `nobyaluk exercise --seed` draws it. A road on which nobody is held back, or without an off-ramp, is skipped.
 function drawn(seed, n, steps) {
   const TRIES = 100;
   for (let tries = 1; ; tries++) {
@@ -24,7 +24,7 @@ function fits(record, road, start) {
   const demand = (j, p) => (p ? engine.demand(road.speed[p - 1], road.capacity[p - 1], before(j)) : engine.gateDemand(road.gate_capacity, before(j)));
   return (road.n === 1 || road.share.some((b) => b > 0 && b < 1000)) && outflow.some((y, j) => y < demand(j, j % w));
 }
-// One road, all of it drawn by the stated load: numbers of 0 to 999 that choose, then the arrivals; and the number from which the load goes on.
+// One road, all of it drawn by the stated load: numbers of 0 to 999 that choose, then the arrivals; and the number from which the load continues.
 function draw(seed, n, steps) {
   const { list, last } = engine.load(seed, 999, DRAWS);
   let at = 0;
@@ -88,7 +88,7 @@ export function stateOf(h, k) {
   const at = k * (task.road.n + 1);
   return [...places().map((p) => whole(h.held[at + p])), ...rampsOf().map((c) => whole(h.queue[at + c]))];
 }
-// Cells, steps and the seconds of a step, where they are known.
+// Cells, steps and the seconds of a step, if they are known.
 export function shapeOf() {
   const { n, seconds } = task.road;
   return t(seconds ? "sheet.shape" : "sheet.shape.steps", { cells: count(n, "cells"), steps: count(task.steps, "steps"), seconds });
@@ -130,7 +130,7 @@ export function showTask(typed = []) {
   fields().forEach((x, i) => { x.value = typed[i] ?? ""; });
   showEdges();
 }
-// The exercise for practice; what is typed stays where it is the same one.
+// The exercise for practice; typed answers stay if it is the same exercise.
 export function newExercise(keep = false) {
   const before = task, typed = task ? fields().map((x) => x.value) : [];
   $("own-box").hidden = !own;
@@ -169,7 +169,7 @@ function showRight(h, right) {
     tds.forEach((td, j) => { td.classList.toggle("right", k < right); if (j >= w) td.textContent = states[j - w] ?? ""; });
   });
 }
-// Judges the steps that are filled in whole; the others are taken as 0, an outflow that no rule forbids.
+// Judges the steps that are filled in completely; the others count as 0, an outflow that no rule forbids.
 function judge() {
   const w = task.road.n + 1, texts = fields().map((x) => plain(x.value)), blank = texts.indexOf("");
   const done = Math.floor((blank < 0 ? texts.length : blank) / w), wrong = texts.findIndex((x) => x !== "" && !isNumber(x));
@@ -192,14 +192,14 @@ function judge() {
   const costs = { x: cost(h.total), best: cost(b.total), more: cost(h.total - b.total), unit: t("unit.steps") };
   verdict("good", t(h.total === b.total ? "judged.least" : "judged.more", costs), t("judged.parts", parts));
 }
-// The first rule broken, and for an outflow how much it may be at most.
+// The first broken rule, and for an outflow the most that it may be.
 function broken(h, plan) {
   const i = h.step * (task.road.n + 1) + h.place;
   if (h.number !== Refusal.OutflowAboveDemand && h.number !== Refusal.EnteringAboveRoom) return verdict("bad", refusal(h));
   mark(i);
   verdict("bad", refusal(h), t("judged.hint", { x: whole(plan[i]), most: whole(mostIn(h)) }));
 }
-// The greatest outflow of a place in the student's state: what the engine lets go in one step from there.
+// The greatest outflow of a place in the student's state: what the engine sends in one step from there.
 function mostIn({ step, place, state }) {
   const width = 1 + 2 * task.road.n, next = engine.step(task.road, state, task.rows.slice(step * width, (step + 1) * width));
   return place ? next.cumulative[place - 1] - state.cumulative[place - 1] : next.gate_cumulative - state.gate_cumulative;
@@ -214,13 +214,13 @@ function mostIn({ step, place, state }) {
 //     "held": [[2500, 2566, 4000], [2142, 2991, 4000], [1890, 3309, 4000]], "queue": [[1700], [1900], [2100]],
 //     "gate": 6532, "road": 20866, "ramp": 5700, "total": 33098,
 //     "whose": "everyone in the system: on the road, at the gate and at the ramps" }
-// exercise.record: the record's bytes in base64 (RFC 4648, section 4, padded). seed: what the record is drawn of, or null for a
-// record of the lecturer's; cells and steps: n and T of the record. Whoever marks compares the record's bytes with the exercise.
+// exercise.record: the record's bytes in base64 (RFC 4648, section 4, padded). seed: the seed that draws the record, or null for a
+// record of the lecturer's; cells and steps: n and T of the record. Marking compares the record's bytes with the exercise.
 // outflows, held and queue have a row for each step. outflows: the gate, then each cell. held: what waits at the gate and what each
 // cell holds after the step, in the same order. queue: what waits at each on-ramp after the step, by cells; [] without on-ramps.
 // Counts are in thousandths of a vehicle; gate, road, ramp and total in thousandths of a vehicle times steps, as `ctm` prints them.
-// An answer is a whole number, null where the field is empty, or the text as typed where it is no whole number.
-// name and whose are texts, empty where nothing is typed.
+// An answer is a whole number, null if the field is empty, or the text as typed if it is no whole number.
+// name and whose are texts, empty if nothing is typed.
 export function answersOf(typed) {
   const n = task.road.n, w = n + 1, width = 2 * w + rampsOf().length;
   const rows = (from, to) => Array.from({ length: task.steps }, (_, k) => typed.slice(k * width + from, k * width + to).map(answerOf));

@@ -33,7 +33,7 @@ function saveAnswers() {
 export function startGraded() {
   window.addEventListener("beforeunload", (e) => { if (unsaved) e.preventDefault(); });
   readAddress();
-  setTask();   // by the controls, which are then removed with all else that is for practice
+  setTask();   // by the controls, which are then removed with everything else for practice
   keepForm();
   document.querySelector("script").remove();   // the texts of hints are in it
   document.body.classList.add("graded");

@@ -71,7 +71,7 @@ export function showTries() {
   }));
 }
 
-// What a file holds that is no record. A record's first byte is 0, since it has at most 65,536 bytes; no text begins so.
+// The fault of a file that is no record. A record's first byte is 0, because it has at most 65,536 bytes; no text begins with 0.
 function faultOf(name, bytes) {
   const ending = /\.([a-z]+)$/.exec(name.toLowerCase())?.[1], text = bytes.length > 0 && bytes.subarray(0, 4).every((x) => x > 31 || (x > 8 && x < 14));
   if (ending === "rec" ? !text : bytes[0] === 0) return null;

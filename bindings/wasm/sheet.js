@@ -5,7 +5,7 @@ import { el, t, table } from "./words.js";
 
 const MOST_COLUMNS = 10;   // that fit the paper's width
 
-// A table with a row for each step. It is cut into several where the paper is too narrow: each piece has whole groups of columns.
+// A table with a row for each step. It is cut into several if the paper is too narrow; each piece has whole groups of columns.
 function pieced(groups, names, of, kind) {
   const pieces = [];
   let from = 0;

@@ -1,4 +1,4 @@
-// What the engine answers, shown: totals, who gains and who pays, pictures; and what the controls say.
+// Shows the engine's answers: totals, who gains and who pays, pictures; and the labels of the controls.
 import { COLOURS, LINES, layers, lines, sample, spaceTime } from "./draw.js";
 import { $, engine, value } from "./start.js";
 import { closed, critical, hours, lanes, study, timeOf, unit, weights, when } from "./study.js";
@@ -14,7 +14,7 @@ function legend(list, items) {
   }));
 }
 
-// A bar of the three parts, and under it the wrong total; the words are in the legend, since a bar may be short.
+// A bar of the three parts, and under it the wrong total; the words are in the legend, because a bar may be short.
 function bar(name, run, most) {
   const right = el("div", "", { class: "bar" }), wrong = el("div", "", { class: "bar thin" });
   const piece = (kind, x, text) => { const div = el("div", text, { class: kind }); div.style.width = `${100 * x / most}%`; return div; };
@@ -146,7 +146,7 @@ export function drawCurves(run) {
   legend($("curves-legend"), [[pair[0], t("curves.came", { x: ends.came })], [pair[1], t("curves.left", { x: ends.left })]]);
 }
 
-// What the controls say, beside them; and which of them there are.
+// The labels next to the controls, and which controls there are.
 export function showSetting() {
   const set = (id, text) => { document.querySelector(`output[for="${id}"]`).textContent = text; $(id).setAttribute("aria-valuetext", text); };
   for (const id of ["cells", "steps", "w-gate", "w-first", "w-last", "w-ramp"]) set(id, $(id).value);

@@ -1,4 +1,4 @@
-// A study: a record with what only people need, what the controls make of it, and the engine's run of that. Units, the scaling of
+// A study: a record with names, units and clock times, the changes by the controls, and the engine's run of it. Units, the scaling of
 // traffic and the targets of meter laws are made here; flows, totals, releases, weights and bytes are the engine's.
 import { RATE } from "./engine.mjs";
 import { engine, value } from "./start.js";
@@ -9,7 +9,7 @@ export const LAWS = ["record", "open", "fixed", "alinea", "demand-capacity"];
 export let study = null;
 export function setStudy(to) { study = to; }
 
-// A record opened, with its step's seconds, clock time and lengths where they are known.
+// A record that was opened, with its step's seconds, clock time and lengths if they are known.
 export function opened(record, known = {}) {
   const { road, start, steps } = engine.read(record), ramps = road.ramp.flatMap((mark, i) => (mark ? [i + 1] : []));
   const seconds = road.seconds || known.seconds || 0, edges = [0];
@@ -23,7 +23,7 @@ export function opened(record, known = {}) {
   };
 }
 
-// Part-steps in vehicle-hours, or in vehicle-steps where nobody says a step's seconds.
+// Part-steps in vehicle-hours, or in vehicle-steps if a step's seconds are unknown.
 export const hours = (x) => (study.seconds ? x * study.seconds / 3.6e6 : x / 1000);
 export const unit = () => t(study.seconds ? "unit.hours" : "unit.steps");
 const two = (x) => String(Math.floor(x)).padStart(2, "0");
@@ -45,7 +45,7 @@ function rows() {
   const arrival = (j) => j % width === 0 || j % width % 2 === 1;
   return study.rows.map((x, j) => (arrival(j) ? Math.round(x * load / 100) : x));
 }
-// Lanes closed, or null; as a table of lanes, and as the reference's text of one.
+// Closed lanes, or null; as a table of lanes, and as the reference's text of one.
 export function closed() {
   const works = { lanes: value("works"), cell: value("cell"), from: value("from"), to: value("to") };
   return works.lanes && works.from < works.to ? works : null;
@@ -62,7 +62,7 @@ export function lanesText() {
   const shut = Array.from({ length: lanes }, (_, i) => `closed ${LANES - i} cell ${cell} steps ${from} to ${to - 1}\n`);
   return `cells ${study.road.n}\nsteps ${study.steps}\nbuilt ${LANES}\n${shut.join("")}`;
 }
-// A cell's critical count, where its demand reaches its capacity.
+// A cell's critical count, at which its demand reaches its capacity.
 export const critical = (i) => (study.road.speed[i] ? 1000 * study.road.capacity[i] / study.road.speed[i] : 0);
 function rateOf(cell) {
   const x = value(`ramp-${cell}`);
@@ -81,7 +81,7 @@ export function ran(law) {
   const laws = Object.fromEntries(study.ramps.map((cell) => [cell, lawOf(law, cell)]));
   const e = law === "record" ? { ...engine.run(record, table), record } : engine.fill(record, laws, table);
   const { held, queue } = engine.history(e.record, e.outflow, table);
-  // the time spent at a ramp is a weighted total in which it alone weighs
+  // the time spent at a ramp is the weighted total with weight 1 only there
   const ramps = study.ramps.map((cell) => engine.weigh(e.record, [], study.road.ramp.map((_, i) => (i === cell - 1 ? 1 : 0)), table));
   // what arrives at the gate in a step may leave in the next: of the gate's time one step for each, the sum of the record's own arrivals
   const width = 1 + 2 * study.road.n, arrivals = engine.rows(e.record, study.road.n, study.steps).filter((_, j) => j % width === 0);

@@ -52,7 +52,7 @@ function group(all, groups) {
     at += columns;
   }
 }
-// Shows by a shadow where a table goes on beyond its edge.
+// Shows by a shadow that a table continues beyond its edge.
 export function showEdges() {
   for (const x of document.querySelectorAll(".wide")) {
     x.parentElement.classList.toggle("more", x.scrollLeft < x.scrollWidth - x.clientWidth - 1);
@@ -71,17 +71,17 @@ export function speak() {
   $("module").textContent = t("believed.module", { version: DATA.version, bytes: say(DATA.bytes, 0), sum: DATA.sum });
 }
 
-// What was given in place of a record, and what to do: a key of the texts, and what it names.
+// What was given instead of a record, and what to do: a key of the texts, and the values that it names.
 export class Fault extends Error {
   constructor(key, given = {}) { super(key); Object.assign(this, { key, given }); }
 }
 
-// What a refusal means where an operation gives it: what its place is, and its words in each language.
+// The meaning of a refusal of an operation: the meaning of its place, and its words in each language.
 function meaningOf({ number, operation }) {
   const rows = DATA.refusals.filter((row) => row.number === number);
   return rows.find((row) => row.operations.includes(operation)) ?? rows[0];
 }
-// A refusal in words: its number, where it is, what it means; or a fault of what was given.
+// A refusal in words: its number, where it is, what it means; or a fault of the file.
 export function refusal(e) {
   if (e instanceof Fault) return t(e.key, e.given);
   const { place: kind, ...words } = meaningOf(e), step = kind === "step" ? e.place : e.step;

@@ -1,9 +1,9 @@
-//! A record told as text, the way back from `text`.
+//! A record written as text, the inverse of `text`.
 //!
-//! Every record of at most 65,536 bytes can be told that is a head, whole cells
-//! and whole numbers, refused ones too. The text is canonical: `refused` stands
-//! first where reading refuses, zeros that need no name have none, like rows
-//! that follow each other are one line, and `damage` stands last.
+//! Every record of at most 65,536 bytes that consists of a head, whole cells and
+//! whole numbers has a text, even if it is refused. The text is canonical:
+//! `refused` comes first if reading refuses, zeros that need no name have none,
+//! equal rows that follow each other are one line, and `damage` comes last.
 
 use crate::draft::CellDraft;
 use crate::model::Road;
@@ -15,54 +15,54 @@ pub fn text_of(bytes: &[u8]) -> Result<String, String> {
     if bytes.len() > Road::MAX_BYTES {
         return Err(format!("a record has at most {} bytes", Road::MAX_BYTES));
     }
-    let told = Told::of(bytes)?;
+    let values = Values::of(bytes)?;
     let mut out = String::new();
     let number = record::read(bytes).number;
     if number != 0 {
         put(&mut out, format_args!("refused {number}\n"));
     }
-    if let Some(seconds) = told.seconds {
+    if let Some(seconds) = values.seconds {
         put(&mut out, format_args!("version 2\nseconds {seconds}\n"));
     }
-    put(&mut out, format_args!("steps {}\n", told.rows.len()));
-    put(&mut out, format_args!("gate capacity {}", told.gate.0));
-    put_named(&mut out, "queue", told.gate.1);
+    put(&mut out, format_args!("steps {}\n", values.rows.len()));
+    put(&mut out, format_args!("gate capacity {}", values.gate.0));
+    put_named(&mut out, "queue", values.gate.1);
     out.push('\n');
-    for (i, cell) in told.cells.iter().enumerate() {
+    for (i, cell) in values.cells.iter().enumerate() {
         put_cell(&mut out, cell);
         put(&mut out, format_args!("  # cell {}\n", i + 1));
     }
     let mut step = 0;
-    for like in told.rows.chunk_by(|a, b| a == b) {
-        put_rows(&mut out, &told.cells, like, step);
+    for like in values.rows.chunk_by(|a, b| a == b) {
+        put_rows(&mut out, &values.cells, like, step);
         step += like.len();
     }
-    put_damage(&mut out, bytes, &told);
+    put_damage(&mut out, bytes, &values);
     Ok(out)
 }
 
 /// A record's values as far as its bytes go.
-struct Told {
-    /// A step's seconds, where the bytes are told as version 2.
+struct Values {
+    /// A step's seconds, if the bytes are written as version 2.
     seconds: Option<u16>,
     gate: (u32, u32),
     cells: Vec<CellDraft>,
     rows: Vec<Vec<u32>>,
 }
 
-impl Told {
-    /// Laid out as byte 4 says. What is no version 2 though it says so may still
-    /// be told as a version 1 that is damaged there.
-    fn of(bytes: &[u8]) -> Result<Told, String> {
+impl Values {
+    /// Laid out as byte 4 says. Bytes that say version 2 but are none may still be
+    /// written as a version 1 that is damaged there.
+    fn of(bytes: &[u8]) -> Result<Values, String> {
         match record::version_of(bytes) {
-            2 => Told::laid_out(bytes, 2)
-                .or_else(|reason| Told::laid_out(bytes, 1).map_err(|_| reason)),
-            _ => Told::laid_out(bytes, 1),
+            2 => Values::laid_out(bytes, 2)
+                .or_else(|reason| Values::laid_out(bytes, 1).map_err(|_| reason)),
+            _ => Values::laid_out(bytes, 1),
         }
     }
 
-    /// Cells as many as byte 5 says and the bytes have, then rows to the end.
-    fn laid_out(bytes: &[u8], version: u8) -> Result<Told, String> {
+    /// As many cells as byte 5 says and the bytes have, then rows to the end.
+    fn laid_out(bytes: &[u8], version: u8) -> Result<Values, String> {
         let (size, head) = (bytes.len(), record::head_bytes(version));
         if size < head {
             return Err(format!(
@@ -77,7 +77,7 @@ impl Told {
             record::u32_at(bytes, head - 8),
             record::u32_at(bytes, head - 4),
         );
-        Ok(Told {
+        Ok(Values {
             seconds: (version == 2).then(|| record::seconds_of(bytes)),
             gate,
             cells,
@@ -120,7 +120,7 @@ fn put_cell(out: &mut String, cell: &CellDraft) {
     put_named(out, "queue", cell.queue);
 }
 
-/// One line for rows that are all alike, the first of them that of `step`.
+/// One line for equal rows; the first is that of `step`.
 fn put_rows(out: &mut String, cells: &[CellDraft], like: &[Vec<u32>], step: usize) {
     let (row, count) = (&like[0], like.len());
     if count > 1 {
@@ -155,13 +155,13 @@ fn put_places(out: &mut String, row: &[u32]) {
 }
 
 /// A `damage` line for each field of the head that the rest doesn't give.
-fn put_damage(out: &mut String, bytes: &[u8], told: &Told) {
-    let version = if told.seconds.is_some() { 2 } else { 1 };
+fn put_damage(out: &mut String, bytes: &[u8], values: &Values) {
+    let version = if values.seconds.is_some() { 2 } else { 1 };
     let fields = [
         ("length", record::u32_at(bytes, 0) as usize, bytes.len() - 4),
         ("version", usize::from(bytes[4]), version),
-        ("cells", record::cells_of(bytes), told.cells.len()),
-        ("steps", record::steps_of(bytes), told.rows.len()),
+        ("cells", record::cells_of(bytes), values.cells.len()),
+        ("steps", record::steps_of(bytes), values.rows.len()),
     ];
     for (name, found, given) in fields {
         if found != given {

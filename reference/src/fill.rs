@@ -23,8 +23,8 @@ pub struct Last {
 /// Puts the laws' releases into the record and runs it under a table of lanes,
 /// in one pass.
 ///
-/// The list takes the outflows as running's does. After a refusal record and
-/// list are as they were.
+/// The list takes the outflows as in running. After a refusal record and list
+/// are unchanged.
 pub fn fill(record: &mut [u8], laws: &Laws, table: &[u8], list: &mut [u32]) -> Answer {
     let reading = record::read(record);
     if reading.number != 0 {

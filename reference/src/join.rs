@@ -9,13 +9,13 @@ use crate::write::Written;
 
 /// Bytes of a gate's arrivals, which start a row.
 const ARRIVALS: usize = 4;
-/// Where n stands in a record.
+/// The place of n in a record.
 const CELLS_AT: usize = 5;
-/// Where the share stands in a cell.
+/// The place of the share in a cell.
 const SHARE_AT: usize = 4;
 
 /// Writes the joined road's record into the target's first bytes. A refusal leaves the
-/// target as it is, and bytes beyond the record are never touched.
+/// target unchanged, and bytes beyond the record are never written.
 pub fn join(upstream: &[u8], downstream: &[u8], share: u16, target: &mut [u8]) -> Written {
     if let Some((number, place)) = fault(upstream, downstream, share) {
         return Written::refused(number, place);
@@ -58,8 +58,8 @@ fn fault(upstream: &[u8], downstream: &[u8], share: u16) -> Option<(u32, usize)>
 
 /// T, version and a step's seconds are the same.
 fn alike(up: &Reading, down: &Reading) -> bool {
-    let told = |reading: &Reading| (reading.steps, reading.road.version, reading.road.seconds);
-    told(up) == told(down)
+    let frame = |reading: &Reading| (reading.steps, reading.road.version, reading.road.seconds);
+    frame(up) == frame(down)
 }
 
 /// Nobody waits at the gate and nobody arrives there. Its capacity may be anything.
@@ -68,7 +68,7 @@ fn gate_is_idle(reading: &Reading, bytes: &[u8]) -> bool {
     reading.state.gate_queue == 0 && (0..reading.steps).all(|t| arrivals(t) == 0)
 }
 
-/// The bytes of two roads that no refusal meets.
+/// The joined bytes of two roads that are not refused.
 fn joined(upstream: &[u8], downstream: &[u8], share: u16) -> Vec<u8> {
     let (up, down) = (Parts::of(upstream), Parts::of(downstream));
     let last = record::cells_of(upstream);

@@ -7,7 +7,7 @@ use crate::record::{self, Reading};
 use crate::refusals;
 use crate::step;
 
-/// Judges a schedule, a row of outflows a step, gate first, under a table of
+/// Judges a schedule, one row of outflows per step, gate first, under a table of
 /// lanes.
 pub fn judge(record: &[u8], table: &[u8], schedule: &[u32]) -> Answer {
     let reading = record::read(record);

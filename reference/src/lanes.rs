@@ -2,14 +2,14 @@
 //! road that a step sees.
 //!
 //! A table is empty, which means all lanes open, or has n x (T + 1) bytes: the
-//! lanes built, cell by cell, then a row a step of lanes open. A lane is a bit.
+//! lanes built, cell by cell, then one row per step of lanes open. A lane is a bit.
 
 use crate::model::Road;
 use crate::refusals;
 
 /// The capacity that its open lanes leave a cell: C x open / built, rounded
-/// down; 0 where no lane is built, and the greatest number of 32 bits where more
-/// lanes are open than built and the quotient passes it.
+/// down. It is 0 if no lane is built, and the greatest 32-bit number if more lanes
+/// are open than built and the quotient exceeds it.
 pub fn open_capacity(capacity: u32, built: u8, open: u8) -> u32 {
     let whole = u64::from(capacity) * u64::from(open.count_ones());
     let left = whole.checked_div(u64::from(built.count_ones()));
@@ -50,7 +50,7 @@ pub fn narrowed(road: &Road, built: &[u8], open: &[u8]) -> Road {
     narrow
 }
 
-/// The road of a step under a table that no refusal meets.
+/// The road of a step under a table that is not refused.
 pub fn road_at(road: &Road, table: &[u8], step: usize) -> Road {
     if table.is_empty() {
         return *road;

@@ -9,9 +9,9 @@
 //! closed LANE cell CELL steps A to B   a lane closed from step A to step B
 //! ```
 //!
-//! The statements stand in this order, each of the last two as often as needed.
+//! The statements come in this order, each of the last two as often as needed.
 //! Lanes are numbered from 1; lane 1 is the lowest bit. A cell has 1 to 8 of
-//! them, and all that are built are open but for the closed ones.
+//! them. All built lanes are open except the closed ones.
 
 use crate::model::Road;
 use crate::text::{self, TextError, Words};
@@ -29,7 +29,7 @@ pub fn table_of(text: &str) -> Result<Vec<u8>, TextError> {
     works.finish(text.lines().count())
 }
 
-/// What the lines so far have said.
+/// The contents of the lines so far.
 #[derive(Default)]
 struct Works {
     n: Option<usize>,
@@ -52,7 +52,7 @@ impl Works {
             }
             "built" if self.open.is_empty() => self.built_line(words)?,
             "closed" => self.closed_line(words)?,
-            other => return words.error(format!("'{other}' can't stand here")),
+            other => return words.error(format!("'{other}' is not allowed here")),
         }
         Ok(())
     }

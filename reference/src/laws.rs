@@ -39,7 +39,7 @@ pub fn laws_of(text: &str) -> Result<Laws, TextError> {
             return words.error("there is no cell 0, only 1 to 64".to_string());
         }
         if named[cell - 1].is_some() {
-            return words.error(format!("ramp {cell} stands twice"));
+            return words.error(format!("ramp {cell} is given twice"));
         }
         named[cell - 1] = Some(law(&mut words)?);
         words.end()?;

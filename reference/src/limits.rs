@@ -19,7 +19,7 @@ pub fn cell_fits(road: &Road, cell: usize) -> bool {
         && (cell != road.n || road.b[i] == 0)
 }
 
-/// Bound of a queue after so many steps (at most 1,440).
+/// Bound of a queue after this many steps (at most 1,440).
 /// After none it is the bound of a starting queue.
 pub fn queue_bound(steps: usize) -> u64 {
     u64::from(Road::MAX_START_QUEUE) + u64::from(Road::MAX_RATE) * steps as u64

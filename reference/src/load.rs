@@ -3,7 +3,7 @@
 use crate::model::Road;
 use crate::refusals;
 
-/// What loading answers.
+/// The answer of loading.
 #[derive(Clone, Copy, Debug, PartialEq, Eq)]
 pub struct Loaded {
     /// 0, or the refusal.
@@ -12,7 +12,7 @@ pub struct Loaded {
     pub last: u32,
 }
 
-/// Fills a list with arrivals. A refusal leaves it as it is.
+/// Fills a list with arrivals. A refusal leaves it unchanged.
 pub fn load(seed: u32, peak: u32, list: &mut [u32]) -> Loaded {
     if peak > Road::MAX_RATE {
         return Loaded {
@@ -33,7 +33,7 @@ pub fn next(number: u32) -> u32 {
     ((1_664_525 * u64::from(number) + 1_013_904_223) % (1 << 32)) as u32
 }
 
-/// The arrival that a number stands for, of its upper 16 bits.
+/// The arrival that a number gives, from its upper 16 bits.
 pub fn arrival_of(number: u32, peak: u32) -> u32 {
     let upper = u64::from(number / 65_536);
     (upper * (u64::from(peak) + 1) / 65_536) as u32

@@ -1,8 +1,8 @@
 //! The longest queues of a run: of the gate and of each on-ramp, the greatest of
 //! its counts after the steps done. The start is no such count.
 //!
-//! Running and filling are as without them; their steps are walked once more from
-//! the rows that they write.
+//! Running and filling are the same as without them; their steps are made once
+//! more from the rows that they write.
 
 use crate::answer::Answer;
 use crate::fill::{self, Laws};
@@ -49,7 +49,7 @@ pub fn over_steps_from(record: &[u8], from: State, schedule: &[u32], steps: usiz
     longest
 }
 
-/// Runs a record under a table of lanes, with its longest queues: 0 where no step
+/// Runs a record under a table of lanes, with its longest queues: 0 if no step
 /// was done.
 pub fn run(record: &[u8], table: &[u8], list: &mut [u32]) -> (Answer, Queues) {
     let answer = run::run(record, table, list);
@@ -57,7 +57,7 @@ pub fn run(record: &[u8], table: &[u8], list: &mut [u32]) -> (Answer, Queues) {
     (answer, queues)
 }
 
-/// Fills a record so.
+/// The same with filling.
 pub fn fill(record: &mut [u8], laws: &Laws, table: &[u8], list: &mut [u32]) -> (Answer, Queues) {
     let answer = fill::fill(record, laws, table, list);
     let queues = over_steps(record, list, answer.state.steps);

@@ -1,5 +1,5 @@
 //! The reference program. A file that isn't named is standard input or output.
-//! An output file is written only where there is no error, and never over the
+//! An output file is written only if there is no error, and never over the
 //! input. Exit status: 0; 1 after a refusal or a fault in a file; 2 for a wrong
 //! call.
 //!
@@ -32,8 +32,8 @@ const USAGE: &str = "usage:
   reference fill RECORD LAWS [LANES]
 ";
 
-/// What is read of a record: one byte more than it may have. Whatever its other
-/// bytes, one that has this byte is refused with 1.
+/// The bytes that are read of a record: one more than it may have. A record with
+/// this byte is refused with 1, whatever its other bytes.
 const RECORD_BYTES: u64 = Road::MAX_BYTES as u64 + 1;
 /// The most that a text may have.
 const TEXT_BYTES: u64 = 1 << 20;
@@ -119,19 +119,19 @@ fn make_text(record: &[u8]) -> Made {
 fn judge_files(record: &str, schedule: &str) -> Result<(), String> {
     let bytes = read_text(Some(schedule))?;
     let at_line = |fault: text::TextError| format!("{schedule}: {fault}");
-    let told = text::decoded(&bytes).map_err(at_line)?;
-    let numbers = text::schedule_of(told).map_err(at_line)?;
+    let decoded = text::decoded(&bytes).map_err(at_line)?;
+    let numbers = text::schedule_of(decoded).map_err(at_line)?;
     let record = read_record(Some(record))?;
     let answer = judge::judge(&record, &[], &numbers);
     print_out(print::judgement_line(&answer).into_bytes())?;
     let reading = record::read(&record);
-    match text::schedule_fault(told, reading.road.n, reading.steps) {
+    match text::schedule_fault(decoded, reading.road.n, reading.steps) {
         Some(fault) if answer.number == refusals::SCHEDULE_LENGTH => Err(at_line(fault)),
         _ => passed(&answer, "judge"),
     }
 }
 
-/// An error with the words of a refusal, where the operation gives one.
+/// An error with the words of a refusal, if the operation gives one.
 fn passed(answer: &Answer, operation: &str) -> Result<(), String> {
     match answer.number {
         0 => Ok(()),
@@ -178,24 +178,24 @@ fn read_lanes(name: &str) -> Made {
 }
 
 /// The record with its releases filled; a refusal is an error here. A law that
-/// isn't used is warned of.
+/// isn't used gives a warning.
 fn fill_files(name: &str, laws_name: &str, lanes: Option<&str>) -> Made {
     let bytes = read_text(Some(laws_name))?;
     let at_line = |fault: text::TextError| format!("{laws_name}: {fault}");
-    let told = text::decoded(&bytes).map_err(at_line)?;
-    let laws = laws::laws_of(told).map_err(at_line)?;
+    let decoded = text::decoded(&bytes).map_err(at_line)?;
+    let laws = laws::laws_of(decoded).map_err(at_line)?;
     let table = lanes.map_or(Ok(vec![]), read_lanes)?;
     let mut filled = read_record(Some(name))?;
     let reading = record::read(&filled);
     let mut list = vec![0; reading.steps * (reading.road.n + 1)];
     passed(&fill::fill(&mut filled, &laws, &table, &mut list), "fill")?;
-    for unused in laws::unused(told, &reading.road) {
+    for unused in laws::unused(decoded, &reading.road) {
         eprintln!("reference: warning: {}", at_line(unused));
     }
     Ok(filled)
 }
 
-/// A record, or as much of it as shows that it is too long.
+/// A record, or enough of it to show that it is too long.
 fn read_record(name: Option<&str>) -> Made {
     read_some(name, RECORD_BYTES)
 }
@@ -210,7 +210,7 @@ fn read_text(name: Option<&str>) -> Made {
     Ok(bytes)
 }
 
-/// The bytes of a file or of standard input, as many as are asked for.
+/// The bytes of a file or of standard input, up to the number asked for.
 fn read_some(name: Option<&str>, most: u64) -> Made {
     let mut bytes = Vec::new();
     let read = match name {

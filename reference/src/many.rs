@@ -2,8 +2,8 @@
 //! each study is run or filled.
 //!
 //! A table has T rows of n + 1 numbers: the gate's arrivals, then each cell's. Every
-//! study has an entry of `ENTRY` numbers. Whatever running (filling) refuses of a study is
-//! in its entry, and the next study follows.
+//! study has an entry of `ENTRY` numbers. A refusal of running (filling) a study is in its
+//! entry, and the next study follows.
 
 use crate::answer::Answer;
 use crate::fill::Laws;
@@ -23,9 +23,9 @@ const OF_ANSWERS: usize = 2;
 
 /// Runs a record with each table of arrivals in turn.
 ///
-/// It gives the number and place of what refuses the whole call, which then changes
-/// nothing: reading's refusals of the record as given, then 27 with place 1 where the
-/// arrivals are no whole number of tables, then 27 with place 2 where the answers have no
+/// It gives the number and place of a refusal of the whole call, which then changes
+/// nothing: reading's refusals of the record as given, then 27 with place 1 if the
+/// arrivals are no whole number of tables, then 27 with place 2 if the answers have no
 /// room for all entries. Afterwards the record has the last study's arrivals.
 pub fn run_many(
     record: &mut [u8],
@@ -39,7 +39,7 @@ pub fn run_many(
     })
 }
 
-/// Fills a record so. Afterwards it has the last study's arrivals and the releases of the
+/// The same with filling. Afterwards the record has the last study's arrivals and the releases of the
 /// last study that was filled.
 pub fn fill_many(
     record: &mut [u8],

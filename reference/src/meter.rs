@@ -8,7 +8,7 @@ pub enum Law {
         /// In parts a step.
         rate: f64,
     },
-    /// Feedback on the held count, which stands for occupancy.
+    /// Feedback on the held count, which replaces occupancy.
     Alinea {
         /// The change of the release for each part below the target, a step.
         gain: f64,
@@ -27,7 +27,7 @@ pub enum Law {
 }
 
 impl Law {
-    /// Refusal 16 asks this: all of its numbers are finite.
+    /// The test of refusal 16: all of its numbers are finite.
     pub fn is_finite(self) -> bool {
         match self {
             Law::Fixed { rate } => rate.is_finite(),
@@ -40,8 +40,8 @@ impl Law {
         }
     }
 
-    /// The wish in a step: after the last step's release and its entry from
-    /// upstream, with so much held. Each operation rounds once; none is fused.
+    /// The wish in a step, given the last step's release, its entry from upstream and
+    /// what the cell holds. Each operation rounds once; none is fused.
     pub fn wish(self, last: u32, entered: u32, held: u32) -> f64 {
         let (last, entered, held) = (f64::from(last), f64::from(entered), f64::from(held));
         match self {

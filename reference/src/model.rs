@@ -71,7 +71,7 @@ impl Road {
     }
 }
 
-/// What a record says of the time before step 0.
+/// The start of a record: the counts before step 0.
 #[derive(Clone, Copy, Debug, PartialEq, Eq)]
 pub struct Start {
     /// In parts.
@@ -193,8 +193,8 @@ pub fn entering(share: u64, f: u64, outflow: u64) -> u64 {
 /// search.
 ///
 /// An outflow of 0 lets nothing in, so it always fits; what enters never falls
-/// as the outflow grows. The greatest that fits is looked for between one that
-/// fits and one that is too much.
+/// as the outflow grows. The search narrows down between one that fits and one
+/// that is too much.
 pub fn greatest_outflow(share: u64, f: u64, demand: u64, room: u64) -> u64 {
     let (mut fits, mut too_much) = (0, demand + 1);
     while too_much - fits > 1 {

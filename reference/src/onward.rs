@@ -3,9 +3,9 @@
 //!
 //! The state is taken whole: steps done, times, queues, held counts and every F. The
 //! record's own start is read, so that reading may refuse it, and then not used.
-//! Refusals come in this order: those of reading, 16 (filling), 17, 18, 7 where the
+//! Refusals come in this order: those of reading, 16 (filling), 17, 18, 7 if the
 //! state breaks a limit that stepping names for a state or (filling) an entry is above
-//! what its cell holds, 8 where the record has more rows than steps are left of 1,440, 11
+//! what its cell holds, 8 if the record has more rows than steps are left of 1,440, 11
 //! or 12, then 9 and 10, 13 and 14. Their step is counted in this record's rows, from 0.
 //! A refusal before the first step names no state.
 
@@ -21,8 +21,8 @@ use crate::run;
 use crate::step;
 use crate::weigh::{self, Weights};
 
-/// What running on gives. Queues and weighted total are those of the steps done here, 0
-/// where none was.
+/// The answer of running on. Queues and weighted total are those of the steps done here,
+/// 0 if there was none.
 #[derive(Clone, Copy, Debug, PartialEq, Eq)]
 pub struct RanOn {
     /// Running's answer, from the given state on.
@@ -33,10 +33,10 @@ pub struct RanOn {
     pub weighted: u64,
 }
 
-/// What filling goes on from.
+/// The progress from which filling goes on.
 ///
-/// What entered a cell in the last step is held in it, so that an entry above what its
-/// cell holds is refusal 7, with a ramp or without. A release may be any number of 32
+/// What entered a cell in the last step is held in it, so an entry above what its
+/// cell holds is refused with 7, with a ramp or without. A release may be any number of 32
 /// bits: a law's wish is defined for all of them. Past cell n neither is read.
 #[derive(Clone, Copy, Debug, PartialEq, Eq)]
 pub struct Progress {
@@ -46,8 +46,8 @@ pub struct Progress {
     pub last: Last,
 }
 
-/// What filling on gives. The answer's state and `last` are what a further filling goes
-/// on from: entries past cell n are as given, and a cell without a ramp releases 0. After
+/// The answer of filling on. A further filling goes on from the answer's state and
+/// `last`: entries past cell n are as given, and a cell without a ramp releases 0. After
 /// a refusal, which names no state, all of `last` is 0.
 #[derive(Clone, Copy, Debug, PartialEq, Eq)]
 pub struct FilledOn {
@@ -67,7 +67,7 @@ pub struct Lists<'a> {
     pub queue: &'a mut [u32],
 }
 
-/// Runs a record from a state. The list is written as running's is.
+/// Runs a record from a state. The list is written as in running.
 pub fn run_on(
     record: &[u8],
     table: &[u8],
@@ -99,7 +99,7 @@ fn ran(record: &[u8], table: &[u8], from: State, list: &mut [u32]) -> Answer {
 /// Puts the laws' releases into a record from a state and the last step's releases and
 /// entries. Filling from a start with 0 of both is filling.
 ///
-/// After a refusal record and list are as they were.
+/// After a refusal record and list are unchanged.
 pub fn fill_on(
     record: &mut [u8],
     laws: &Laws,
@@ -151,7 +151,7 @@ pub fn judge_on(record: &[u8], table: &[u8], from: State, schedule: &[u32]) -> A
 }
 
 /// Judges a schedule from a state and puts the counts after each step done into two
-/// lists, a row of n + 1 numbers a step. Refusal 11, either list shorter than the
+/// lists, one row of n + 1 numbers per step. Refusal 11, either list shorter than the
 /// schedule, comes after 12.
 pub fn history_on(
     record: &[u8],

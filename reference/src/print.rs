@@ -20,7 +20,7 @@ pub fn printed_within(record: &[u8], caller: Caller) -> String {
     printed
 }
 
-/// The same, with the answer. What the caller takes is printed as the full program does.
+/// The same, with the answer. A record within the limits is printed as by the full program.
 pub fn printed_within_with_answer(record: &[u8], caller: Caller) -> (String, Answer) {
     let reading = record::read_within(record, caller);
     if reading.number != 0 {
@@ -65,8 +65,8 @@ pub fn vehicle_seconds(total: u128, seconds: u16) -> u128 {
     total * u128::from(seconds) / 1_000
 }
 
-/// The rows that running writes, as the text of a schedule: a line a step.
-/// Where the run is refused, its answer instead.
+/// The rows that running writes, as the text of a schedule: one line per step.
+/// If the run is refused, its answer instead.
 pub fn printed_schedule(record: &[u8]) -> Result<String, Box<Answer>> {
     let reading = record::read(record);
     let width = reading.road.n + 1;
@@ -112,7 +112,7 @@ pub fn refusal_line(answer: &Answer) -> String {
     )
 }
 
-/// A line a place: step, place, outflow, and held and queue after the step.
+/// One line per place: step, place, outflow, and held and queue after the step.
 fn print_step(out: &mut String, after: &State, t: usize, flows: &[u32]) {
     for (place, outflow) in flows.iter().enumerate() {
         let (held, queue) = match place {

@@ -4,7 +4,7 @@ use crate::model::Road;
 use crate::record::{self, Reading};
 use crate::refusals;
 
-/// What putting answers.
+/// The answer of putting.
 #[derive(Clone, Copy, Debug, PartialEq, Eq)]
 pub struct Put {
     /// 0, or the refusal.
@@ -14,7 +14,7 @@ pub struct Put {
 }
 
 /// Puts a release at a step, counted from 0, and a cell, counted from 1. A refusal
-/// leaves the record as it is.
+/// leaves the record unchanged.
 pub fn put(bytes: &mut [u8], step: usize, cell: usize, release: u32) -> Put {
     let reading = record::read(bytes);
     if let Some(refused) = refused(&reading, step, cell, release) {

@@ -1,7 +1,7 @@
 //! Reading a record: refusals 1, 2, 3, 19, 4, 26, 5 and 6, in this order.
 //!
-//! Version 2 has a step's seconds in two bytes after byte 7, and all that follows
-//! stands two bytes later.
+//! Version 2 has a step's seconds in two bytes after byte 7, and everything after
+//! them comes two bytes later.
 
 use crate::limits;
 use crate::model::{Road, State};
@@ -9,7 +9,7 @@ use crate::refusals;
 
 /// Bytes of a cell.
 pub const CELL_BYTES: usize = 24;
-/// Where a step's seconds stand in version 2.
+/// The place of a step's seconds in version 2.
 const SECONDS_AT: usize = 8;
 
 /// Bytes before the first cell. The gate's capacity and queue are the last of
@@ -31,7 +31,7 @@ pub struct Caller {
 }
 
 impl Caller {
-    /// The full program, which meets no refusal 26.
+    /// The full program, which never refuses with 26.
     pub const FULL: Caller = Caller {
         cells: Road::MAX_CELLS,
         bytes: Road::MAX_BYTES,
@@ -42,7 +42,7 @@ impl Caller {
         bytes: 4_096,
     };
 
-    /// Whether it takes a record of so many cells and bytes.
+    /// Whether it takes a record of this many cells and bytes.
     fn takes(self, cells: usize, bytes: usize) -> bool {
         cells <= self.cells && bytes <= self.bytes
     }
@@ -135,7 +135,7 @@ pub fn row_numbers(bytes: &[u8], n: usize, step: usize) -> [u32; Road::MAX_ROW] 
 /// Puts the rows of T steps at the front of a lent list, one after the other,
 /// as writing takes them: each by its 1 + 2n numbers as `row_numbers` gives
 /// them, for any bytes. The answer is their count, T x (1 + 2n). It is 0 and the
-/// list is as lent for n above 64, T above 1,440 or a list without that room.
+/// list is unchanged for n above 64, T above 1,440 or a list without that room.
 pub fn rows(bytes: &[u8], n: usize, steps: usize, list: &mut [u32]) -> usize {
     if n > Road::MAX_CELLS || steps > Road::MAX_STEPS {
         return 0;
@@ -213,7 +213,7 @@ pub fn first_bad_place(road: &Road, state: &State) -> Option<usize> {
         .find(|&cell| !limits::cell_fits(road, cell) || !limits::cell_counts_fit(road, state, cell))
 }
 
-/// The road and the starting state as they stand in the bytes.
+/// The road and the starting state in the bytes.
 fn road_and_state(record: &[u8], n: usize) -> (Road, State) {
     let mut road = Road::empty();
     let mut state = State::empty();
@@ -237,7 +237,7 @@ fn road_and_state(record: &[u8], n: usize) -> (Road, State) {
     (road, state)
 }
 
-/// The version that byte 4 says; 1 where there is no such byte.
+/// The version in byte 4; 1 if there is no such byte.
 pub fn version_of(record: &[u8]) -> u8 {
     record.get(4).copied().unwrap_or(1)
 }

@@ -71,7 +71,7 @@ const ROWS: [Row; 37] = [
     (SIZE, &["read", "read_within", "run", "fill", "judge", "history", "put", "join", "run_many", "fill_many", "run_on", "fill_on", "judge_on", "history_on"],
         "a size other than 16 + 24n + T × (4 + 8n) bytes, in version 2 two more"),
     (SIZE, &["write"],
-        "rows of other than T × (1 + 2n) numbers"),
+        "the rows do not have T × (1 + 2n) numbers"),
     (LIMITS, &["read", "read_within", "run", "fill", "judge", "history", "write", "run_many", "fill_many", "run_on", "fill_on", "judge_on", "history_on"],
         "the gate or a cell out of its limits, a ramp mark above 1, held above the jam count, a queue without a ramp, or a last share other than 0"),
     (LIMITS, &["put"],

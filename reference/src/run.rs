@@ -7,10 +7,10 @@ use crate::record::{self, Reading};
 use crate::refusals;
 use crate::step;
 
-/// Runs a record under a table of lanes and writes its outflows, a row a step,
+/// Runs a record under a table of lanes and writes its outflows, one row per step,
 /// gate first.
 ///
-/// Only the rows of steps done are written; the rest of the list is as lent.
+/// Only the rows of steps done are written; the rest of the list is unchanged.
 pub fn run(record: &[u8], table: &[u8], list: &mut [u32]) -> Answer {
     let reading = record::read(record);
     if reading.number != 0 {

@@ -50,8 +50,8 @@ pub fn step(road: Road, state: State, row: &[u32], built: &Lanes, open: &Lanes) 
     }
 }
 
-/// None of the conditions of refusal 7 holds. Sizes are looked at first, so
-/// that the later conditions only meet cells that exist.
+/// None of the conditions of refusal 7 holds. Sizes are tested first, so the later
+/// conditions concern only cells that exist.
 fn all_within_limits(road: &Road, state: &State, row: &[u32]) -> bool {
     (1..=Road::MAX_CELLS).contains(&road.n)
         && row.len() == 1 + 2 * road.n

@@ -7,7 +7,7 @@ use crate::refusals;
 pub const MAX_RAMPS: usize = 8;
 
 /// Grants each ramp its release in a step; the answer is 0 or the refusal, which leaves
-/// the grants as lent.
+/// the grants unchanged.
 pub fn grant(limit: u32, guarantees: &[u32], wishes: &[u32], grants: &mut [u32]) -> u32 {
     if !fits(limit, guarantees, wishes, grants.len()) {
         return refusals::STREET_INPUT;

@@ -16,11 +16,11 @@
 //! damage byte AT N                           another byte, done last
 //! ```
 //!
-//! Cells stand from upstream and before the rows. What isn't named is 0. A text
-//! makes a record that reads: what reading would refuse is a fault of its line.
+//! Cells come from upstream and before the rows. A number that isn't named is 0. A
+//! text makes a record that reads: what reading would refuse is a fault of its line.
 //! Only a text that begins with `refused N` is taken as it is, as far as the
 //! fields can hold its numbers, and must make a record that reading refuses with
-//! N. `as_text` goes the other way, from a record to its text.
+//! N. `as_text` is the inverse, from a record to its text.
 
 use crate::draft::{CellDraft, Draft};
 use crate::model::Road;
@@ -34,11 +34,11 @@ const RATE: u64 = Road::MAX_RATE as u64;
 const START: u64 = Road::MAX_START_QUEUE as u64;
 /// Most bytes of all rows, and that `damage` will add or drop.
 const MAX_MADE_BYTES: u64 = 1_000_000;
-/// What counts and rates are given in, and what speeds, waves and shares are.
+/// The units of counts and rates, and of speeds, waves and shares.
 const PARTS: &str = ", in thousandths of a vehicle";
 const THOUSANDTHS: &str = ", in thousandths";
 
-/// A fault in a text and the line it stands in, counted from 1.
+/// A fault in a text and its line, counted from 1.
 #[derive(Clone, Debug, PartialEq, Eq)]
 pub struct TextError {
     /// Counted from 1.
@@ -112,7 +112,7 @@ fn without_mark(text: &str) -> &str {
     text.strip_prefix('\u{FEFF}').unwrap_or(text)
 }
 
-/// The lines that say something, without their comments.
+/// The lines that are not empty, without their comments.
 pub(crate) fn lines(text: &str) -> impl Iterator<Item = Words<'_>> {
     let text = without_mark(text);
     text.lines().enumerate().filter_map(|(i, line)| {
@@ -134,7 +134,7 @@ pub(crate) struct Words<'a> {
 }
 
 impl<'a> Words<'a> {
-    /// What is said of this line.
+    /// A fault of this line.
     pub(crate) fn fault(&self, message: String) -> TextError {
         let line = self.line;
         TextError { line, message }
@@ -168,7 +168,7 @@ impl<'a> Words<'a> {
         self.measure(wanted, "", most)
     }
 
-    /// The same, where the unit is worth a word.
+    /// The same, with the unit in the message.
     fn measure(&mut self, wanted: &str, unit: &str, most: u64) -> Result<u64, TextError> {
         let word = self.word(wanted)?;
         if !is_number(word) {
@@ -203,7 +203,7 @@ impl<'a> Words<'a> {
         let quoted = format!("'{wanted}'");
         match self.word(&quoted)? {
             word if word == wanted => Ok(()),
-            word => self.error(format!("{quoted} should stand here, not '{word}'")),
+            word => self.error(format!("{quoted} is expected here, not '{word}'")),
         }
     }
 
@@ -226,7 +226,7 @@ impl<'a> Words<'a> {
                 return self.error(format!("unknown keyword '{word}'"));
             };
             if found[k].is_some() {
-                return self.error(format!("'{word}' stands twice"));
+                return self.error(format!("'{word}' is given twice"));
             }
             let most = if free { keys[k].field } else { keys[k].limit };
             found[k] = Some(self.measure(word, keys[k].unit, most)?);
@@ -298,7 +298,7 @@ const CELL_KEYS: [Key; 8] = [
     parts("queue", START, false),
 ];
 
-/// Another number than the one that the sheet would give.
+/// A number other than the one that the text would give.
 enum Damage {
     Length(u32),
     Version(u8),
@@ -309,7 +309,7 @@ enum Damage {
     Byte { line: usize, at: usize, value: u8 },
 }
 
-/// What the lines so far have said.
+/// The contents of the lines so far.
 #[derive(Default)]
 struct Sheet {
     /// The line of `refused` and its number.
@@ -360,7 +360,7 @@ impl Sheet {
 
     fn refused_line(&mut self, words: &mut Words) -> Result<(), TextError> {
         if self.begun {
-            return words.error("'refused' stands before all other statements".to_string());
+            return words.error("'refused' must come before all other statements".to_string());
         }
         let number = words.number("the refusal's number", U16)? as u32;
         if !matches!(number, 1..=6 | 19) {
@@ -391,7 +391,7 @@ impl Sheet {
 
     fn version_line(&mut self, words: &mut Words) -> Result<(), TextError> {
         if self.version.is_some() {
-            return words.error("'version' stands twice".to_string());
+            return words.error("'version' is given twice".to_string());
         }
         match words.number("version", 2)? {
             0 => words.error("there is no version 0, only 1 and 2".to_string()),
@@ -404,7 +404,7 @@ impl Sheet {
 
     fn seconds_line(&mut self, words: &mut Words) -> Result<(), TextError> {
         if self.seconds.is_some() {
-            return words.error("'seconds' stands twice".to_string());
+            return words.error("'seconds' is given twice".to_string());
         }
         let most = self.most(u64::from(Road::MAX_SECONDS), U16);
         let seconds = words.within("seconds", self.least(), most)? as u16;
@@ -414,7 +414,7 @@ impl Sheet {
 
     fn steps_line(&mut self, words: &mut Words) -> Result<(), TextError> {
         if self.steps.is_some() {
-            return words.error("'steps' stands twice".to_string());
+            return words.error("'steps' is given twice".to_string());
         }
         let most = self.most(Road::MAX_STEPS as u64, U16);
         let steps = words.within("steps", self.least(), most)?;
@@ -424,7 +424,7 @@ impl Sheet {
 
     fn gate_line(&mut self, words: &mut Words) -> Result<(), TextError> {
         if self.gate.is_some() {
-            return words.error("'gate' stands twice".to_string());
+            return words.error("'gate' is given twice".to_string());
         }
         let numbers = words.pairs(&GATE_KEYS, self.free())?;
         self.gate = Some((numbers[0] as u32, numbers[1] as u32));
@@ -433,7 +433,7 @@ impl Sheet {
 
     fn cell_lines(&mut self, words: &mut Words, count: usize) -> Result<(), TextError> {
         if !self.rows.is_empty() {
-            return words.error("cells stand before the rows".to_string());
+            return words.error("cells must come before the rows".to_string());
         }
         let most = self.most(Road::MAX_CELLS as u64, u64::from(u8::MAX));
         if (self.cells.len() + count) as u64 > most {
@@ -458,7 +458,7 @@ impl Sheet {
         Ok(())
     }
 
-    /// Like rows, all numbers or by name.
+    /// Equal rows, with all numbers or by name.
     fn row_lines(&mut self, words: &mut Words, count: usize) -> Result<(), TextError> {
         let most = self.most(Road::MAX_STEPS as u64, U16);
         if (self.rows.len() + count) as u64 > most {
@@ -605,8 +605,8 @@ fn check_cell(words: &Words, cell: &CellDraft) -> Result<(), TextError> {
     Ok(())
 }
 
-/// Reading refuses the record as it was meant to, or not at all. Where it isn't
-/// meant every line was looked at, so the damage is at fault.
+/// Reading refuses the record exactly if the text says so. If the text does not, every
+/// line was checked before, so the damage is at fault.
 fn check_refusal(
     found: u32,
     meant: Option<(usize, u32)>,
@@ -640,7 +640,7 @@ fn plain_row(words: &mut Words, most: u64) -> Result<Vec<u32>, TextError> {
     Ok(row)
 }
 
-/// A row given by names; what isn't named is 0.
+/// A row given by names; a number that isn't named is 0.
 fn named_row(words: &mut Words, cells: usize, most: u64) -> Result<Vec<u32>, TextError> {
     let mut row = vec![None; 1 + 2 * cells];
     let mut cell = None;
@@ -660,7 +660,7 @@ fn named_row(words: &mut Words, cells: usize, most: u64) -> Result<Vec<u32>, Tex
             _ => return words.error(format!("unknown keyword '{word}'")),
         };
         if row[slot].is_some() {
-            return words.error(format!("'{word}' stands twice for the same place"));
+            return words.error(format!("'{word}' is given twice for the same place"));
         }
         row[slot] = Some(words.measure(word, PARTS, most)? as u32);
     }

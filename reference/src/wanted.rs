@@ -2,8 +2,8 @@
 //!
 //! A table obeys if no release exceeds the rate or queue plus arrivals, and the queue
 //! after each step is at or under the ceiling. The one wanted has the least running sum
-//! after every step. Where there are few tables all of them are searched; otherwise it
-//! is worked out.
+//! after every step. If there are few tables, all of them are searched; otherwise it
+//! is computed.
 
 use crate::model::Road;
 
@@ -23,7 +23,7 @@ pub struct Asked<'a> {
     pub arrivals: &'a [u32],
 }
 
-/// What the search for releases came to.
+/// The result of the search for releases.
 #[derive(Clone, Copy, Debug, PartialEq, Eq)]
 pub enum Wanted {
     /// Refusal 23.
@@ -34,7 +34,7 @@ pub enum Wanted {
     Found,
 }
 
-/// Puts the releases wanted into a lent table, which is as lent where there are none.
+/// Puts the wanted releases into a lent table, which is unchanged if there are none.
 pub fn wanted(asked: Asked, table: &mut [u32]) -> Wanted {
     if !fits(asked, table.len()) {
         return Wanted::Refused;
@@ -95,7 +95,7 @@ pub fn searched(asked: Asked) -> Option<Vec<u32>> {
     Some(found.expect("one table is the least after every step"))
 }
 
-/// Every table of so many steps with releases up to the rate.
+/// Every table of this many steps with releases up to the rate.
 fn all_tables(rate: u32, steps: usize) -> Vec<Vec<u32>> {
     let mut tables = vec![vec![]];
     for _ in 0..steps {
@@ -118,8 +118,8 @@ pub fn running_sums(numbers: &[u32]) -> Vec<u64> {
     numbers.iter().map(add).collect()
 }
 
-/// By what must be gone after each step. That is what stands above the ceiling, and all
-/// that later steps can't release at the full rate. It can't be more than has come.
+/// By what must have left after each step. That is what is above the ceiling, and what
+/// later steps can't release at the full rate. It can't be more than has arrived.
 pub fn worked_out(asked: Asked) -> Option<Vec<u32>> {
     let (start, ceiling) = (u64::from(asked.start), u64::from(asked.ceiling));
     let rate = u64::from(asked.rate);

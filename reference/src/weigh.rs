@@ -1,7 +1,7 @@
 //! Waiting upstream may weigh more: weighted present, and a run weighted.
 //!
-//! A weight is a whole number from 0 to 255. Running is as without weights; its
-//! steps are walked once more from the rows that it writes.
+//! A weight is a whole number from 0 to 255. Running is the same as without weights;
+//! its steps are made once more from the rows that it writes.
 
 use crate::answer::Answer;
 use crate::model::{Road, State};
@@ -55,8 +55,8 @@ pub fn after_steps_from(
     sums
 }
 
-/// Runs a record under a table of lanes. Beside running's answer it gives the
-/// weighted present summed over the steps done: 0 where none was.
+/// Runs a record under a table of lanes. In addition to running's answer it gives the
+/// weighted present summed over the steps done: 0 if there was none.
 pub fn run(record: &[u8], table: &[u8], weights: &Weights, list: &mut [u32]) -> (Answer, u64) {
     let answer = run::run(record, table, list);
     let sums = after_steps(record, list, answer.state.steps, weights);

@@ -28,7 +28,7 @@ impl Written {
 }
 
 /// Writes a record into the target's first bytes. A refusal leaves the target
-/// as it is, and bytes beyond the record are never touched.
+/// unchanged, and bytes beyond the record are never written.
 ///
 /// `rows` are the numbers of all rows in the record's order.
 pub fn write(road: &Road, steps: usize, start: &Start, rows: &[u32], target: &mut [u8]) -> Written {
@@ -48,7 +48,7 @@ pub fn write(road: &Road, steps: usize, start: &Start, rows: &[u32], target: &mu
 }
 
 /// Refusals 2, 3, 19, 1, 4, 5 and 6, with their place. Once n and T are within
-/// their limits no size can overflow. Version 1's seconds aren't looked at.
+/// their limits no size can overflow. Version 1's seconds are ignored.
 fn fault(road: &Road, steps: usize, start: &Start, rows: &[u32]) -> Option<(u32, usize)> {
     if !record::version_fits(road.version) {
         return Some((refusals::VERSION, 0));
@@ -75,7 +75,7 @@ fn fault(road: &Road, steps: usize, start: &Start, rows: &[u32]) -> Option<(u32,
     step.map(|step| (refusals::RATES, step))
 }
 
-/// The bytes of a record that no refusal meets.
+/// The bytes of a record that is not refused.
 fn encoded(road: &Road, steps: usize, start: &Start, rows: &[u32]) -> Vec<u8> {
     let size = record::size(road.version, road.n, steps);
     let mut bytes = Vec::with_capacity(size);

@@ -2,7 +2,7 @@
 
 mod onward;
 
-use crate::freeway::{Ended, Freeway, Laws, Row, Told};
+use crate::freeway::{Ended, Freeway, HistoryArguments, Laws, Row};
 use nobyaluk::{lent, Refusal};
 use reference::answer::Answer;
 use reference::load::Loaded;
@@ -80,7 +80,7 @@ fn state_for(state: State) -> nobyaluk::State {
     }
 }
 
-/// A law's kind and numbers as they stand, used or not. Kinds that no byte holds are fixed rates, as 255 is.
+/// A law's kind and numbers, used or not. Kinds that no byte holds are fixed rates, as 255 is.
 fn flat(law: &LawInput) -> (u8, [f64; 3]) {
     let kind = u8::try_from(law.kind).unwrap_or(u8::MAX);
     (kind, law.bits.map(f64::from_bits))
@@ -168,8 +168,17 @@ impl Freeway for Engine {
         ended(lent::judge(record, lanes, schedule).value)
     }
 
-    fn history(&self, record: &[u8], told: Told) -> Ended {
-        ended(lent::history(record, told.lanes, told.schedule, told.held, told.queue).value)
+    fn history(&self, record: &[u8], arguments: HistoryArguments) -> Ended {
+        ended(
+            lent::history(
+                record,
+                arguments.lanes,
+                arguments.schedule,
+                arguments.held,
+                arguments.queue,
+            )
+            .value,
+        )
     }
 
     fn fill(&self, record: &mut [u8], laws: &Laws, lanes: &[u8], list: &mut [u32]) -> Ended {

@@ -2,7 +2,7 @@
 
 mod onward;
 
-use crate::freeway::{Ended, Freeway, Laws, Row, Told};
+use crate::freeway::{Ended, Freeway, HistoryArguments, Laws, Row};
 use reference::answer::Answer;
 use reference::join;
 use reference::load::{self, Loaded};
@@ -20,7 +20,7 @@ use trials::cases::case::LawInput;
 
 pub struct Reference;
 
-/// A number as 64 bits hold it, the greatest where it is above them.
+/// A number in 64 bits; the greatest one if it is larger.
 fn within_64_bits(number: u128) -> u64 {
     u64::try_from(number).unwrap_or(u64::MAX)
 }
@@ -69,13 +69,13 @@ impl Freeway for Reference {
     }
 
     /// After the refusals of reading, 17, 18 and 12 comes 11 for either list.
-    fn history(&self, bytes: &[u8], told: Told) -> Ended {
-        let answer = judge::judge(bytes, told.lanes, told.schedule);
-        let size = told.schedule.len();
+    fn history(&self, bytes: &[u8], arguments: HistoryArguments) -> Ended {
+        let answer = judge::judge(bytes, arguments.lanes, arguments.schedule);
+        let size = arguments.schedule.len();
         if answer.road.n == 0 {
             return ended(answer);
         }
-        if told.held.len() < size || told.queue.len() < size {
+        if arguments.held.len() < size || arguments.queue.len() < size {
             return ended(Answer::without_state(refusals::LIST_LENGTH, 0));
         }
         let Reading {
@@ -85,11 +85,11 @@ impl Freeway for Reference {
         for t in 0..answer.state.steps {
             let places = t * width..(t + 1) * width;
             let row = record::row(bytes, road.n, t);
-            state = step::advance(&road, &state, &row, &told.schedule[places.clone()]);
-            let held = &mut told.held[places.clone()];
+            state = step::advance(&road, &state, &row, &arguments.schedule[places.clone()]);
+            let held = &mut arguments.held[places.clone()];
             held[0] = state.gate_queue;
             held[1..].copy_from_slice(&state.held[..road.n]);
-            let queue = &mut told.queue[places];
+            let queue = &mut arguments.queue[places];
             queue[0] = 0;
             queue[1..].copy_from_slice(&state.queue[..road.n]);
         }

@@ -1,4 +1,4 @@
-//! A program held to what the reference prints, record by record.
+//! Compares a program's output with the reference's, record by record.
 
 use crate::cases::{self, case::Case};
 use reference::model::Road;

@@ -1,5 +1,5 @@
-//! Cases as bytes: the file of a case that is run again, and what other languages
-//! are tried with. Frames stand one after another until the input ends.
+//! Cases as bytes: the file of a case that is run again, and the cases for other
+//! languages. Frames follow one another until the input ends.
 //!
 //! All numbers are big-endian and unsigned. A frame is a kind, one byte, and
 //! the fields of that kind in order, without gaps. `u32 B, B bytes` is a count
@@ -91,7 +91,7 @@
 //!
 //! Kind 0 is the fixed law with the numbers rate, -, -; 1 ALINEA with gain,
 //! target, -; 2 demand-capacity with capacity, critical, least. Any other kind
-//! is read as 0. A number marked - is not looked at, whatever its bits.
+//! is read as 0. A number marked - is ignored, whatever its bits.
 //!
 //! Counts are within these limits: B at most 65,540; L of 'U', 'F' and 'G', Y
 //! and Z at most 9,000; K of 'S' at most 200; K of 'W' and L of 'T' at most

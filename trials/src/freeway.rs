@@ -19,7 +19,7 @@ pub type Laws = [LawInput; Road::MAX_CELLS];
 /// The numbers of a row, 0 past its end.
 pub type Row = [u32; Road::MAX_ROW];
 
-/// What running, judging, history and filling answer.
+/// The answer of running, judging, history and filling.
 pub struct Ended {
     pub answer: Answer,
     /// Total time spent.
@@ -28,8 +28,8 @@ pub struct Ended {
     pub exits: u64,
 }
 
-/// What a study passes to history beside its record.
-pub struct Told<'a> {
+/// What a study passes to history in addition to its record.
+pub struct HistoryArguments<'a> {
     pub lanes: &'a [u8],
     pub schedule: &'a [u32],
     pub held: &'a mut [u32],
@@ -53,7 +53,7 @@ pub trait Freeway: Onward {
     fn judge(&self, record: &[u8], lanes: &[u8], schedule: &[u32]) -> Ended;
     /// Judges, and puts what each place holds and what waits at each ramp after each
     /// step made into two lent lists.
-    fn history(&self, record: &[u8], told: Told) -> Ended;
+    fn history(&self, record: &[u8], arguments: HistoryArguments) -> Ended;
     fn fill(&self, record: &mut [u8], laws: &Laws, lanes: &[u8], list: &mut [u32]) -> Ended;
     /// Fills, and gives the longest queues over the steps done.
     fn fill_longest(

@@ -13,7 +13,7 @@ const MAX_BYTES: usize = 6_000;
 /// A byte that nobody wrote.
 const KEPT: u8 = 0xA5;
 
-/// The answer, and the target of so many bytes after it.
+/// The answer, and the target of this many bytes after it.
 fn joined(
     freeway: &impl Freeway,
     roads: [&[u8]; 2],

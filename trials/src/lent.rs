@@ -1,5 +1,5 @@
-//! Lists as they are lent: no two neighbours alike, and guards before and after that
-//! nobody may touch.
+//! Lists to lend: no two neighbouring numbers are equal, and there are guards before and
+//! after that no call may change.
 
 /// Entries of a guard.
 pub const GUARD: usize = 8;

@@ -1,4 +1,4 @@
-//! The trials' cases, and a program held to what the reference prints. Neither needs the proved engine.
+//! The trials' cases, and the comparison of a program with the reference. Neither needs the proved engine.
 
 #![forbid(unsafe_code)]
 

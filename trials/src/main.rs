@@ -1,8 +1,8 @@
-//! The proved engine held to the reference: all cases by hand, and as many random and
-//! altered ones as asked for. Answers are compared whole.
+//! Compares the proved engine with the reference: all cases by hand, and as many random
+//! and altered ones as asked for. Whole answers are compared.
 //!
 //!     trials                       the cases by hand, then 500,000 of seed 1 and as
-//!                                  many of a seed thrown anew, which is printed
+//!                                  many of a new random seed, which is printed
 //!     trials --count N             the same with N cases of each seed
 //!     trials --hand                the cases by hand alone
 //!     trials --seed S [--count N]  the cases of one seed alone
@@ -14,6 +14,7 @@
 
 mod by_engine;
 mod by_reference;
+mod failure_report;
 mod files;
 mod frame;
 mod freeway;
@@ -28,7 +29,6 @@ mod street;
 mod tally;
 #[cfg(test)]
 mod tests;
-mod told;
 mod trial;
 mod whole;
 
@@ -41,7 +41,7 @@ use trials::cases::all_cases;
 use trials::cases::case::Case;
 use trials::cases::source::Source;
 
-/// Failures told in words; all are counted.
+/// The number of failures that are printed; all are counted.
 const TOLD: u64 = 5;
 
 fn main() -> ExitCode {
@@ -99,11 +99,11 @@ fn of_seed(tally: &mut Tally, seed: u64, count: u64) {
     }
 }
 
-/// The first failures are told at once.
+/// The first failures are printed at once.
 fn try_one(tally: &mut Tally, name: &str, case: &Case) {
     if let Err(failure) = tally.add(case) {
         if tally.failed() <= TOLD {
-            told::tell(name, case, &failure);
+            failure_report::print(name, case, &failure);
         }
     }
 }

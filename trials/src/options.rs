@@ -24,7 +24,7 @@ pub enum Options {
 }
 
 impl Options {
-    /// The words of a command line; none where they make no sense.
+    /// The words of a command line; none if they make no sense.
     pub fn of(words: &[String]) -> Option<Options> {
         let words: Vec<&str> = words.iter().map(String::as_str).collect();
         match words[..] {

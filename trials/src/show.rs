@@ -42,7 +42,7 @@ pub fn kind(case: &Case) -> &'static str {
     }
 }
 
-/// All that a case holds, a record in its text form.
+/// Everything in a case, with a record in its text form.
 pub fn case(case: &Case) -> String {
     match case {
         Case::Read { record } => record_text(record),
@@ -99,7 +99,7 @@ fn cells(record: &[u8]) -> usize {
     record.get(5).map_or(0, |&n| usize::from(n))
 }
 
-/// The text form where a record has one, else its bytes.
+/// The text form if a record has one, else its bytes.
 fn record_text(record: &[u8]) -> String {
     match as_text::text_of(record) {
         Ok(text) => format!("record of {} bytes\n{text}", record.len()),

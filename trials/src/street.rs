@@ -1,5 +1,5 @@
-//! The whole of a shared street: two roads, the releases granted for one step put into
-//! both records, both run, each beside a rival.
+//! A shared street from end to end: two roads, the releases granted for one step put into
+//! both records, both run, each compared with a rival schedule.
 
 use crate::by_engine::Engine;
 use crate::by_reference::Reference;
@@ -134,7 +134,7 @@ fn both_feed_alike() {
     }
 }
 
-/// A ramp that isn't there is refused by both, and the record stands.
+/// Both refuse a ramp that does not exist, and the record is unchanged.
 #[test]
 fn no_ramp_no_release() {
     let [(record, _), _] = roads();

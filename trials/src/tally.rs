@@ -14,7 +14,7 @@ pub struct Tally {
 }
 
 impl Tally {
-    /// Puts a case to both implementations.
+    /// Runs a case through both implementations.
     pub fn add(&mut self, case: &Case) -> Result<(), Failure> {
         let compared = trial::compare(case);
         match &compared {
@@ -31,7 +31,7 @@ impl Tally {
         self.failed
     }
 
-    /// A line a kind: its refusals, each with how often it came.
+    /// One line per kind: its refusals, each with how often it occurred.
     pub fn table(&self) -> String {
         let mut lines: BTreeMap<&str, String> = BTreeMap::new();
         for ((kind, number), count) in &self.seen {

@@ -1,4 +1,4 @@
-//! One case put to both implementations.
+//! One case run through both implementations.
 
 use crate::by_engine::Engine;
 use crate::by_reference::Reference;
@@ -11,7 +11,7 @@ use trials::cases::case::Case;
 /// How two answers fail to be the same.
 #[derive(Debug)]
 pub enum Failure {
-    /// One of them broke off.
+    /// One of them panicked.
     Broken(&'static str),
     Different(Vec<Difference>),
 }
@@ -34,7 +34,7 @@ fn answer(name: &'static str, freeway: &impl Freeway, case: &Case) -> Result<Who
 impl fmt::Display for Failure {
     fn fmt(&self, out: &mut fmt::Formatter) -> fmt::Result {
         match self {
-            Failure::Broken(name) => writeln!(out, "  {name} broke off"),
+            Failure::Broken(name) => writeln!(out, "  {name} panicked"),
             Failure::Different(differences) => differences
                 .iter()
                 .try_for_each(|difference| writeln!(out, "  {difference}")),

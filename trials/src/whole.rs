@@ -3,7 +3,7 @@
 
 pub mod onward;
 
-use crate::freeway::{Ended, Freeway, Told};
+use crate::freeway::{Ended, Freeway, HistoryArguments};
 use crate::lent::{self, Lent};
 use reference::load::Loaded;
 use reference::longest::Queues;
@@ -38,7 +38,7 @@ pub struct Whole {
     fields: Vec<Field>,
 }
 
-/// Where two answers part.
+/// Where two answers differ.
 #[derive(Debug, PartialEq, Eq)]
 pub struct Difference {
     pub name: &'static str,
@@ -59,7 +59,7 @@ pub enum At {
 }
 
 impl Whole {
-    /// The refusal's number; 0 for operations that refuse nothing.
+    /// The refusal's number; 0 for operations that never refuse.
     pub fn number(&self) -> u64 {
         let first = self.fields.first().filter(|field| field.name == "number");
         first.map_or(0, |field| field.numbers[0])
@@ -69,7 +69,7 @@ impl Whole {
         self.fields.iter()
     }
 
-    /// All differences, at most one a name.
+    /// All differences, at most one per name.
     pub fn differences(&self, other: &Whole) -> Vec<Difference> {
         let pairs = self.fields.iter().zip(&other.fields);
         let mut found: Vec<Difference> = pairs.filter_map(|(a, b)| difference(a, b)).collect();
@@ -305,13 +305,13 @@ fn history(
         _ => (longer, schedule.len()),
     };
     let (mut held, mut queue) = (lent::numbers(held), lent::numbers(queue));
-    let told = Told {
+    let arguments = HistoryArguments {
         lanes,
         schedule,
         held: held.list(),
         queue: queue.list(),
     };
-    whole.put_ended(&freeway.history(record, told));
+    whole.put_ended(&freeway.history(record, arguments));
     whole.put_lent("held after each step", held);
     whole.put_lent("queues after each step", queue);
 }

@@ -2,20 +2,20 @@
  * record and the list of nobyaluk_run without a table of lanes, and gives the same answer and the same list.
  *
  * What makes it fast:
- *  - Rows are checked by the greatest byte at each place over all rows. Only where these bytes together are above a limit are the
- *    rows looked at one by one.
+ *  - Rows are checked by the greatest byte at each place over all rows. Only if these bytes together are above a limit are the
+ *    rows checked one by one.
  *  - Supplies and demands are 32-bit loops over columns without a branch, which the compiler turns into vector code.
  *  - A list of the cells with a ramp, made once: no other cell's arrivals and release are read.
- *  - A share of 1,000 takes no arithmetic. Of every other share the rest of share x F by 1,000 is kept from step to step, so that one
- *    division by a constant says whether the demand fits; where it doesn't, exactly the room enters, and the outflow is one
+ *  - A share of 1,000 takes no arithmetic. For every other share the remainder of share x F by 1,000 is kept from step to step, so one
+ *    division by a constant shows whether the demand fits. If it doesn't, exactly the room enters, and the outflow is one
  *    multiplication by the share's reciprocal.
- *  - The vehicles on the road are added up along the move. */
+ *  - The vehicles on the road are summed during the move. */
 #include "nobyaluk.h"
 #include <string.h>
 
 enum { CELLS = NOBYALUK_CELLS, WHOLE = 1000, RATE = 1000000, START = 1000000000, ROW_BYTES = 4 + 8 * CELLS };
 
-/* From so many cells on, cells of share 1,000 are sent by a vector loop of their own. */
+/* From this many cells on, cells of share 1,000 are sent by a separate vector loop. */
 enum { WIDE = 32 };
 
 /* The cells in columns. Loops take a multiple of four cells; past cell n every column is 0. */
@@ -29,7 +29,7 @@ typedef struct {
     uint32_t split_cell[CELLS], splits;   /* the cells with another share than 1,000 */
 } columns;
 
-/* What one step works out: room and demand of each cell, and each ramp's release and next queue. */
+/* What one step computes: room and demand of each cell, and each ramp's release and next queue. */
 typedef struct {
     uint32_t room[CELLS + 4], demand[CELLS];
     uint32_t release[CELLS], waiting[CELLS];
@@ -65,7 +65,7 @@ static uint64_t header_fault(const uint8_t *record, uint64_t bytes) {
     return bytes != head + 24 * n + steps * (4 + 8 * n) ? 4 : 0;
 }
 
-/* Reads the cell at i: 1, or 0 where it is out of its limits. */
+/* Reads the cell at i: 1, or 0 if it is out of its limits. */
 static int read_cell(const uint8_t *p, uint64_t i, columns *c, nobyaluk_road *road) {
     uint32_t speed = short_at(p), wave = short_at(p + 2), share = short_at(p + 4), ramp = short_at(p + 6);
     uint32_t jam = number_at(p + 8), capacity = number_at(p + 12), held = number_at(p + 16), queue = number_at(p + 20);
@@ -105,7 +105,7 @@ static void raise(uint8_t *restrict greatest, const uint8_t *restrict part, uint
     for (uint64_t j = 0; j < size; j++) greatest[j] = greatest[j] < part[j] ? part[j] : greatest[j];
 }
 
-/* The first row out of its limits, or `steps`. Short rows are looked at side by side. */
+/* The first row out of its limits, or `steps`. Short rows are checked side by side. */
 static uint64_t first_row_fault(const uint8_t *rows, uint64_t n, uint64_t steps, const uint16_t *ramp) {
     uint64_t size = 4 + 8 * n, beside = ROW_BYTES / size, blocks = steps / beside;
     uint8_t greatest[ROW_BYTES] = {0};
@@ -143,7 +143,7 @@ static uint64_t take_releases(const uint8_t *row, const columns *c, turn *now, u
     return 0;
 }
 
-/* The outflow of a cell whose share isn't 1,000, and what of it enters the next cell. Keeps the rest. */
+/* The outflow of a cell whose share isn't 1,000, and what of it enters the next cell. Keeps the remainder. */
 static flow send_split(columns *c, uint32_t i, uint32_t demand, uint32_t room) {
     uint32_t rest = c->rest[i];
     flow sent = {demand, (rest + c->share[i] * demand) / WHOLE};

@@ -8,9 +8,9 @@ from .errors import show
 
 
 def to_unsigned(x: Any, bits: int) -> int:
-    """Return a number that fits so many bits, or raise ValueError.
+    """Return a number that fits this many bits, or raise ValueError.
 
-    ctypes itself would cut a larger number to its low bits without a message.
+    ctypes itself would silently keep only the low bits of a larger number.
     """
     if not 0 <= (x := operator.index(x)) < 1 << bits:
         raise ValueError(f"{show(x)} is no number of {bits} bits")
@@ -18,7 +18,7 @@ def to_unsigned(x: Any, bits: int) -> int:
 
 
 def to_array(values: Any, dtype: type = np.uint32) -> np.ndarray:
-    """Return a list that the engine may read: every number kept as it is, or ValueError."""
+    """Return a list that the engine may read, with every number unchanged, or raise ValueError."""
     a = np.asarray(values)
     if a.dtype != dtype:
         if not _fit(a, np.iinfo(dtype).max):
@@ -28,7 +28,7 @@ def to_array(values: Any, dtype: type = np.uint32) -> np.ndarray:
 
 
 def _fit(a: np.ndarray, top: int) -> bool:
-    """Return whether an array holds whole numbers from 0 to a greatest one alone."""
+    """Return whether an array holds only whole numbers from 0 to `top`."""
     if not a.size:
         return True
     if a.dtype.kind == "O":
@@ -39,9 +39,9 @@ def _fit(a: np.ndarray, top: int) -> bool:
 
 
 def to_bytes(data: Any) -> bytes:
-    """Return the bytes themselves, whatever holds them.
+    """Return plain bytes, whatever object holds them.
 
-    Plain ones, so that their length is what is passed with them.
+    Their length is then the count that is passed with them.
     """
     if type(data) is bytes:
         return data
@@ -58,7 +58,7 @@ def to_bytes(data: Any) -> bytes:
 
 
 def freeze(a: np.ndarray) -> np.ndarray:
-    """Return the same numbers over bytes, which nothing can make writable again."""
+    """Return the same numbers over bytes, so that nothing can make the array writable again."""
     if isinstance(a.base, bytes) and not a.flags.writeable:
         return a
     return np.ndarray(a.shape, a.dtype, a.tobytes())

@@ -22,7 +22,7 @@ _EITHER = re.compile(r"[0-9]{1,2}([-/])[0-9]{1,2}\1[0-9]{2,4}\b.*")
 
 @dataclass(frozen=True)
 class Moment:
-    """A clock time, with its day and its offset from UTC where they are written."""
+    """A clock time, with its day and its offset from UTC if they are written."""
 
     second: Fraction
     day: int | None
@@ -134,7 +134,7 @@ class Clock:
     def describe(self, second: Fraction) -> str:
         """Return a time of the study in words.
 
-        Of the clock where the study has it, with the day where that is another.
+        It is a clock time if the study has one, with the day if that is not the first.
         """
         if self.start is None:
             return f"{float(second):g} s"
@@ -170,10 +170,7 @@ def parse_clock(text: Any, where: str) -> Fraction:
 
 
 def format_clock(second: Fraction) -> str:
-    """Return a second of the day as a study writes it.
-
-    07:00:20, with decimals where it has some.
-    """
+    """Return a second of the day as a study writes it: 07:00:20, with decimals if it has some."""
     t = int(second)
     part = f"{float(second - t):.9f}"[1:].rstrip("0") if second != t else ""
     return f"{t // 3600:02d}:{t // 60 % 60:02d}:{t % 60:02d}{part}"

@@ -1,4 +1,4 @@
-"""Tables of runs for pandas and spreadsheets: a row a step and place, or a row a run."""
+"""Tables of runs for pandas and spreadsheets: one row per step and place, or one per run."""
 from __future__ import annotations
 
 from collections.abc import Iterable
@@ -29,9 +29,9 @@ def _pandas() -> Any:
 
 
 def run_columns(study: Study, run: Run) -> Columns:
-    """Return a run's columns, with a row a step and place.
+    """Return a run's columns, with one row per step and place.
 
-    Place 0 is the gate, times and counts are those of the step's end. What is unknown is nan or
+    Place 0 is the gate; times and counts are those of the step's end. An unknown value is nan or
     empty.
 
     `inflow` is what enters from upstream, at the gate what arrives, so that a count grows by inflow
@@ -107,9 +107,9 @@ def frame(results: Iterable[StudyRun | Totals]) -> Any:
     Returns
     -------
     pandas.DataFrame
-        Indexed by the studies' names. `total_vehicle_hours` and its parts (vehicle-steps where
-        nobody says a step's seconds), the longest queues and what left in vehicles, nan where it
-        was not asked for; `refused` has the words of a refusal or fault, or "".
+        Indexed by the studies' names. It has `total_vehicle_hours` and its parts (in vehicle-steps
+        if a step's seconds are unknown), the longest queues and the vehicles that left (nan if they
+        were not asked for). `refused` has the message of a refusal or fault, or "".
     """
     pandas, given = _pandas(), list(results)
     rows = [_of_totals(x) if isinstance(x, Totals) else _of_run(x) for x in given]

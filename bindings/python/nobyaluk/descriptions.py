@@ -14,7 +14,7 @@ if TYPE_CHECKING:
 
 @dataclass(frozen=True)
 class ClosedLanes:
-    """Lanes of a cell that are closed from a step up to, and without, another."""
+    """Lanes of a cell that are closed from one step to before another."""
 
     cell: int
     lanes: int
@@ -24,7 +24,7 @@ class ClosedLanes:
 
 
 def find_closures(s: Study) -> list[ClosedLanes]:
-    """Return the lanes that are closed, cell by cell, as long as their number stays the same."""
+    """Return the closed lanes, cell by cell, one entry while their number stays the same."""
     if not s.lanes:
         return []
     out, table = [], np.frombuffer(s.lanes, np.uint8).reshape(-1, s.n)
@@ -41,17 +41,17 @@ def find_closures(s: Study) -> list[ClosedLanes]:
 
 
 def ramp_name(s: Study, cell: int) -> str:
-    """Return the name of a cell's ramp; nothing where it has none."""
+    """Return the name of a cell's ramp; nothing if it has none."""
     return next((name for name, at in s.ramps.items() if at == cell), "")
 
 
 def format_number(x: float) -> str:
-    """Return a number with thousands apart and no more digits than it needs, six at most."""
+    """Return a number with thousands separators and at most six digits, no more than it needs."""
     return f"{x:,.0f}" if abs(x) >= 1e6 or x == round(x) else f"{x:,.6g}"
 
 
 def format_rate(s: Study, parts: float) -> str:
-    """Return parts a step as veh/h, where a step's seconds are known."""
+    """Return parts a step as veh/h, or as vehicles a step if a step's seconds are unknown."""
     return (
         f"{format_number(parts * 3.6 / float(s.seconds))} veh/h"
         if s.seconds
@@ -60,7 +60,7 @@ def format_rate(s: Study, parts: float) -> str:
 
 
 def format_count(s: Study, cell: int, parts: float) -> str:
-    """Return parts in a cell as vehicles, and as a density where its length is known."""
+    """Return parts in a cell as vehicles, and as a density if its length is known."""
     more = (
         f" ({format_number(round(parts / 1000 / s.lengths[cell - 1], 3))} veh/km)"
         if s.lengths and s.lengths[cell - 1]
@@ -73,14 +73,14 @@ def describe_law(s: Study, cell: int) -> str:
     """Return a ramp's meter law with its numbers, or how it releases without one."""
     if cell not in s.laws:
         return (
-            "by the table of releases, at most what it has"
+            "by the table of releases, as the most"
             if s.plan is not None
             else "by the table of releases, exactly"
         )
     kind, *x = s.laws[cell]
     if kind == "fixed":
         return (
-            "open: whatever arrives goes on where there is room"
+            "open: every arrival passes if the cell has room"
             if x[0] == engine.RATE
             else f"fixed rate {format_rate(s, x[0])}"
         )
@@ -117,9 +117,9 @@ def cell_in_field_units(s: Study, i: int) -> list[str] | None:
 
 
 def arrivals_table(s: Study) -> tuple[list[str], list[list[str]]]:
-    """Return vehicles that arrive at each entry in spans of the study, and in all.
+    """Return the vehicles that arrive at each entry in each span of the study, and their sum.
 
-    A heading and a row for the gate and each ramp.
+    There is a heading, and a row for the gate and each ramp.
     """
     rows = s.record.rows
     return _by_spans(
@@ -132,7 +132,7 @@ def arrivals_table(s: Study) -> tuple[list[str], list[list[str]]]:
 
 
 def releases_table(s: Study) -> tuple[list[str], list[list[str]]] | None:
-    """Return the same table of the releases of ramps without a law; None where there are none."""
+    """Return the same table of the releases of ramps without a law; None if there are none."""
     tabled = {name: cell for name, cell in s.ramps.items() if cell not in s.laws}
     each = {
         f"ramp {name}": s.plan[:, cell - 1] if s.plan is not None else s.record.rows[:, 2 * cell]
@@ -144,7 +144,7 @@ def releases_table(s: Study) -> tuple[list[str], list[list[str]]] | None:
 def _by_spans(
     s: Study, columns: dict[str, np.ndarray], most: int = 8
 ) -> tuple[list[str], list[list[str]]]:
-    """Return parts a step as vehicles in spans of the study, at most so many, and in all."""
+    """Return parts per step as vehicles in spans of the study, and their sum."""
     steps = s.record.steps
     each = next(x for x in _spans(s) if -(-steps // x) <= most)
     edges = [*range(0, steps, each), steps]
@@ -160,7 +160,7 @@ def _by_spans(
 
 
 def _spans(s: Study) -> list[int]:
-    """Return numbers of steps that make round spans of time, and plain ones where none does."""
+    """Return numbers of steps that make round spans of time, or plain ones if none does."""
     times = (60, 300, 600, 900, 1200, 1800, 3600, 7200, 10800, 21600, 43200, 86400)
     whole = [int(t / s.seconds) for t in times if s.seconds and t % s.seconds == 0]
     return sorted(
@@ -169,7 +169,7 @@ def _spans(s: Study) -> list[int]:
 
 
 def weights_table(s: Study) -> tuple[list[str], list[list]] | None:
-    """Return what waiting weighs at the gate, in each cell and at each ramp.
+    """Return the weights of waiting at the gate, in each cell and at each ramp.
 
     None without weights.
     """

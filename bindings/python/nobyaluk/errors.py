@@ -11,7 +11,7 @@ class StudyError(ValueError):
 
 
 class RefusedStudy(Exception):
-    """A study that the engine refuses, in the study's own words; `refused` is the refusal."""
+    """The engine refused a study; the message uses the study's names, `refused` is the refusal."""
 
     def __init__(self, message: str, refused: Any) -> None:
         super().__init__(message)
@@ -31,9 +31,9 @@ class FaultList:
         self.found: dict[str, list[int]] = {}
 
     def add(self, row: int | None, says: object) -> None:
-        """Add a fault of a row, or of the file where `row` is None.
+        """Add a fault of a row, or of the file if `row` is None.
 
-        The words may begin with file and row.
+        The message may begin with file and row.
         """
         words = str(says).removeprefix(self.path)
         if found := re.match(r", row ([0-9]{1,15})", words):
@@ -81,10 +81,7 @@ class FaultList:
 
 
 def show(x: Any) -> str:
-    """Return what is there, for a fault's words.
-
-    Cut where it is long, as a number of thousands of digits is.
-    """
+    """Return a value as a message shows it; a long one is cut."""
     if isinstance(x, int) and not isinstance(x, bool) and x.bit_length() > 200:
         return f"a number of {x.bit_length()} bits"
     try:
@@ -103,9 +100,9 @@ def show(x: Any) -> str:
 
 
 def parse_whole(text: str, most: int = (1 << 64) - 1) -> int:
-    """Return a whole number as it is written, in digits alone.
+    """Return a whole number that is written in digits only.
 
-    ValueError for anything else or more.
+    ValueError for any other text, or for a number above `most`.
     """
     if not re.fullmatch(r"[0-9]{1,40}", text) or (x := int(text)) > most:
         raise ValueError(f"{show(text)} is no whole number from 0 to {most}")
@@ -124,7 +121,7 @@ def parse_decimal(text: str) -> Fraction:
 def parse_option(text: str, option: str) -> Fraction:
     """Return a number of the command line.
 
-    A fault for what is none, and for 1,200, which may be meant as 1200 or as 1.2.
+    A text that is no number is a fault. So is 1,200, which may mean 1200 or 1.2.
     """
     if re.fullmatch(r"[+-]?[1-9][0-9]{0,2}(,[0-9]{3})+", text):
         raise StudyError(
@@ -138,9 +135,9 @@ def parse_option(text: str, option: str) -> Fraction:
 
 
 class TomlTable:
-    """A table of a TOML file, with the words for where it is.
+    """A table of a TOML file, and where it is, in words.
 
-    What is asked of it is checked.
+    Each value is checked when it is read.
     """
 
     def __init__(self, values: Any, where: str, known: Collection[str] | None = None) -> None:
@@ -150,7 +147,8 @@ class TomlTable:
         for key in values:
             if known is not None and key not in known:
                 raise StudyError(
-                    f"{where}: {_key(key)} is not known here; known are {', '.join(sorted(known))}"
+                    f"{where}: {_key(key)} is not known here; the known keys are"
+                    f" {', '.join(sorted(known))}"
                 )
 
     def __contains__(self, key: str) -> bool:
@@ -225,7 +223,7 @@ class TomlTable:
 
 
 def _key(key: Any) -> str:
-    """Return a key as it is written, where that can be printed."""
+    """Return a key as it is written, if it can be printed."""
     name = str(key)
     return f"`{name}`" if name.isprintable() and len(name) <= 80 else show(name)
 

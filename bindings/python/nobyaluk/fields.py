@@ -1,11 +1,9 @@
-"""Densities, speeds and flows of a run.
-
-The library's counts divided by lengths and times, of the cells alone.
+"""Densities, speeds and flows of a run's cells.
 
 No number of the model is computed here. A density is the library's count in a cell divided by the
-cell's length; a flow is the library's count in a step divided by the step's time; a speed is an
-outflow divided by the count before the step, times the length. All are arrays of shape (T, n): a
-row a step, and column i - 1 is cell i.
+cell's length. A flow is the library's count in a step divided by the step's time. A speed is an
+outflow divided by the count before the step, times length divided by the step's time. All arrays
+have the shape (T, n): one row per step, and column i - 1 is cell i.
 """
 from __future__ import annotations
 
@@ -49,7 +47,7 @@ def speed(study: Study, run: Run) -> np.ndarray:
 def inflow(study: Study, run: Run) -> np.ndarray:
     """Return what enters each cell from upstream in each step, veh/h.
 
-    A ramp's release is not in it.
+    It does not include a ramp's release.
     """
     return entered(run) / 1000 * per_hour(study)
 
@@ -60,7 +58,7 @@ def outflow(study: Study, run: Run) -> np.ndarray:
 
 
 def per_hour(study: Study) -> float:
-    """Step an hour."""
+    """Return the number of steps in an hour."""
     if not study.seconds:
         raise StudyError(
             f"{study.name}: a flow in veh/h needs the step's seconds, which a .toml study and a"

@@ -1,7 +1,4 @@
-"""Names and tables in the forms in which files are written.
-
-A text of TOML, a table of CSV that no spreadsheet computes.
-"""
+"""Names and tables as files have them: TOML texts, and CSV that no spreadsheet computes."""
 import csv
 import io
 import json
@@ -29,7 +26,7 @@ def csv_safe(name: str) -> str:
 
 
 def columns_key(names: Iterable[str]) -> str:
-    """Return the key of a study that reads such names back; nothing where none was changed."""
+    """Return the key of a study that reads such names back; nothing if none was changed."""
     changed = [f"{quote_toml(csv_safe(x))} = {quote_toml(x)}" for x in names if csv_safe(x) != x]
     return f"columns = {{ {', '.join(changed)} }}" if changed else ""
 

@@ -1,10 +1,8 @@
-"""What a file of counts or rates has, place by place and time by time.
-
-Its numbers, its gaps, and the rule by which gaps are filled.
+"""The numbers and gaps of a file of counts or rates, and the rule by which gaps are filled.
 
 A gap is a time without a row, or a field that is empty, says that there is no number (`NaN`, `NA`,
-`null`, `-`), or has a code for one (-1, -9, -99 ..). Without a rule each is a fault. All that is
-filled is listed.
+`null`, `-`), or has a code for a missing number (-1, -9, -99 ..). Without a rule each gap is a
+fault. Every filled gap is listed.
 """
 import bisect
 import math
@@ -49,9 +47,9 @@ class TableRows:
 
 @dataclass(frozen=True)
 class Filled:
-    """A span of one place's times without numbers, and what it was filled with.
+    """A span of one place's times without numbers, and the numbers that filled it.
 
-    Numbers are in the file's unit.
+    They are in the file's unit.
     """
 
     file: str
@@ -59,28 +57,28 @@ class Filled:
     begin: str
     end: str
     rows: int
-    stood: str
+    original: str
     numbers: str
     rule: str
 
 
 @dataclass
 class Grid:
-    """A file as it is written: of each place, at each time, its row and its text.
+    """A file as it is written: its row and text for each place and time.
 
-    None where the file has no such row.
+    None if the file has no such row.
     """
 
     path: str
     names: list[str]
     columns: dict[str, str]  # of each place the heading of its numbers
     begins: list[Fraction]
-    rows: list[int]  # of each time its first row, or the row before it where it has none
+    rows: list[int]  # of each time its first row, or the row before it if it has none
     cells: dict[str, list[tuple[int, str] | None]]
     unit: str
 
     def known(self, name: str, k: int) -> Fraction | None:
-        """Return the number at a time, where there is one."""
+        """Return the number at a time, or None."""
         cell = self.cells[name][k]
         try:
             return None if cell is None or is_gap(cell[1]) else parse_count(cell[1], "")
@@ -109,9 +107,9 @@ def parse_count(text: str, where: str) -> Fraction:
 def fill_gaps(
     grid: Grid, rule: str | None, clock: Times, faults: FaultList
 ) -> tuple[TableRows, list[Filled]]:
-    """Return the numbers of a file that reach into the study, its gaps filled by the rule.
+    """Return the numbers of a file that reach into the study, with gaps filled by the rule.
 
-    What can't be read is gathered among the faults.
+    Fields that can't be read are added to the faults.
     """
     if rule is not None:
         _regular(grid, rule, clock, faults)
@@ -194,9 +192,9 @@ def _fill(
     column: dict[int, Fraction | None],
     faults: FaultList,
 ) -> Filled:
-    """Fill a run of gaps: with the number before it, or on the line to the one after it.
+    """Fill consecutive gaps with the number before them, or on the line to the one after them.
 
-    Rows outside the study count too.
+    Rows outside the study are used too.
     """
     before = next(
         (k for k in range(span.start - 1, -1, -1) if grid.known(name, k) is not None), None
@@ -210,7 +208,7 @@ def _fill(
         if span.stop < len(grid.begins)
         else 2 * last - grid.begins[span.stop - 2] if span.stop > 1 else last
     )
-    stood = sorted(
+    original = sorted(
         {"no row" if (cell := grid.cells[name][k]) is None else cell[1] or "empty" for k in span}
     )
     if before is None or rule == "interpolate" and after is None:
@@ -220,11 +218,11 @@ def _fill(
         faults.add(
             grid.rows[span.start],
             (
-                f": {name!r} has no number from {begin} to {end} ({', '.join(stood)}), and there is"
-                f" none {lacks}; write numbers there"
+                f": {name!r} has no number from {begin} to {end} ({', '.join(original)}), and there"
+                f" is none {lacks}; write numbers there"
             ),
         )
-        return Filled(grid.path, name, begin, end, len(span), ", ".join(stood), "", rule)
+        return Filled(grid.path, name, begin, end, len(span), ", ".join(original), "", rule)
     a = grid.known(name, before) or Fraction(0)
     line = [a] * len(span)
     if rule == "interpolate" and after is not None:
@@ -239,7 +237,7 @@ def _fill(
         begin,
         end,
         len(span),
-        ", ".join(stood),
+        ", ".join(original),
         " to ".join(dict.fromkeys(numbers)),
         rule,
     )
@@ -248,7 +246,7 @@ def _fill(
 def _regular(grid: Grid, rule: str, clock: Times, faults: FaultList) -> None:
     """Give the rows one interval, the most common one.
 
-    A time without a row is a fault by the rule `fault`, and a gap by the others.
+    A time without a row is a fault with the rule `fault`, and a gap with the others.
     """
     begins = grid.begins
     spans = [b - a for a, b in zip(begins, begins[1:])]
@@ -270,7 +268,7 @@ def _regular(grid: Grid, rule: str, clock: Times, faults: FaultList) -> None:
         if span % interval or count > MOST_MISSING:
             faults.add(
                 grid.rows[k + 1],
-                f": {apart}; beside `gaps` rows are one interval apart, or a few of them",
+                f": {apart}; with `gaps` rows are a whole number of intervals apart",
             )
         elif rule == "fault":
             faults.hint = HINT
@@ -290,7 +288,7 @@ def _after(
 ) -> list[Fraction]:
     """Return the times from the last row to the study's end.
 
-    A fault by the first rule, and gaps by the others.
+    They are a fault with the rule `fault`, and gaps with the others.
     """
     last, end = grid.begins[-1], clock.steps * clock.seconds
     lacking = max(0, math.ceil((end - last) / interval) - 1)
@@ -314,7 +312,7 @@ def _after(
 
 
 def _insert(grid: Grid, missing: dict[int, list[Fraction]]) -> None:
-    """Put times without a row after those at these places."""
+    """Insert times without a row after the rows at these places."""
     begins: list[Fraction] = []
     rows: list[int] = []
     cells: dict[str, list[tuple[int, str] | None]] = {name: [] for name in grid.cells}
@@ -328,14 +326,11 @@ def _insert(grid: Grid, missing: dict[int, list[Fraction]]) -> None:
 
 
 def gap_notes(path: str, filled: list[Filled], rows: int) -> list[str]:
-    """Return a note for each place that had gaps.
-
-    How many rows were filled, by which rule, and where.
-    """
+    """Return a note for each place with gaps: how many rows were filled, by which rule, where."""
     out = []
     for name in dict.fromkeys(x.name for x in filled):
         own = [x for x in filled if x.name == name]
-        spans = ", ".join(f"{x.begin} to {x.end} ({x.stood}: {x.numbers})" for x in own[:LISTED])
+        spans = ", ".join(f"{x.begin} to {x.end} ({x.original}: {x.numbers})" for x in own[:LISTED])
         more = f", and {len(own) - LISTED} more, which a report lists" if len(own) > LISTED else ""
         count = sum(x.rows for x in own)
         out.append(

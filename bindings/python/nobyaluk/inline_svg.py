@@ -1,6 +1,6 @@
-"""Pictures inside a page, made small.
+"""Smaller pictures inside a page.
 
-Fewer digits, one path for lines of one style, and each letter's shape once in the page.
+They have fewer digits, one path for lines of one style, and each letter's shape once in the page.
 """
 import re
 
@@ -15,7 +15,7 @@ class InlineSvg:
         self.shapes: set[str] = set()  # letters that the page has
 
     def small(self, svg: str) -> str:
-        """Return a picture without what the page has already."""
+        """Return a picture without the letters that the page already has."""
         svg = re.sub(r' d="([^"]*)"', lambda m: f' d="{_short(m[1])}"', svg)
         return _joined(_SHAPE.sub(self._once, re.sub(r"\n\s*", "\n", svg)))
 
@@ -32,9 +32,9 @@ def _short(path: str) -> str:
 
 
 def _joined(svg: str) -> str:
-    """Return lines that follow one another and have one style, as one path.
+    """Return consecutive lines of one style as one path.
 
-    Filled shapes stay as they are: where they overlap, one path would differ.
+    Filled shapes stay unchanged: where they overlap, one path would look different.
     """
     out: list[str] = []
     style, closing = None, ""

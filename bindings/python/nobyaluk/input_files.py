@@ -1,7 +1,6 @@
-"""Files that are read.
+"""Files that are read, each up to a stated size.
 
-Each up to a stated size, so that a device or a file of gigabytes is a fault and not the end of the
-memory.
+So a device, or a file of gigabytes, is a fault and does not fill the memory.
 """
 import os
 from collections.abc import Iterable
@@ -17,7 +16,7 @@ MOST_TEXT = 16 << 20  # bytes of a record, laws, lanes or a schedule as text
 
 
 def read_start(path: str | Path, most: int) -> bytes:
-    """Return the first `most` bytes of a file, all of them where it has fewer."""
+    """Return the first `most` bytes of a file, all of them if it has fewer."""
     try:
         with open(path, "rb") as f:
             return f.read(most)
@@ -26,7 +25,7 @@ def read_start(path: str | Path, most: int) -> bytes:
 
 
 def read_file(path: str | Path, most: int = MOST_TEXT) -> bytes:
-    """Return all bytes of a file that has at most so many; a fault otherwise."""
+    """Return all bytes of a file that has at most `most`; otherwise it is a fault."""
     data = read_start(path, most + 1)
     if len(data) > most:
         raise StudyError(
@@ -46,7 +45,7 @@ def read_text(path: str | Path, most: int = MOST_TEXT) -> str:
 def read_record(path: str | Path) -> bytes:
     """Return a record's bytes; StudyError for a file that is no record.
 
-    Of a longer file it is one byte more than a record has, which the engine refuses.
+    A longer file gives one byte more than a record may have, which the engine refuses.
     """
     if Path(path).suffix == ".csv":
         raise StudyError(
@@ -88,12 +87,10 @@ def _looks_like(data: bytes) -> str:
 
 
 def find_inputs(names: Iterable[str | Path]) -> list[Path]:
-    """Return these files, and all that a .toml among them names.
+    """Return these files, and all files that a .toml among them names.
 
-    Its base, the study before it, its tables and a street's studies.
-
-    A name in a base counts from the folder of the base and of each file that led to it, so that
-    none is left out.
+    These are its base, the study before it, its tables and a street's studies. A name in a base is
+    looked up in the folder of the base and of each file that led to it, so that none is missed.
     """
     out: list[Path] = []
     seen: set[tuple[str, frozenset[str]]] = set()
@@ -117,9 +114,9 @@ def find_inputs(names: Iterable[str | Path]) -> list[Path]:
 
 
 def _named(path: Path) -> list[str]:
-    """Return the names of files in a .toml, wherever they are in it.
+    """Return all names of files in a .toml.
 
-    None where it can't be read, which the command itself reports.
+    None if it can't be read, which the command itself reports.
     """
     try:
         top = tomllib.loads(read_text(path))
@@ -144,7 +141,7 @@ def _named(path: Path) -> list[str]:
 def is_same_file(a: str | Path, b: str | Path) -> bool:
     """Return whether two names are one file.
 
-    By the file where both are there, by the whole name where not.
+    The files are compared if both exist, otherwise the full names.
     """
     try:
         return os.path.samefile(a, b)

@@ -18,10 +18,9 @@ if TYPE_CHECKING:
 def join_studies(up: Study, down: Study, share: int) -> Study:
     """Return two neighbouring roads as one study.
 
-    Their records joined by the engine, and what their studies say beside them.
-
-    A road whose ramps go by laws or a plan is joined with the releases of its own run; the joined
-    study has the laws and works them out anew.
+    The engine joins their records; names, lengths, works, laws and weights come from the studies.
+    A road whose ramps follow laws or a plan is joined with the releases of its own run. The joined
+    study has the laws, and its run computes their releases again.
     """
     return describe_joined(
         up, down, engine.join(engine.read(study_bytes(up)), engine.read(study_bytes(down)), share)
@@ -29,10 +28,7 @@ def join_studies(up: Study, down: Study, share: int) -> Study:
 
 
 def describe_joined(up: Study, down: Study, both: engine.Record) -> Study:
-    """Return the study of two roads that were joined.
-
-    Their names, lengths, works, laws and weights.
-    """
+    """Return the study of two joined roads: names, lengths, works, laws and weights."""
     if up.start is not None and down.start is not None and up.start != down.start:
         raise StudyError(
             f"{up.name} starts at {format_clock(up.start)} and {down.name} at"
@@ -105,9 +101,9 @@ def describe_joined(up: Study, down: Study, both: engine.Record) -> Study:
 
 
 def with_known_lengths(whole: Study, up: Study, down: Study) -> Study:
-    """Return a joined study with the lengths of one road where the other has none.
+    """Return a joined study with the lengths of one road if the other has none.
 
-    A file keeps them.
+    A file then keeps them.
     """
     known: list[float | None] = [None] * (up.n + down.n)
     known[: up.n], known[up.n :] = up.lengths or known[: up.n], down.lengths or known[up.n :]

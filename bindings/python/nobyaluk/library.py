@@ -1,10 +1,8 @@
-"""The C boundary of the proved engine.
+"""The C boundary of the proved engine: its structs, its limits and its functions.
 
-Its structs, its limits and the declarations of its functions.
-
-Each function here is the one of `nobyaluk.h` whose name follows `nobyaluk_`, called as C calls it:
-with the address and the count of each list. `engine` has the same operations for Python. Python's
-lock is given up during a call, and the engine has no state of its own, so threads run side by side.
+Each function here is the one of `nobyaluk.h` with the prefix `nobyaluk_`, called as C calls it:
+with the address and the count of each list. `engine` has the same operations for Python. A call
+releases Python's lock, and the engine has no state of its own, so threads run side by side.
 """
 import ctypes
 import os
@@ -47,7 +45,7 @@ else:
 
 
 class _Tested(_Array):
-    """An array of a struct: each number that is set is tested, and none of a record's is set."""
+    """An array of a struct. Each new number is tested; numbers of a record can't be set."""
 
     def __init__(self, *values: Any) -> None:
         super().__init__(*(to_unsigned(x, 8 * ctypes.sizeof(self._type_)) for x in values))
@@ -73,7 +71,7 @@ def _array(kind: Any, length: int) -> Any:
 
 
 class Struct(ctypes.Structure):
-    """A struct of the boundary: each number that is set is tested, and no other name is taken."""
+    """A struct of the boundary. Each new number is tested; an unknown field is an error."""
 
     def __init_subclass__(cls: Any) -> None:
         if cls.__base__ is not Struct:
@@ -96,16 +94,16 @@ class Struct(ctypes.Structure):
         super().__setattr__(name, value)
 
     def copy(self) -> Any:
-        """Return the same numbers, to be changed."""
+        """Return a copy that can be changed."""
         return type(self).from_buffer_copy(self)
 
     def lock(self) -> Any:
-        """Return the struct, which can't be changed from now on."""
+        """Return the struct; from now on it can't be changed."""
         self.__dict__["locked"] = True
         return self
 
     def __eq__(self, other: Any) -> bool:
-        """Return whether all fields are alike, also those past cell n."""
+        """Return whether all fields are equal, also those past cell n."""
         if type(other) is not type(self):
             return NotImplemented
         pairs = [(getattr(self, name), getattr(other, name)) for name, _ in self._fields_]
@@ -141,7 +139,7 @@ class Road(Struct):
     share : array of int
         b, the thousandths of an outflow that stay on the road.
     ramp : array of int
-        1 where the cell has an on-ramp, otherwise 0.
+        1 if the cell has an on-ramp, otherwise 0.
     jam : array of int
         J, parts.
     capacity : array of int
@@ -191,7 +189,7 @@ class State(Struct):
 
 
 class Start(Struct):
-    """What a study starts from.
+    """The start of a study.
 
     Attributes
     ----------
@@ -211,14 +209,15 @@ class Lanes(Struct):
 class Weights(Struct):
     """Weights of waiting, 0 to 255.
 
-    Of the gate and each cell, the gate first, and of each ramp's queue. None is read past cell n.
+    There is one for the gate and each cell, the gate first, and one for each ramp's queue. Weights
+    past cell n are not read.
     """
 
     _fields_ = [("places", _array(_u8, CELLS + 1)), ("ramps", _u8s)]
 
 
 class Reading(ctypes.Structure):
-    """What reading a record answers."""
+    """The answer of reading a record."""
 
     _fields_ = [
         ("number", _u64),
@@ -230,7 +229,7 @@ class Reading(ctypes.Structure):
 
 
 class Ended(ctypes.Structure):
-    """What running, filling or judging answers."""
+    """The answer of running, filling or judging."""
 
     _fields_ = [
         ("number", _u64),
@@ -245,67 +244,70 @@ class Ended(ctypes.Structure):
 
 
 class Weighed(ctypes.Structure):
-    """What running with weights answers."""
+    """The answer of running with weights."""
 
     _fields_ = [("weighted", _u64), ("ended", Ended)]
 
 
 class Longest(ctypes.Structure):
-    """What running or filling with the longest queues answers."""
+    """The answer of running or filling with the longest queues."""
 
     _fields_ = [("gate", _u32), ("waiting", _u32), ("ramps", _u32 * CELLS), ("ended", Ended)]
 
 
 class Tallied(ctypes.Structure):
-    """What running answers that goes on from a state, of the steps of this record."""
+    """The answer of running that goes on from a state; it covers the steps of this record."""
 
     _fields_ = [("weighted", _u64), ("longest", Longest)]
 
 
 class Progress(ctypes.Structure):
-    """What filling goes on from: a state, and each cell's last release and entry, in parts."""
+    """The progress from which filling goes on: a state, and each cell's last release and entry.
+
+    All are in parts.
+    """
 
     _fields_ = [("state", State), ("releases", _u32 * CELLS), ("entries", _u32 * CELLS)]
 
 
 class Filled(ctypes.Structure):
-    """What filling answers that goes on, with what the next goes on from."""
+    """The answer of filling that goes on, with the last releases and entries for the next call."""
 
     _fields_ = [("longest", Longest), ("releases", _u32 * CELLS), ("entries", _u32 * CELLS)]
 
 
 class Stepped(ctypes.Structure):
-    """What one step answers."""
+    """The answer of one step."""
 
     _fields_ = [("number", _u64), ("place", _u64), ("state", State)]
 
 
 class Written(ctypes.Structure):
-    """What writing or joining answers."""
+    """The answer of writing or joining."""
 
     _fields_ = [("number", _u64), ("place", _u64), ("count", _u64)]
 
 
 class Loaded(ctypes.Structure):
-    """What the stated load answers."""
+    """The answer of the stated load."""
 
     _fields_ = [("number", _u64), ("last", _u64)]
 
 
 class Wanted(ctypes.Structure):
-    """What the releases for a wanted queue answer."""
+    """The answer of the search for a wanted queue."""
 
     _fields_ = [("number", _u64), ("found", _u64)]
 
 
 class Released(ctypes.Structure):
-    """What putting a release answers."""
+    """The answer of putting a release."""
 
     _fields_ = [("number", _u64), ("place", _u64)]
 
 
 class Answer(ctypes.Structure):
-    """What one study of many answers."""
+    """The answer for one of many studies."""
 
     _fields_ = [
         ("number", _u64),
@@ -322,7 +324,7 @@ class Answer(ctypes.Structure):
 
 
 class Many(ctypes.Structure):
-    """What many studies answer as a whole."""
+    """The answer of the whole call with many studies."""
 
     _fields_ = [("number", _u64), ("place", _u64)]
 
@@ -373,7 +375,7 @@ def _function(name: str, result: Any, *arguments: Any) -> Any:
     except AttributeError:
         raise ImportError(
             f"the engine's library has no nobyaluk_{name}: it is older than this package; build it"
-            " anew with bindings/build"
+            " again with bindings/build"
         ) from None
     f.restype, f.argtypes = result, arguments
     return f
@@ -383,7 +385,7 @@ VERSION = 1  # of the structs and arguments of the boundary
 if (_found := _function("version", _u32)()) != VERSION:
     raise ImportError(
         f"the engine's library has boundary {_found}, and this package needs {VERSION}: build it"
-        " anew with bindings/build"
+        " again with bindings/build"
     )
 
 _bytes, _list = (ctypes.c_char_p, _size), (ctypes.c_void_p, _size)

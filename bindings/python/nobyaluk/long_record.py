@@ -1,11 +1,11 @@
 """Studies beyond a record's 65,536 bytes: 1,440 steps of 64 cells as one, and whole days in parts.
 
-A `LongRecord` is used as a `Record` is. It is run, filled, judged and given its history in
-stretches of as many rows as a record holds. The engine goes on with each from the state of the one
-before, with its cumulative outflows and times, and the meters from their last releases and entries.
-What is longer than 1,440 steps is run in parts of 1,440: a part starts from what the one before
-left, and its steps and cumulative outflows begin anew. Python adds up: weighted totals over the
-stretches, times and exits over the parts.
+A `LongRecord` is used like a `Record`. It is run, filled and judged in stretches of as many rows as
+a record holds. Each stretch goes on from the state of the one before, with its cumulative outflows
+and times; meters go on from their last releases and entries. A study of more than 1,440 steps is
+run in parts of 1,440. A part starts from what the one before left; its steps and cumulative
+outflows begin at 0 again. Python adds weighted totals over the stretches, and times and exits over
+the parts.
 """
 import ctypes
 from collections.abc import Iterator, Mapping
@@ -21,11 +21,11 @@ from .engine import BaseRecord, Law, LongestQueues, Record, Refused, Road, Run, 
 from .errors import StudyError
 from .refusals import Refusal
 
-MOST_STEPS = 17_280  # of a study: 24 hours of 5 s
+MOST_STEPS = 17_280  # of a study: 24 hours in steps of 5 s
 
 
 class Stretch(NamedTuple):
-    """Rows that one record holds: the step of the first, how many, and the record.
+    """Rows that one record holds: the first step, the number of steps, and the record.
 
     The record's own start is checked and then ignored.
     """
@@ -36,11 +36,11 @@ class Stretch(NamedTuple):
 
     @property
     def anew(self) -> bool:
-        """Whether a part begins with it that is not the first."""
+        """Whether it begins a part other than the first."""
         return self.begin > 0 and self.begin % engine.STEPS == 0
 
     def lanes(self, table: bytes, n: int) -> bytes:
-        """Return a table of lanes for these steps alone."""
+        """Return the table of lanes for these steps only."""
         at = n * (1 + self.begin)
         return table and table[:n] + table[at : at + n * self.steps]
 
@@ -49,7 +49,18 @@ class Stretch(NamedTuple):
 class LongRecord(BaseRecord):
     """A road, a start and more rows than a record holds, each within the engine's limits.
 
-    It keeps copies, which nothing can change.
+    It keeps copies, which can't be changed.
+
+    Attributes
+    ----------
+    road : Road
+        Speeds, waves and shares in thousandths; jam counts in parts, capacities in parts a step.
+    start : State
+        The state before step 0, in parts.
+    rows : numpy.ndarray of uint32, shape (T, 1 + 2n)
+        In parts a step: gate arrivals, then each cell's ramp arrivals and release. Read-only.
+    steps : int
+        T, at most 17,280.
     """
 
     road: Road
@@ -96,11 +107,29 @@ class LongRecord(BaseRecord):
 
     @cached_property
     def stretches(self) -> list[Stretch]:
-        """The rows in as few records as hold them, none across the end of a part."""
+        """The rows in as few records as possible, none across the end of a part."""
         return list(_written(self.road, self.rows))
 
     def history(self, outflow: np.ndarray, lanes: bytes) -> tuple[np.ndarray, np.ndarray]:
-        """Return what each place holds, and what waits at its ramp, after every step of a run."""
+        """Return what each place holds, and what waits at its ramp, after every step of a run.
+
+        Parameters
+        ----------
+        outflow : array_like of int, shape (T, n + 1)
+            Outflows in parts, the gate first.
+        lanes : bytes
+            The table of lanes of all steps; empty if all are open.
+
+        Returns
+        -------
+        held, queue : numpy.ndarray of uint32, shape (T, n + 1)
+            In parts, the gate first.
+
+        Raises
+        ------
+        Refused
+            As by judging, with the step counted from the study's start.
+        """
         w, zs = _Whole(self, lanes), to_array(outflow)
         held, queue = (np.empty(w.outflow.shape, np.uint32) for _ in range(2))
         for s, own, rows in w.stretches():
@@ -111,18 +140,18 @@ class LongRecord(BaseRecord):
 
 
 def most_steps(road: Road) -> int:
-    """Return as many steps as a record of this road holds."""
+    """Return the number of steps that a record of this road holds."""
     head = 18 if road.version == 2 else 16
     return min(engine.STEPS, (engine.BYTES - head - 24 * road.n) // (4 + 8 * road.n))
 
 
 def begins_anew(record: BaseRecord) -> bool:
-    """Return whether it is run in parts, whose cumulative outflows begin anew."""
+    """Return whether it is run in parts, whose cumulative outflows begin at 0 again."""
     return record.steps > engine.STEPS
 
 
 def _written(road: Road, rows: np.ndarray) -> Iterator[Stretch]:
-    """Yield the stretches of rows, each a record of a road that is empty at first."""
+    """Yield the stretches of rows, each as a record whose road is empty at the start."""
     fits, target, start = most_steps(road), np.empty(engine.BYTES, np.uint8), Start()
     for part in range(0, len(rows), engine.STEPS):
         end = min(part + engine.STEPS, len(rows))
@@ -136,7 +165,7 @@ def _written(road: Road, rows: np.ndarray) -> Iterator[Stretch]:
 
 
 def make_record(road: Road, start: Start, rows: Any) -> Record | LongRecord:
-    """Return the record of a road, a start and its rows; a LongRecord where it is too long.
+    """Return the record of a road, a start and its rows; a LongRecord if it is too long.
 
     Refused as by writing.
     """
@@ -152,9 +181,9 @@ def make_record(road: Road, start: Start, rows: Any) -> Record | LongRecord:
 
 
 def start_anew(state: State) -> State:
-    """Return what a state holds, as the state before a part's first step.
+    """Return the state before a part's first step, with the counts of the state given.
 
-    No step is done, no time spent and nothing sent.
+    Its steps done, times and cumulative outflows are 0.
     """
     return State(gate_queue=state.gate_queue, held=state.held, queue=state.queue)
 
@@ -175,7 +204,7 @@ def add_up(record: BaseRecord, ends: list[State]) -> tuple[State, int, int, int]
 
 
 class _Whole:
-    """What a study's stretches come to: outflows, the parts' last states and the longest queues."""
+    """The results of all stretches: outflows, the parts' last states and the longest queues."""
 
     def __init__(self, record: LongRecord, lanes: bytes) -> None:
         n, lanes = record.road.n, to_bytes(lanes)
@@ -207,14 +236,14 @@ class _Whole:
             yield s, s.lanes(self.lanes, self.n), slice(s.begin, s.begin + s.steps)
 
     def take(self, s: Stretch, e: library.Ended, operation: str) -> None:
-        """Take a stretch's end; Refused with the step counted from the study's start."""
+        """Store a stretch's end, or raise Refused with the step counted from the study's start."""
         if e.number:
             step = e.step + s.begin if e.number in engine.BROKEN_RULES else e.step
             raise Refused(e.number, step, e.place, operation)
         self.ends[-1] = e.state
 
     def take_longest(self, s: Stretch, a: library.Longest, operation: str) -> None:
-        """Take a stretch's end and longest queues."""
+        """Store a stretch's end and longest queues."""
         self.take(s, a.ended, operation)
         self.gate, self.waiting = max(self.gate, a.gate), max(self.waiting, a.waiting)
         np.maximum(self.ramps, np.frombuffer(a.ramps, np.uint32), out=self.ramps)
@@ -227,7 +256,7 @@ class _Whole:
 
 
 def run_long(record: LongRecord, lanes: bytes = b"", weights: tuple[Any, Any] | None = None) -> Run:
-    """Run it with its own releases.
+    """Run a long record with its own releases.
 
     Parameters
     ----------
@@ -240,7 +269,7 @@ def run_long(record: LongRecord, lanes: bytes = b"", weights: tuple[Any, Any] | 
     Returns
     -------
     Run
-        Outflows and counts in parts, times in part-steps. Of more than 1,440 steps, `state` has
+        Outflows and counts in parts, times in part-steps. With more than 1,440 steps, `state` has
         the cumulative outflows of the last part.
 
     Raises
@@ -289,7 +318,7 @@ def fill_long(
     Refused
         As by filling.
     StudyError
-        Where a ramp has no law, or a cell with a law no ramp.
+        If a ramp has no law, or a cell with a law no ramp.
     """
     kinds, numbers = engine.encode_laws(laws)
     engine.check_laws(record, laws)
@@ -313,7 +342,25 @@ def fill_long(
 def judge(record: BaseRecord, schedule: Any, lanes: bytes = b"") -> Run:
     """Judge a schedule of a record, or of a longer study of at most 1,440 steps.
 
-    Refused at the first broken rule, with its step counted from the study's start.
+    Parameters
+    ----------
+    record : Record or LongRecord
+    schedule : array_like of int
+        Outflows in parts, one row per step, gate first: T x (n + 1) numbers.
+    lanes : bytes, optional
+        The table of lanes of all steps; default: all open.
+
+    Returns
+    -------
+    Run
+        Of the schedule, with its own states and total.
+
+    Raises
+    ------
+    Refused
+        At the first broken rule, with its step counted from the study's start.
+    StudyError
+        If the study has more than 1,440 steps.
     """
     if isinstance(record, Record):
         return engine.judge(record, schedule, lanes)
@@ -331,12 +378,12 @@ def state_before(record: BaseRecord, schedule: Any, lanes: bytes = b"") -> State
 
 
 def _follow(record: BaseRecord, schedule: Any, lanes: bytes) -> tuple[_Whole, Refused | None]:
-    """Return how far judging comes, and the refusal that stops it in a step."""
+    """Return the results up to the first broken rule, and its refusal, if any."""
     if begins_anew(record) or not isinstance(record, LongRecord):
         raise StudyError(
             "a schedule is judged by its cumulative outflows from step 0 on, and a study of"
-            f" {record.steps:,} steps begins them anew every {engine.STEPS:,}; judge studies of at"
-            f" most {engine.STEPS:,} steps, each with the one before it as `after`"
+            f" {record.steps:,} steps begins them at 0 again every {engine.STEPS:,}; judge studies"
+            f" of at most {engine.STEPS:,} steps, each with the one before it as `after`"
         )
     w, zs = _Whole(record, lanes), to_array(schedule)
     if zs.size != w.outflow.size:

@@ -1,7 +1,4 @@
-"""Studies and runs as a notebook shows them.
-
-A few lines of HTML, the totals and a small picture.
-"""
+"""Studies and runs as a notebook shows them: a few lines of HTML, the totals, a small picture."""
 from __future__ import annotations
 
 import base64
@@ -39,9 +36,9 @@ def _table(rows: Iterable[tuple[str, str]]) -> str:
 
 
 def run_html(run: StudyRun) -> str:
-    """Return the totals of a run and where its road fills.
+    """Return the totals of a run and a picture of where its road fills.
 
-    Without a picture where matplotlib is missing or the road can't be drawn.
+    There is no picture if matplotlib is missing or the road can't be drawn.
     """
     study, w = run.study, hours(run, run.study.seconds)
     rows = [
@@ -70,8 +67,8 @@ def _picture(study: Study, run: StudyRun) -> str:
 def study_html(study: Study) -> str:
     """Return a study's road, arrivals and meters; it is not run."""
     rows = study.record.rows.astype(np.int64)
-    told = [("length", f"{sum(study.lengths):,.3f} km")] if study.lengths else []
-    told.append(("arrivals at the gate", f"{rows[:, 0].sum() / 1000:,.1f} vehicles"))
+    lines = [("length", f"{sum(study.lengths):,.3f} km")] if study.lengths else []
+    lines.append(("arrivals at the gate", f"{rows[:, 0].sum() / 1000:,.1f} vehicles"))
     for name, cell in list(study.ramps.items())[:12]:
         law = study.laws.get(cell)
         meter = (
@@ -81,12 +78,12 @@ def study_html(study: Study) -> str:
                 law[0] if law else "at most a plan" if study.plan is not None else "stated releases"
             )
         )
-        told.append(
+        lines.append(
             (
                 f"on-ramp {make_legible(name, 40)} (cell {cell})",
                 f"{rows[:, 2 * cell - 1].sum() / 1000:,.1f} vehicles, {meter}",
             )
         )
     if len(study.ramps) > 12:
-        told.append((f"and {len(study.ramps) - 12} on-ramps", ""))
-    return f"<div>{_head(study)}{_table(told)}</div>"
+        lines.append((f"and {len(study.ramps) - 12} on-ramps", ""))
+    return f"<div>{_head(study)}{_table(lines)}</div>"

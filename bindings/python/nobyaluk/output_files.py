@@ -1,7 +1,7 @@
 """Files that are written: whole or not at all, and never over a file that is read.
 
 The new contents go to a temporary name in the same folder, which is renamed once they are on the
-disk. A full disk or a killed process leaves the old file as it was.
+disk. A full disk or a killed process leaves the old file unchanged.
 """
 import os
 import secrets
@@ -23,7 +23,7 @@ class NotWritten(Exception):
 class Guard:
     """The files that a command reads, and those that it has written.
 
-    The first are found when something is to be written.
+    The files that it reads are collected before the first file is written.
     """
 
     def __init__(self, names: Iterable[str | Path], force: bool) -> None:
@@ -55,7 +55,7 @@ def protect_inputs(names: Iterable[str | Path], force: bool = False) -> Iterator
 
 
 def check_target(path: str | Path, inputs: Iterable[str | Path] = (), force: bool = False) -> None:
-    """Raise StudyError where the path is an input, or was written by this command before."""
+    """Raise StudyError if the path is an input, or if this command has already written it."""
     guard = _guard.get() or Guard((), False)
     if any(is_same_file(path, x) for x in guard.done):
         raise StudyError(f"{path}: this command has two outputs of this name")
@@ -72,7 +72,7 @@ def check_target(path: str | Path, inputs: Iterable[str | Path] = (), force: boo
 def check_writable(path: str | Path) -> None:
     """Check before long work that a file can be written.
 
-    StudyError where the path is an input; NotWritten where its folder is missing or not writable.
+    StudyError if the path is an input; NotWritten if its folder is missing or not writable.
     """
     if str(path) == "-":
         return
@@ -95,7 +95,7 @@ def write_file(
 ) -> None:
     """Write a file whole or not at all.
 
-    StudyError where it is one of the inputs and `force` is not set, NotWritten where it can't be.
+    StudyError if it is one of the inputs and `force` is not set, NotWritten if it can't be.
     """
     check_target(path, inputs, force)
     given = data.encode("utf-8", "backslashreplace") if isinstance(data, str) else bytes(data)
@@ -131,7 +131,7 @@ def _write(descriptor: int, data: bytes) -> None:
 def _replace(target: str, data: bytes, old: os.stat_result | None) -> None:
     """Write the contents under a temporary name, then rename it.
 
-    Nothing is left where that fails.
+    If that fails, nothing is left behind.
     """
     folder, name = os.path.split(target)
     temporary = os.path.join(folder, f".{name[:40]}-{secrets.token_hex(6)}.part")
@@ -161,7 +161,7 @@ def _replace(target: str, data: bytes, old: os.stat_result | None) -> None:
 def write_files(files: Mapping[Path, str | bytes], named: Iterable[Path], force: bool) -> None:
     """Write files, each whole.
 
-    First a fault where one that nobody named is there already and says something else.
+    It is a fault if a file that nobody named exists already with other contents.
     """
     for path, data in files.items():
         if path in named or force or not os.path.lexists(path):
@@ -169,14 +169,14 @@ def write_files(files: Mapping[Path, str | bytes], named: Iterable[Path], force:
         new = data.encode() if isinstance(data, str) else data
         if not path.is_file() or read_start(path, len(new) + 1) != new:
             raise StudyError(
-                f"{path} is there already, and would be replaced; name another file, or add --force"
+                f"{path} already exists and would be replaced; name another file, or add --force"
             )
     for path, data in files.items():
         write_file(path, data)
 
 
 def make_folder(folder: str | Path) -> None:
-    """Make a folder, unless it is there; NotWritten where that fails."""
+    """Make a folder, unless it exists; NotWritten if that fails."""
     try:
         Path(folder).mkdir(parents=True, exist_ok=True)
     except (OSError, ValueError) as e:

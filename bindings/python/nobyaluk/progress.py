@@ -1,6 +1,6 @@
-"""How far long work is, on standard error.
+"""The progress of long work, on standard error.
 
-A bar with rate and time left on a terminal (tqdm), a line every few seconds elsewhere.
+A terminal shows a bar with rate and time left (tqdm); elsewhere a line appears every few seconds.
 """
 import sys
 import time
@@ -11,10 +11,9 @@ EVERY = 3  # seconds between two lines
 
 
 class Progress:
-    """Called with how many are done.
+    """Shows progress; it is called with the number that are done, and closed at the end.
 
-    `begun` were done before; they and the time until the first call are not in the rate. It is
-    closed at the end.
+    The rate leaves out the `begun` that were done before, and the time until the first call.
     """
 
     def __init__(self, of: int, what: str, begun: int = 0, bar: bool = True) -> None:
@@ -42,7 +41,7 @@ class Progress:
             self.bar.close()
 
     def __call__(self, done: int) -> None:
-        """Show that so many are done."""
+        """Show that `done` are done."""
         if self.bar is not None:
             self.bar.update(done - self.bar.n)
             return
@@ -66,12 +65,12 @@ class Progress:
 
 
 def _tqdm() -> Callable[..., Any] | None:
-    """Return what makes a bar; None where tqdm is not installed."""
+    """Return what makes a bar; None if tqdm is not installed."""
     try:
         from tqdm import tqdm
     except ImportError:
         return None
-    tqdm.monitor_interval = 0  # no thread of its own: processes are forked beside it
+    tqdm.monitor_interval = 0  # no own thread: processes are forked while it runs
     return tqdm
 
 

@@ -1,7 +1,6 @@
-"""A report redone from itself.
+"""A report redone from its own page.
 
-The studies that its page has are taken out, run, and their totals compared with those that it
-states.
+The studies are taken out of the page and run, and their totals are compared with those on the page.
 """
 import base64
 import binascii
@@ -62,7 +61,7 @@ class _Page(HTMLParser):
 
 
 def read_report(path: str | Path) -> list[ReportedStudy]:
-    """Return the studies that a report has; a fault where it has none."""
+    """Return the studies that a report has; a fault if it has none."""
     page = _Page()
     page.feed(read_text(path, MOST))
     page.close()
@@ -78,26 +77,26 @@ def read_report(path: str | Path) -> list[ReportedStudy]:
 def redo_report(
     path: str | Path, folder: str | Path | None = None, force: bool = False
 ) -> list[tuple[str, str]]:
-    """Run each study of a report again and compares its totals with those of the report.
+    """Run each study of a report again and compare its totals with those of the report.
 
     Parameters
     ----------
     path : str or Path
         The report's page.
     folder : str or Path, optional
-        Where the studies are left as files. A file that is there and says the same is kept.
+        Where the studies are kept as files. An existing file with the same contents is kept.
     force : bool, default False
-        Replace files that are there and say something else.
+        Replace existing files with other contents.
 
     Returns
     -------
     list of (str, str)
-        Each study's name, and what differs from the report; nothing where all is the same.
+        Each study's name, and what differs from the report; nothing if all is the same.
 
     Raises
     ------
     StudyError
-        Where the page has no studies, or the folder has another file of a study's name.
+        If the page has no studies, or the folder has another file of a study's name.
     """
     out = []
     taken: set[Path] = set()  # files of this report
@@ -118,7 +117,7 @@ def _study_files(
 ) -> dict[Path, str | bytes]:
     """Return the files of a study.
 
-    Of two studies of one name, one after the other, a number is added.
+    If two studies have the same name, the second gets a number.
     """
     number = 1
     while any(folder / _numbered(name, number) in taken for name in x.files):
@@ -144,10 +143,7 @@ def _numbered(name: str, number: int) -> str:
 
 
 def _difference(study: Path, x: ReportedStudy) -> str:
-    """Return what the run of a study has otherwise than its report.
-
-    Nothing where all is the same.
-    """
+    """Return how the run of a study differs from its report; nothing if it does not."""
     s = load(study)
     try:
         run = s.run()

@@ -39,7 +39,7 @@ class Refusal(IntEnum):
 
 
 class Meaning(NamedTuple):
-    """What a refusal means where an operation gives it."""
+    """The meaning of a refusal of an operation."""
 
     place: str  # none, place, cell, step, step and cell, step and place, list
     words: str
@@ -86,7 +86,7 @@ _ROWS: list[tuple[Refusal, str, str, str]] = [
         Refusal.SIZE,
         "write",
         "none",
-        "rows of other than T × (1 + 2n) numbers",
+        "the rows do not have T × (1 + 2n) numbers",
     ),
     (
         Refusal.LIMITS,
@@ -298,7 +298,7 @@ _MEANINGS = {
 
 
 def meaning(number: int, operation: str | None = None) -> Meaning:
-    """Return what a refusal means where an operation gives it, or else the first row."""
+    """Return the meaning of a refusal of an operation, or else the first row."""
     operation = _SAME.get(operation or "", operation or "")
     for refusal in Refusal:
         if refusal == number:

@@ -19,5 +19,5 @@ class Rounded:
 
     @property
     def error(self) -> float:
-        """The relative error; 0 where 0 was wanted."""
+        """The relative error; 0 if 0 was wanted."""
         return float((self.used - self.wanted) / self.wanted) if self.wanted else 0.0

@@ -1,6 +1,6 @@
 """Colours and scales of pictures.
 
-The same colour for a place in every picture, and one scale for all studies that are compared.
+A place has the same colour in every picture, and compared studies share one scale.
 """
 from __future__ import annotations
 
@@ -73,7 +73,7 @@ CRITICAL_TICKS = [0, 0.25, 0.5, 0.75, 1, 1.5, 2, 3, 4, 5, 7, 10]
 
 
 def round_ticks(top: float, most: int = 12) -> np.ndarray:
-    """Return round numbers from 0 up to `top`, at most so many."""
+    """Return round numbers from 0 up to `top`, at most `most` of them."""
     steps = (m * 10.0**e for e in range(-3, 16) for m in (1, 2, 5))
     step = next(x for x in steps if top / x <= most)
     return np.arange(0, top + step / 2, step)
@@ -124,7 +124,7 @@ def curves(study: Study, run: Run) -> Curves:
 def oblique(study: Study, run: Run, rate: float) -> tuple[np.ndarray, np.ndarray]:
     """Return arrived and left, less what a steady flow would have brought.
 
-    `rate` in veh/h, or in vehicles a step where its seconds are unknown.
+    `rate` is in veh/h, or in vehicles per step if a step's seconds are unknown.
     """
     c = curves(study, run)
     steady = rate * np.arange(len(c.came)) * (float(study.seconds) / 3600 if study.seconds else 1)
@@ -145,7 +145,7 @@ class Scales:
 
 
 def scales_of(pairs: list[tuple[Study, Run]]) -> Scales:
-    """Return the scales of studies that are compared; of one alone, where there is one."""
+    """Return the common scales of the studies that are compared."""
     with_km = [(s, r) for s, r in pairs if s.lengths]
     timed = [(s, r) for s, r in with_km if s.seconds]
     dense = max((float(fields.density(s, r).max()) for s, r in with_km), default=0.0)

@@ -1,4 +1,4 @@
-"""Schedules of outflows, which judging takes: CSV, a row a step and a column a place, in parts."""
+"""Schedules of outflows for judging: CSV in parts, one row per step and one column per place."""
 import csv
 import io
 import re
@@ -18,9 +18,9 @@ def _outflow(word: str, where: str) -> int:
 
 
 def parse_schedule(text: str, n: int, name: str = "schedule") -> np.ndarray:
-    """Return the outflows of a schedule as CSV: a row a step, the gate's first.
+    """Return the outflows of a schedule in CSV: one row per step, the gate's outflow first.
 
-    A heading and a first column `step` may be there.
+    A heading and a first column `step` are optional.
     """
     lines = text.removeprefix("\ufeff").splitlines()
     head = re.sub(
@@ -47,7 +47,7 @@ def parse_schedule(text: str, n: int, name: str = "schedule") -> np.ndarray:
             )
         if len(row) != n + 1 + counted:
             decimals = (
-                "; where a comma is the decimal sign, mind that outflows are whole parts"
+                "; if a comma is the decimal mark: outflows are whole parts"
                 if len(row) == 2 * (n + 1)
                 else ""
             )

@@ -1,12 +1,12 @@
 """Roads that are stepped row by row, by the proved `step`.
 
-Step by step goes what no operation of the engine does in one: ramps that release at most what a
-plan has for them, laws beside exact releases, and roads that share a street. What a ramp can take
-at most in a step is what filling gives it in a record of that step alone, and a law's release is
-`release(wish(..), cap)`. Total, present and exits are the engine's of the last state, and what
-entered a cell is `entering` of the place above it. Python's own are an outflow, as the growth of
-the cumulative one, and the weighted total, as the sum of `weighted` after each step. After 1,440
-steps the cumulative outflows begin anew, as in `long_record`.
+Some runs are no single operation of the engine: ramps with a plan of greatest releases, laws next
+to exact releases, and roads that share a street. The most that a ramp may release in a step is what
+filling grants it in a record of that step alone. A law's release is `release(wish(..), cap)`.
+Total, present and exits are the engine's, of the last state, and what entered a cell is `entering`
+of the place before it. Python computes an outflow as the growth of the cumulative one, and the
+weighted total as the sum of `weighted` after each step. After 1,440 steps the cumulative outflows
+begin at 0 again, as in `long_record`.
 """
 from collections.abc import Mapping
 from typing import Any
@@ -35,7 +35,7 @@ _STATE = np.dtype(
 _BEGIN = [
     8,
     *range(10, 10 + 2 * engine.CELLS),
-]  # where a state's words have what a start has: the gate's queue, held counts and queues
+]  # the places of a start's numbers in a state: the gate's queue, held counts and queues
 
 
 class Stepper:
@@ -71,7 +71,7 @@ class Stepper:
         return len(self.states)
 
     def step(self) -> None:
-        """Go on by the next row; after 1,440 steps with a new part."""
+        """Make the next step; after 1,440 steps a new part begins."""
         k = self.done
         lanes = (
             engine.Lanes.from_buffer_copy(
@@ -88,20 +88,20 @@ class Stepper:
 
     @property
     def before(self) -> State:
-        """The state before the next step; of a part's first, with no step done and nothing sent."""
+        """The state before the next step; at a part's start no step is done and nothing sent."""
         new = self.states and self.done % engine.STEPS == 0
         return start_anew(self.state) if new else self.state
 
     def releases(self, laws: Mapping[int, Law]) -> np.ndarray:
         """Return what these laws of fixed rates release in the next step.
 
-        Filling's answer for a record of that step alone.
+        It is filling's answer for a record of that step alone.
         """
         kinds, numbers = engine.encode_laws(laws)
         return self.granted(kinds.tobytes(), numbers)
 
     def granted(self, kinds: bytes, numbers: np.ndarray) -> np.ndarray:
-        """Return the same releases, of laws as the boundary takes them."""
+        """Return the same releases for laws in the boundary's form."""
         k, n = self.done, self.road.n
         start = Start.from_buffer_copy(
             np.minimum(np.frombuffer(bytes(self.state), np.uint32)[_BEGIN], engine.START).tobytes()
@@ -121,7 +121,7 @@ class Stepper:
         return self._row[2::2]
 
     def run(self, weights: tuple[Any, Any] | None = None) -> Run:
-        """Return the run of the steps done, with the states' own numbers."""
+        """Return the run of the steps done, with the numbers of its states."""
         record, road, n = self.record, self.road, self.road.n
         s = np.frombuffer(b"".join(self.states), _STATE)
         cumulative = np.column_stack([s["gate_cumulative"], s["cumulative"][:, :n]])
@@ -141,10 +141,10 @@ class Stepper:
 
 
 class MeteredStepper:
-    """A walk whose ramps release by meter laws, capped as filling caps.
+    """A stepped road whose ramps release by meter laws, capped as in filling.
 
-    A ramp without a law releases at most what the plan has for it, capped too, or, without a plan,
-    exactly what the row has.
+    A ramp without a law releases at most what the plan has for it, with the same cap. Without a
+    plan it releases exactly what the row has.
     """
 
     def __init__(
@@ -170,7 +170,7 @@ class MeteredStepper:
         self._own = {i: (int(kinds[i]), *numbers[i].tolist()) for i in self.by_law}
         self._rates = np.zeros(
             (engine.CELLS, 3)
-        )  # open where a law wishes, the plan's where there is one
+        )  # open at a ramp with a law, otherwise the plan's if there is one
         self._rates[self.by_law, 0] = engine.RATE
         if record.steps:
             self.walk.granted(
@@ -192,7 +192,7 @@ class MeteredStepper:
         return out
 
     def step(self, releases: Mapping[int, int]) -> None:
-        """Go on with these releases."""
+        """Make the next step with these releases."""
         walk, before, k = self.walk, self.walk.before, self.walk.done
         for i, x in releases.items():
             walk.rows[k, 2 * i + 2] = x
@@ -204,9 +204,10 @@ class MeteredStepper:
             )
 
     def sent(self, i: int, before: State, after: State) -> tuple[int, int, int]:
-        """Return share, cumulative outflow and outflow of the place above the cell at i.
+        """Return share, cumulative outflow and outflow of the place before the cell at i.
 
-        The cumulative outflow is that before the step; all in parts but the share.
+        The cumulative outflow is the one before the step. Outflows are in parts, the share in
+        thousandths.
         """
         if i == 0:
             return (
@@ -228,9 +229,9 @@ def run_metered(
     lanes: bytes = b"",
     weights: tuple[Any, Any] | None = None,
 ) -> Run:
-    """Run it with ramps that release by their laws.
+    """Run a road whose ramps release by their laws.
 
-    The others what the plan allows, as far as queue, arrivals and supply do, or exactly their rows.
+    Ramps without a law release what plan, queue, arrivals and supply allow, or exactly their rows.
     """
     engine.encode_laws(laws)
     engine.check_laws(

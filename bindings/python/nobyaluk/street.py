@@ -1,9 +1,8 @@
 """Several carriageways that feed from one street.
 
-In each step the street's limit is shared out, and each road goes on by its grants.
-
-A ramp's wish is what its own meter, plan or release would let go in the state that its road is in.
-The proved `grant` shares the limit, and the proved `step` moves each road, so that each is a record
+In each step the street's limit is divided among the ramps, and each road makes the step with its
+grants. A ramp's wish is what its own meter, plan or release would release in its road's state. The
+proved `grant` divides the limit, and the proved `step` moves each road, so each road is a record
 that runs.
 """
 from dataclasses import dataclass
@@ -34,9 +33,9 @@ class Street:
 
 
 def read_street(path: str | Path) -> Street:
-    """Return a street's TOML.
+    """Return the street of a TOML file.
 
-    Its limit, and for each ramp a study, a ramp of it and a guarantee, in veh/h.
+    It has a limit, and for each ramp a study, the ramp's name and a guarantee; rates in veh/h.
     """
     path = Path(path)
     top = TomlTable(read_source(path).values, str(path), KEYS[""])
@@ -58,7 +57,7 @@ def read_street(path: str | Path) -> Street:
             )
         if (k, s.ramps[name]) in ramps:
             raise r.fault(
-                "ramp", f"is {name!r} of {s.name}, which is there already; name each ramp once"
+                "ramp", f"is {name!r} of {s.name}, which is named twice; name each ramp once"
             )
         ramps.append((k, s.ramps[name]))
         names.append(f"{s.name}, ramp {name}")
@@ -90,9 +89,9 @@ def read_street(path: str | Path) -> Street:
 
 
 def _roads(path: Path, tables: list[TomlTable]) -> tuple[list[int], list[Study]]:
-    """Return which study each ramp is of, and the studies, each once.
+    """Return the study of each ramp, by number, and the studies, each once.
 
-    Those of one file name are called by their folders too.
+    Studies with the same file name also get the names of their folders.
     """
     found: dict[Path, int] = {}
     files = [Path(get_file_name(r, "study")) for r in tables]
@@ -114,7 +113,7 @@ def _roads(path: Path, tables: list[TomlTable]) -> tuple[list[int], list[Study]]
 def make_stepper(study: Study) -> stepping.MeteredStepper:
     """Return a study to be stepped.
 
-    Each ramp by its law, its plan, or its releases as the most that it lets go.
+    Each ramp follows its law, its plan, or its releases as the most that it releases.
     """
     return stepping.MeteredStepper(
         study.record,
@@ -141,7 +140,7 @@ def run_street(street: Street) -> tuple[list[Run], list[list[int]]]:
 
 
 def _run(study: Study, road: stepping.MeteredStepper) -> Run:
-    """Return the run of the releases found: a record's own where one holds them."""
+    """Return the run of the granted releases: running's own if a record holds them."""
     r = road.walk.run(study.weights)
     if isinstance(study.record, engine.Record):
         record = engine.write(study.record.road, study.record.begin, r.record.rows)

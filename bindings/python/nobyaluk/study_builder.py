@@ -1,8 +1,8 @@
 """Roads and studies from numbers in km, km/h and veh/h, without a file.
 
-The words are those of a study's file (docs/STUDIES.md), and the same reader takes them: so limits,
-rounding, notes and faults are the same, and a study that is built equals the one that is read. A
-float counts as it is printed: 0.1 is a tenth.
+The names are the keys of a study's file (docs/STUDIES.md), and the same reader reads them. So
+limits, rounding, notes and faults are the same, and a built study equals the one that is read from
+a file. A float counts as it is printed: 0.1 is a tenth.
 """
 from collections.abc import Iterable, Mapping, Sequence
 from dataclasses import dataclass, fields
@@ -137,12 +137,10 @@ class Closure:
 def cells(**columns: Any) -> list[Cell]:
     """Return cells from columns.
 
-    Of each word of `Cell` a sequence with one value for each cell, or one value for all.
-
     Parameters
     ----------
     **columns
-        Each word of `Cell`: a sequence with one value for each cell, or one value for all.
+        For each parameter of `Cell`, a sequence with one value per cell, or one value for all.
 
     Returns
     -------
@@ -151,7 +149,7 @@ def cells(**columns: Any) -> list[Cell]:
     Raises
     ------
     StudyError
-        Where the columns differ in length.
+        If the columns differ in length.
 
     Examples
     --------
@@ -188,7 +186,7 @@ def study_fields(
     title: str | None = None,
     name: str = "study",
 ) -> dict[str, Any]:
-    """Return the fields of the study of a road and its numbers: `Study.of` says what each is."""
+    """Return the fields of a study from a road and its numbers, as `Study.of` takes them."""
     values = {
         "title": title,
         "step": _plain(step),
@@ -226,7 +224,7 @@ def study_fields(
 
 
 def _table(of: Any, kind: type, where: str) -> dict[str, Any]:
-    """Return what is given of a cell, the gate, a meter or a closure, as a file's table."""
+    """Return a cell, the gate, a meter or a closure as a file's table."""
     if not isinstance(of, (Mapping, kind)):
         raise StudyError(
             f"{where} is {show(of)}; it is a {kind.__name__}, or a mapping with its words"
@@ -238,7 +236,7 @@ def _table(of: Any, kind: type, where: str) -> dict[str, Any]:
 def _listed(columns: Mapping[str, Any], steps: int, where: str) -> dict[str, Any]:
     """Return arrivals or releases as a file's lists.
 
-    One number holds for all times; without times there is a number for each step.
+    A single number holds for all times; without times there is one number for each step.
     """
     if not hasattr(columns, "keys"):
         raise StudyError(
@@ -280,7 +278,7 @@ def _is_list(x: Any) -> bool:
 def _plain(x: Any) -> Any:
     """Return a value as a TOML file would have it.
 
-    Numbers of numpy and floats as they are printed, lists as lists.
+    numpy's numbers and floats become the decimals that are printed.
     """
     if _is_list(x):
         return [_plain(y) for y in x]

@@ -1,7 +1,7 @@
-"""Studies written as TOML files, and as records with a study beside them.
+"""Studies written as TOML files, and as records with a study next to them.
 
-What a record does not hold goes into a study beside it, whose `record` names it. A study is written
-in the engine's own numbers.
+A study next to a record, with the key `record`, has everything that the record does not hold.
+Studies are written in the engine's own numbers.
 """
 from __future__ import annotations
 
@@ -32,7 +32,7 @@ def run_bytes(run: Run, s: Study) -> bytes:
 
 
 def record_bytes(record: BaseRecord, s: Study) -> bytes:
-    """Return the bytes of a study's record; StudyError where no record holds it."""
+    """Return the bytes of a study's record; StudyError if no record holds it."""
     if not isinstance(record, engine.Record):
         fits = most_steps(record.road)
         raise StudyError(
@@ -45,14 +45,14 @@ def record_bytes(record: BaseRecord, s: Study) -> bytes:
 def study_bytes(s: Study) -> bytes:
     """Return the bytes of a study's record.
 
-    Where it has meters or a plan, with the releases of its run.
+    With meters or a plan, it has the releases of the study's run.
     """
     filled = s.laws or s.plan is not None
     return record_bytes(s.run().record if filled else s.record, s)
 
 
 def missing_in_record(s: Study) -> list[str]:
-    """Return what a study says and its record does not hold."""
+    """Return what a study has and its record does not hold."""
     own = {str(cell): cell for cell in s.ramps.values()}
     said = {
         "the title": s.title != s.name,
@@ -69,18 +69,17 @@ def missing_in_record(s: Study) -> list[str]:
 
 
 def toml_files(s: Study, target: Path, record: str | None = None) -> dict[Path, str]:
-    """Return a study in the engine's own numbers, and its arrivals and releases as CSV beside it.
+    """Return a study in the engine's own numbers, with its arrivals and releases as CSV.
 
-    Of each file its text.
-
-    With the name of its record, only what that does not hold.
+    The text is given for each file. If `record` names its record, the study has only what the
+    record does not hold.
     """
     files = {} if record else _tables(s, target)
     return {target: _text(s, str(target), record, [] if record else _files(s, files)), **files}
 
 
 def toml_text(s: Study, target: str = "study.toml") -> str:
-    """Return a study as one TOML text, which loads to the same study.
+    """Return a study as one TOML text; loading it gives the same study.
 
     It is in the engine's own numbers, with arrivals and releases.
     """
@@ -88,12 +87,12 @@ def toml_text(s: Study, target: str = "study.toml") -> str:
 
 
 def save_study(s: Study, path: str | Path) -> Path:
-    """Write a study as one TOML file, whole, which loads again to the same study."""
+    """Write a study as one TOML file; loading it gives the same study."""
     path = Path(path)
     if path.suffix != ".toml":
         raise StudyError(
             f"{path}: a study is saved as .toml; `nobyaluk convert` writes a record with a study"
-            " beside it"
+            " next to it"
         )
     write_file(path, toml_text(s, str(path)))
     return path
@@ -154,10 +153,7 @@ def _whole_seconds(s: Study, target: str) -> int:
 
 
 def _cells(s: Study, whole: bool) -> list[str]:
-    """Return the cells' names, lengths, ramps and lanes.
-
-    And their numbers where no record has them.
-    """
+    """Return the cells' names, lengths, ramps and lanes; also their numbers without a record."""
     r, start, out = s.record.road, s.record.start, []
     names = {cell: name for name, cell in s.ramps.items()}
     for i in range(r.n):
@@ -177,14 +173,14 @@ def _cells(s: Study, whole: bool) -> list[str]:
                 if x
             )
             seen = descriptions.cell_in_field_units(s, i)
-            told = (
+            comment = (
                 f"    # {seen[1]} km/h, wave {seen[2]} km/h, {seen[3]} veh/km, {seen[4]} veh/h"
                 if seen
                 else ""
             )
             out.append(
                 f"parts = {{ v = {r.speed[i]}, w = {r.wave[i]}, b = {r.share[i]}, J = {r.jam[i]}, C"
-                f" = {r.capacity[i]}{more} }}{told}"
+                f" = {r.capacity[i]}{more} }}{comment}"
             )
     return out
 
@@ -195,7 +191,7 @@ def ramps_by_rows(s: Study) -> dict[str, int]:
 
 
 def _tables(s: Study, target: Path) -> dict[Path, str]:
-    """Return arrivals, and releases that are exactly so, as CSV."""
+    """Return arrivals and exact releases as CSV."""
     rows, exact = s.record.rows, ramps_by_rows(s)
     files = {
         target.with_name(f"{target.stem}-arrivals.csv"): _table(
@@ -210,7 +206,7 @@ def _tables(s: Study, target: Path) -> dict[Path, str]:
 
 
 def _lists(s: Study) -> list[str]:
-    """Return arrivals, and releases that are exactly so, as lists of the study itself.
+    """Return arrivals and exact releases as lists of the study itself.
 
     A 0 means nothing in any step.
     """
@@ -252,7 +248,7 @@ def _flat(numbers: list[int]) -> str:
 
 
 def _changed(rows: np.ndarray) -> list[int]:
-    """Return the first step, and each that differs from the one before it."""
+    """Return the first step, and each step whose row differs from the one before it."""
     return [0, *(np.flatnonzero((rows[1:] != rows[:-1]).any(axis=1)) + 1).tolist()]
 
 
@@ -346,9 +342,9 @@ def _table(names: list[str], rows: np.ndarray) -> str:
 def record_files(
     s: Study, data: bytes, target: Path, sources: Iterable[str | Path]
 ) -> tuple[dict[Path, str | bytes], str]:
-    """Return a record and, where it does not hold all of the study, a study beside it.
+    """Return a record and, if it does not hold all of the study, a study next to it.
 
-    And words for what is there.
+    A message about that study is returned too.
     """
     lost = missing_in_record(s)
     if target.suffix == ".toml":
@@ -370,9 +366,9 @@ def record_files(
 
 
 def granted_files(s: Study, run: Run, folder: Path) -> tuple[dict[Path, str | bytes], str]:
-    """Return a street's road with the releases that it was granted.
+    """Return a street's road with its granted releases.
 
-    A record with a study beside it, or a study alone where no record holds it.
+    It is a record with a study next to it, or only a study if no record holds it.
     """
     done = replace(s, record=run.record, laws={}, plan=None)
     if isinstance(run.record, engine.Record):

@@ -1,10 +1,8 @@
-"""Arrivals and releases.
+"""Arrivals and releases: lists of a study, a spreadsheet's columns or a detector's rows.
 
-Lists of a study, a spreadsheet's columns or a detector's rows, of any length in time.
-
-A row holds from its time until the next one. What comes in a step is the growth of the exact
-running sum, rounded down to whole parts, so that sums are right to a part however rows and steps
-lie. A name that is not known is a fault that shows names like it.
+A row holds from its time until the next one, however long that is. A step gets the growth of the
+exact running sum, rounded down to whole parts, so sums are exact to one part for any rows and
+steps. An unknown name is a fault, and the message shows similar names.
 """
 import csv
 import difflib
@@ -60,10 +58,10 @@ MOST = 16 << 20  # bytes of a CSV file
 
 @dataclass
 class TableParts:
-    """What a table gives.
+    """The contents of a table.
 
-    Parts a step of each name, the names in its file that stand for none, notes, and the gaps that
-    were filled.
+    It has each entry's parts per step, the names in its file that nothing uses, notes, and the
+    gaps that were filled.
     """
 
     where: str
@@ -74,7 +72,7 @@ class TableParts:
 
 
 def suggest(word: str, names: Collection[str]) -> str:
-    """Return names like a word, as the end of a fault; nothing where there are none."""
+    """Return similar names, as the end of a message; nothing if there are none."""
     names = list(itertools.islice(names, 2000))
     found = [x for x in names if x.lower() == word.lower()] or difflib.get_close_matches(
         word[:200], names, 3, 0.6
@@ -83,7 +81,7 @@ def suggest(word: str, names: Collection[str]) -> str:
 
 
 def suggest_or_list(word: str, names: Collection[str]) -> str:
-    """Return names like a word, or else the names that there are, as the end of a fault."""
+    """Return similar names, or otherwise all names, as the end of a message."""
     shown = ", ".join(x[:40] for x in list(names)[:12]) + (", .." if len(names) > 12 else "")
     return suggest(word, names) or (f"; there are {shown}" if names else "")
 
@@ -91,9 +89,9 @@ def suggest_or_list(word: str, names: Collection[str]) -> str:
 def read_table(
     table: TomlTable, folder: Path, default: str, entries: list[str], clock: Clock
 ) -> TableParts:
-    """Return parts a step of each entry that the table names.
+    """Return the parts per step of each entry that the table names.
 
-    In lists, in a CSV file, or by a 0 for all steps.
+    They are in lists, in a CSV file, or given by a 0 for all steps.
     """
     shut = {
         key: np.zeros(clock.steps, np.uint32)
@@ -122,14 +120,14 @@ def read_table(
         for key, x in table.values.items():
             if key in entries and key not in shut:
                 raise table.fault(
-                    key, f"is {show(x)}; beside a file it is 0, where nothing comes in any step"
+                    key, f"is {show(x)}; next to a file it can only be 0, for nothing in any step"
                 )
             if key not in (*KEYS, *more, *entries):
                 raise table.fault(
                     key,
                     (
-                        f"is not known beside a file; known are {', '.join(sorted(KEYS))}, and"
-                        f" names with 0{suggest(key, entries)}"
+                        "is not known next to a file; the known keys are"
+                        f" {', '.join(sorted(KEYS))}, and names with 0{suggest(key, entries)}"
                     ),
                 )
         clock.latest = Fraction(0)
@@ -145,8 +143,8 @@ def read_table(
         )
         if clock.taken and clock.latest >= max(Fraction(86400), clock.steps * clock.seconds):
             given.notes.append(
-                f"{path}: it has rows of several days, and the study is of the first; `start` with"
-                " a date picks another"
+                f"{path}: it has rows of several days, and the study uses the first; `start` with"
+                " a date selects another"
             )
     for name in rows.names:
         if name in shut:
@@ -171,7 +169,7 @@ def _is_zero(x: Any) -> bool:
 def _inline(
     table: TomlTable, kind: str, more: set[str], entries: list[str], clock: Clock
 ) -> TableRows:
-    """Return columns that stand in the TOML file itself, as lists."""
+    """Return the columns that are lists in the TOML file itself."""
     unit = table.choice("unit", UNITS, "veh/h")
     named = {key: x for key, x in table.values.items() if key != kind and key not in more}
     for key, x in {kind: table.values[kind], **named}.items():
@@ -223,7 +221,7 @@ def _separated(path: Path) -> tuple[str, list[tuple[int, list[str]]]]:
 
 
 def _even(path: Path, text: str, separator: str) -> bool:
-    """Return whether a separator gives heading and first row as many fields, more than one."""
+    """Return whether a separator gives heading and first row equally many fields, at least two."""
     try:
         first = [len(row) for _, row in itertools.islice(_rows(path, text, separator), 2)]
     except StudyError:
@@ -246,7 +244,7 @@ def _rows(path: Path, text: str, separator: str) -> Iterator[tuple[int, list[str
 class _Sheet:
     """A CSV file: its headings, its rows with their numbers, and where the times are.
 
-    Headings are kept as they are written and as what they stand for.
+    Headings are kept as they are written and with their meaning.
     """
 
     path: Path
@@ -256,7 +254,7 @@ class _Sheet:
     rows: list[tuple[int, list[str]]]
     faults: FaultList
     times: int = 0
-    day: int | None = None  # the column of the days, where they have one of their own
+    day: int | None = None  # the column of the days, if they have a separate one
 
     def second(self, row: list[str], number: int, clock: Clock) -> Fraction | None:
         """Return when a row begins; None after a fault."""
@@ -271,7 +269,7 @@ class _Sheet:
 def _file(
     table: TomlTable, path: Path, entries: list[str], clock: Clock
 ) -> tuple[TableRows, list[str], list[Filled]]:
-    """Return the rows of a CSV file, the names in it without a use, and what was filled.
+    """Return the rows of a CSV file, the names that nothing uses, and the gaps that were filled.
 
     All faults of the file are raised together.
     """
@@ -320,7 +318,7 @@ def _file(
 def _named(
     heading: list[str], written: list[str], called: TomlTable, words: Collection[str]
 ) -> list[int]:
-    """Return the columns with one of these headings: those that `columns` names, where it does."""
+    """Return the columns with one of these headings; if `columns` names some, only those."""
     found = [i for i, x in enumerate(heading) if x in words]
     return [i for i in found if written[i] in called] or found
 
@@ -328,7 +326,7 @@ def _named(
 def _columns(
     sheet: _Sheet, table: TomlTable, called: TomlTable, entries: list[str], clock: Clock
 ) -> Grid:
-    """Return a spreadsheet's form: a column for each place."""
+    """Return the numbers of a spreadsheet: a column for each place."""
     path, heading, written, faults = sheet.path, sheet.heading, sheet.written, sheet.faults
     for name in called.values:
         if name not in written:
@@ -340,8 +338,8 @@ def _columns(
             continue
         if name not in entries:
             more = (
-                f'`columns` may say what it is, or columns = {{ {toml_key(name)} = "{LEFT_OUT}" }}'
-                " that it is ignored"
+                f'`columns` may give its meaning; columns = {{ {toml_key(name)} = "{LEFT_OUT}" }}'
+                " leaves it out"
             )
             faults.add(
                 None,
@@ -351,7 +349,7 @@ def _columns(
                 ),
             )
         elif name in taken:
-            faults.add(None, f": column {name!r} is there twice; keep one")
+            faults.add(None, f": there are two columns {name!r}; keep one")
         else:
             taken[name] = i
     _marks(sheet, sheet.rows, list(taken.values()))
@@ -379,7 +377,7 @@ def _columns(
 
 
 def _called(table: TomlTable, entries: list[str]) -> TomlTable:
-    """Return the table `columns`: what names of the file stand for."""
+    """Return the table `columns`, the meanings of names in the file."""
     called = TomlTable(table.values.get("columns", {}), f"{table.where}: columns")
     for name in called.values:
         if called.text(name) not in (*entries, *CLOCKS, DATE, *PLACES, *VALUES, LEFT_OUT):
@@ -443,7 +441,7 @@ def _find_times(sheet: _Sheet, called: TomlTable) -> None:
 
 
 def _looking(sheet: _Sheet, fits: Callable[[str], bool]) -> list[int]:
-    """Return the columns without a name of the study in which most of the first rows look so."""
+    """Return the columns without a known name in which most of the first rows fit."""
     first = [row for _, row in sheet.rows[:100]]
     return [
         i
@@ -458,7 +456,7 @@ def toml_key(name: str) -> str:
 
 
 def _marks(sheet: _Sheet, rows: list[tuple[int, list[str]]], columns: list[int]) -> None:
-    """Add a fault where a point or comma may set thousands apart and the file does not show it."""
+    """Add a fault if a point or comma may set thousands apart and the file does not show it."""
     marked: dict[str, list[tuple[str, int, str]]] = {",": [], ".": []}
     for number, row in rows:
         for i in columns:
@@ -497,18 +495,18 @@ def _marks(sheet: _Sheet, rows: list[tuple[int, list[str]]], columns: list[int])
 def _detectors(
     sheet: _Sheet, at: int, table: TomlTable, called: TomlTable, entries: list[str], clock: Clock
 ) -> tuple[Grid, list[str]]:
-    """Return a detector's form: a row for each time and place, with a count or a flow.
+    """Return the numbers of a detector's file: a row for each time and place, a count or a flow.
 
-    Other columns are not looked at.
+    Other columns are ignored.
     """
     path, (what, unit) = sheet.path, _value(sheet, at, table, called)
-    stands = _stands(sheet, at, called, entries)
+    meanings = _meanings(sheet, at, called, entries)
     named = any(
-        x in stands and name in (*entries, LEFT_OUT) for x, name in called.values.items()
+        x in meanings and name in (*entries, LEFT_OUT) for x, name in called.values.items()
     )  # then detectors without a name are ignored
     kept = []
     for number, row in sheet.rows:
-        if stands[row[at]] in entries:
+        if meanings[row[at]] in entries:
             kept.append((number, row))
         elif not named:
             more = f"`columns` can name what each detector counts{suggest(row[at], entries)}"
@@ -519,7 +517,7 @@ def _detectors(
     found: dict[str, dict[Fraction, tuple[int, str]]] = {}
     where: dict[Fraction, int] = {}
     for number, row in kept:
-        begin, name = sheet.second(row, number, clock), stands[row[at]]
+        begin, name = sheet.second(row, number, clock), meanings[row[at]]
         there = found.setdefault(name, {})
         if begin is not None and begin in there:
             sheet.faults.add(number, f": {name!r} has a row for {row[sheet.times]} already")
@@ -528,7 +526,7 @@ def _detectors(
             where.setdefault(begin, number)
     begins, names = sorted(where), [x for x in entries if x in found]
     cells = {name: [found[name].get(begin) for begin in begins] for name in names}
-    others = [x for x, name in stands.items() if name not in entries]
+    others = [x for x, name in meanings.items() if name not in entries]
     return (
         Grid(
             str(path),
@@ -543,7 +541,7 @@ def _detectors(
     )
 
 
-def _stands(sheet: _Sheet, at: int, called: TomlTable, entries: list[str]) -> dict[str, str]:
+def _meanings(sheet: _Sheet, at: int, called: TomlTable, entries: list[str]) -> dict[str, str]:
     """Return what each detector of a file counts.
 
     Every name in `columns` is a heading or a detector.
@@ -582,14 +580,14 @@ def _value(sheet: _Sheet, place: int, table: TomlTable, called: TomlTable) -> tu
         )
         unit = f" of unit {table.values['unit']!r}" if "unit" in table else ""
         raise StudyError(
-            f"{sheet.path}: beside `{heading[place]}` there is no column"
+            f"{sheet.path}: next to `{heading[place]}` there is no column"
             f" {', '.join(VALUES)}{unit}{more}"
         )
     return found[0], table.choice("unit", UNITS, VALUES[heading[found[0]]])
 
 
 def _steps(rows: TableRows, clock: Clock) -> dict[str, np.ndarray]:
-    """Return whole parts of each step, from rows that begin anywhere."""
+    """Return the whole parts of each step; rows may begin at any time."""
     if not rows.begins:
         return {}
     for k in range(1, len(rows.begins)):
@@ -626,7 +624,7 @@ def _steps(rows: TableRows, clock: Clock) -> dict[str, np.ndarray]:
 
 
 def _lacking(rows: TableRows, clock: Clock) -> list[str]:
-    """Return what rows lack to say what comes in every step."""
+    """Return faults of rows that do not cover every step."""
     out = []
     if rows.begins[0] > 0:
         out.append(
@@ -637,7 +635,7 @@ def _lacking(rows: TableRows, clock: Clock) -> list[str]:
         return [
             *out,
             (
-                f"{rows.places[0]}: nothing says how long the only row of counts is; add a row"
+                f"{rows.places[0]}: the length of the only row of counts is unknown; add a row"
                 " where it ends"
             ),
         ]
@@ -650,9 +648,9 @@ def _lacking(rows: TableRows, clock: Clock) -> list[str]:
 
 
 def _end(rows: TableRows, clock: Clock) -> Fraction:
-    """Return where the last row ends.
+    """Return when the last row ends.
 
-    A rate at the end of the study, a count after as long as the row before it.
+    A rate ends with the study; a count lasts as long as the row before it.
     """
     end = clock.steps * clock.seconds
     return (
@@ -665,7 +663,7 @@ def _end(rows: TableRows, clock: Clock) -> Fraction:
 def _gaps(rows: TableRows, clock: Clock) -> list[str]:
     """Return notes on rows that may be missing.
 
-    Rates of which all begin before the study, and counts within it that differ in length.
+    They are about rates that all begin before the study, and counts of different length within it.
     """
     if rows.unit != "count":
         if len(rows.begins) < 2 or rows.begins[-1] >= 0:

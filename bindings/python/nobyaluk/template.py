@@ -5,21 +5,21 @@ from .errors import StudyError
 from .output_files import make_folder, write_file
 
 TEMPLATE = """\
-# A study of a metered freeway. Cells stand from upstream; the gate lets traffic into the first.
+# A study of a metered freeway. Cells are listed from upstream; the gate is the entry to the first.
 title = "My road"
-step = 20                # seconds, whole, 1 to 900; no cell may be passed in less
+step = 20                # seconds, whole, 1 to 900; at most the time to drive through a cell
 start = "07:00"          # clock time of step 0
 steps = 180
 
 [gate]
 capacity = 4400          # veh/h
 
-[defaults]               # of every cell that says nothing else
+[defaults]               # for every cell that sets no other value
 length = 0.5             # km
 speed = 90               # km/h, free flow
 jam = 250                # veh/km, all lanes together
 capacity = 4400          # veh/h
-# wave = 24              # km/h; without it the diagram is a triangle
+# wave = 24              # km/h; default: from a triangular diagram
 lanes = 2
 
 [[cell]]
@@ -35,9 +35,9 @@ capacity = 4000          # the bottleneck
 
 [arrivals]
 file = "arrivals.csv"    # a column for the gate and each ramp; a row holds until the next one
-unit = "veh/h"           # or veh (a step), count (in the row's time), or parts (a step)
+unit = "veh/h"           # or veh (per step), count (in the row's time), or parts (per step)
 
-# What ramps release: each has a law, its own as [meter.Station] or that of `all`,
+# Releases: each ramp has its own law, as [meter.Station], the law of [meter.all],
 # or a column of [releases].
 [meter.all]
 law = "open"             # or fixed (rate), alinea (gain_kmh, target), demand-capacity (least)
@@ -60,7 +60,7 @@ time,gate,Mill Street,Station
 def write_template(folder: Path) -> tuple[Path, Path]:
     """Write a study to start from and its arrivals into a folder that is new or empty."""
     if folder.exists() and (not folder.is_dir() or any(folder.iterdir())):
-        raise StudyError(f"{folder} is there already and not an empty folder")
+        raise StudyError(f"{folder} already exists and is not an empty folder")
     make_folder(folder)
     files = folder / "road.toml", folder / "arrivals.csv"
     for path, text in zip(files, (TEMPLATE, ARRIVALS)):

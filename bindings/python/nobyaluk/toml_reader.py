@@ -1,8 +1,8 @@
 """Read a study's TOML file: road, start, meters, works and weights.
 
 Physical numbers become the engine's whole parts, each an exact fraction that is rounded once, to
-the nearest, halves up; what rounding changed is kept in `Study.rounding`. The record is put by the
-proved `write`, so that the engine's limits are the engine's. `docs/STUDIES.md` has every key.
+the nearest, halves up; `Study.rounding` lists what rounding changed. The proved `write` makes the
+record, so the engine itself checks its limits. `docs/STUDIES.md` has every key.
 """
 from collections.abc import Callable
 from dataclasses import dataclass
@@ -108,16 +108,16 @@ TOO_MANY_CELLS = (
 
 @dataclass
 class StudySource:
-    """A study's tables over those of its base, and the file of each."""
+    """A study's tables merged with those of its base, and the file of each."""
 
     values: dict[str, Any]
     origin: dict[str, Path]
 
 
 def read_source(path: Path, depth: int = 0) -> StudySource:
-    """Return a file's tables over those of its `base`.
+    """Return a file's tables merged with those of its `base`.
 
-    So a variant of a study has only what differs.
+    So a variant of a study gives only the differences.
     """
     path = Path(path)
     toml = _toml(path)
@@ -125,7 +125,7 @@ def read_source(path: Path, depth: int = 0) -> StudySource:
     if "base" not in toml:
         return own
     if depth == 8:
-        raise StudyError(f"{path}: `base` goes round in a circle, or through more than eight files")
+        raise StudyError(f"{path}: `base` is circular, or goes through more than eight files")
     name = tables.get_file_name(TomlTable(toml, str(path)), "base")
     try:
         base = read_source(path.parent / name, depth + 1)
@@ -151,9 +151,9 @@ def read_source(path: Path, depth: int = 0) -> StudySource:
 
 
 def _over(base: Any, own: Any) -> Any:
-    """Return a table over the base's, key by key.
+    """Return a table merged with the base's, key by key.
 
-    One with the engine's own numbers replaces it, and is replaced.
+    If either has the engine's own numbers, the table replaces the base's as a whole.
     """
     if not isinstance(base, dict) or not isinstance(own, dict) or "parts" in base or "parts" in own:
         return own
@@ -161,7 +161,7 @@ def _over(base: Any, own: Any) -> Any:
 
 
 def _toml(path: Path) -> dict[str, Any]:
-    """Return the tables of one file; whatever is in it, a fault has words."""
+    """Return the tables of one file; anything that can't be read is a fault with a message."""
     try:
         toml = tomllib.loads(input_files.read_text(path, MOST), parse_float=_decimal)
     except tomllib.TOMLDecodeError as e:
@@ -200,7 +200,7 @@ def _decimal(text: str) -> Decimal:
         return Decimal("-Infinity" if text.startswith("-") else "Infinity")
 
 
-LoadBefore = Callable[[Path], Any]  # a Study; None where too many go on from one another
+LoadBefore = Callable[[Path], Any]  # a Study; None if too many go on from one another
 
 
 class StudyReader:
@@ -217,7 +217,7 @@ class StudyReader:
         for key in self.source.values:
             if key not in KEYS[""]:
                 raise StudyError(
-                    f"{self.file(key)}: `{key[:60]}` is not known here; known are"
+                    f"{self.file(key)}: `{key[:60]}` is not known here; the known keys are"
                     f" {', '.join(sorted(KEYS['']))}{suggest(key, KEYS[''])}"
                 )
         self.top = TomlTable(self.source.values, str(path))
@@ -231,11 +231,11 @@ class StudyReader:
         self.seconds: Fraction | None = None  # of a step
 
     def file(self, key: str) -> Path:
-        """Return the file that a key of the study is from: its own, or a base."""
+        """Return the file that has a key of the study: its own, or a base."""
         return self.source.origin.get(key, self.path)
 
     def of(self, key: str) -> TomlTable:
-        """Return the study's own keys, with the file that this one is from."""
+        """Return the study's keys, with the file of this one."""
         return TomlTable(self.top.values, str(self.file(key)))
 
     def table(self, key: str, kind: str | None = None, default: Any = None) -> TomlTable:
@@ -269,7 +269,7 @@ class StudyReader:
         else:
             self.seconds = Fraction(self.of("step").whole("step", low=1, high=engine.SECONDS))
             self.steps = self.number_of_steps()
-            self.tell_time()
+            self.set_clock()
             road, start = self.road()
             rows = self.arrivals(road)
         plan, tabled = self.releases(road, rows)
@@ -300,7 +300,7 @@ class StudyReader:
         }
 
     def all_lengths(self) -> list[float] | None:
-        """Return the cells' lengths; none where one is missing, which is noted."""
+        """Return the cells' lengths; None, with a note, if one is missing."""
         without = [str(i) for i, x in enumerate(self.lengths, 1) if x is None]
         if not without:
             return [float(x) for x in self.lengths if x is not None]
@@ -323,12 +323,12 @@ class StudyReader:
         steps = self.of("steps").whole("steps", low=1, high=None if "steps" in self.top else most)
         if steps > most:
             raise self.of("steps").fault(
-                "steps", f"is {steps}; it is at most {most}; a longer study goes on with `after`"
+                "steps", f"is {steps}; it is at most {most}; a further study continues with `after`"
             )
         return steps
 
-    def tell_time(self) -> None:
-        """Set the clock time of step 0, where the study has it, and the clock."""
+    def set_clock(self) -> None:
+        """Set the clock, and the clock time of step 0 if the study has one."""
         self.start: Fraction | None = None
         day = zone = None
         if "start" in self.top:
@@ -369,13 +369,13 @@ class StudyReader:
                     "step", f"is {step}, and {path.name} has steps of {self.seconds} s"
                 )
             self.seconds = step
-        elif self.seconds is None and self.asks_seconds():
+        elif self.seconds is None and self.needs_seconds():
             raise self.of("record").fault("step", f"is missing: {path.name} has no step's seconds")
-        self.tell_time()
+        self.set_clock()
         cells = self.several("cell") or [TomlTable({}, "") for _ in range(road.n)]
         if len(cells) != road.n:
             raise self.of("cell").fault(
-                "cell", f"is there {len(cells)} times; {path.name} has {road.n} cells"
+                "cell", f"occurs {len(cells)} times; {path.name} has {road.n} cells"
             )
         for i, c in enumerate(cells):
             for key in c.values:
@@ -383,8 +383,8 @@ class StudyReader:
                     raise c.fault(
                         key,
                         (
-                            "is also in `record`; here a cell has only"
-                            f" {', '.join(BESIDE_RECORD)} here"
+                            "is also in `record`; next to it a cell has only"
+                            f" {', '.join(BESIDE_RECORD)}"
                         ),
                     )
             if "ramp" in c and not road.ramp[i]:
@@ -393,7 +393,7 @@ class StudyReader:
             self.called(c, i, c.values.get("ramp", str(i + 1)) if road.ramp[i] else None)
         return road, record.begin, record.rows.copy()
 
-    def asks_seconds(self) -> bool:
+    def needs_seconds(self) -> bool:
         """Return whether laws or releases need a step's seconds."""
         laws, table = self.top.values.get("meter", {}), self.top.values.get("releases", {})
         own = lambda x: isinstance(x, dict) and ("parts" in x or x.get("law") == "open")
@@ -406,7 +406,7 @@ class StudyReader:
 
     @property
     def step_seconds(self) -> Fraction:
-        """A step's seconds, where something needs them; they were asked for before."""
+        """A step's seconds; whether they are known was checked before."""
         return self.seconds if self.seconds is not None else Fraction(1)
 
     def road(self) -> tuple[engine.Road, engine.Start]:
@@ -492,7 +492,7 @@ class StudyReader:
         self.called(c, i, ramp)
 
     def called(self, c: TomlTable, i: int, ramp: Any) -> None:
-        """Take a cell's name, its ramp's where it has one, and its lanes."""
+        """Take a cell's name, its ramp's name if it has one, and its lanes."""
         if ramp is not None:
             name = _name(c, "ramp", ramp)
             if name in self.ramps or name in tables.TAKEN:
@@ -597,7 +597,7 @@ class StudyReader:
         return capacity / (jam - critical)
 
     def arrivals(self, road: engine.Road) -> np.ndarray:
-        """Return rows with what arrives; each entry has its arrivals, or 0."""
+        """Return rows with the arrivals; each entry must have arrivals, or 0."""
         if "arrivals" not in self.top:
             raise StudyError(
                 f"{self.path}: [arrivals] is missing: it names a CSV file of arrivals, or has them"
@@ -609,7 +609,7 @@ class StudyReader:
             table, self.file("arrivals").parent, "arrivals.csv", entries, self.clock
         )
         if missing := [x for x in entries if x not in given.parts]:
-            told = ", ".join(f"`{tables.toml_key(x)} = 0`" for x in missing)
+            zeros = ", ".join(f"`{tables.toml_key(x)} = 0`" for x in missing)
             fits = (
                 "".join(
                     f"; {x!r} has no row{suggest_or_list(x, given.others)}" for x in missing[:3]
@@ -618,8 +618,8 @@ class StudyReader:
                 else ""
             )
             raise StudyError(
-                f"{given.where}: nothing says what arrives at {', '.join(missing)}{fits}; where"
-                f" nobody arrives, write {told} in [arrivals]"
+                f"{given.where}: there are no arrivals for {', '.join(missing)}{fits}; if nobody"
+                f" arrives, write {zeros} in [arrivals]"
             )
         self.take(given)
         rows = np.zeros((self.steps, 1 + 2 * road.n), np.uint32)
@@ -629,7 +629,7 @@ class StudyReader:
         return rows
 
     def take(self, given: tables.TableParts) -> None:
-        """Keep what a table's file is noted for, and what was filled in it."""
+        """Keep the notes about a table's file, and the gaps that were filled in it."""
         self.notes += given.notes
         self.filled += given.filled
 
@@ -659,7 +659,7 @@ class StudyReader:
         name = tables.get_file_name(top, "after")
         before = self.load_before(self.file("after").parent / name) if self.load_before else None
         if before is None:
-            raise top.fault("after", "goes round in a circle, or through more than eight studies")
+            raise top.fault("after", "is circular, or goes through more than eight studies")
         if before.n != road.n:
             raise top.fault("after", f"is {name!r}, of {before.n} cells; this road has {road.n}")
         try:
@@ -700,8 +700,8 @@ class StudyReader:
     def laws(self, road: engine.Road, tabled: list[str], planned: bool) -> dict[int, tuple]:
         """Return meter laws in the engine's units.
 
-        Each ramp has a law or a table, exactly once; of a record's without a plan, its own releases
-        otherwise.
+        Each ramp has exactly one law or table. With a record and no plan, a ramp without either
+        releases what the record has.
         """
         file = self.file("meter")
         meters = TomlTable(self.top.values.get("meter", {}), f"{file}: [meter]")
@@ -724,7 +724,7 @@ class StudyReader:
             )
         if left and "all" not in meters and (planned or "record" not in self.top):
             raise StudyError(
-                f"{self.path}: nothing says what these ramps release: {', '.join(left)};"
+                f"{self.path}: these ramps have no law and no table: {', '.join(left)};"
                 " [meter.NAME] or [meter.all] gives a law, [releases] a table"
             )
         laws: dict[int, tuple] = {}
@@ -745,9 +745,9 @@ class StudyReader:
         return laws
 
     def law(self, m: TomlTable, law: str, road: engine.Road) -> Callable[[int], tuple]:
-        """Return what gives a ramp's law, by its cell, with its numbers in parts and parts a step.
+        """Return a function from a ramp's cell to its law, in parts and parts a step.
 
-        The table's numbers are read once, whatever ramps have it.
+        The table's numbers are read once for all its ramps.
         """
         if "parts" in m:
             return _always(_own_numbers(m, law))
@@ -769,7 +769,7 @@ class StudyReader:
         )
 
     def alinea(self, m: TomlTable, road: engine.Road) -> Callable[[int], tuple]:
-        """Return what gives a ramp's ALINEA: a gain a step, or in km/h, and a target."""
+        """Return a function from a ramp's cell to its ALINEA: gain and target."""
         if ("gain_kmh" in m) == ("gain" in m):
             raise m.fault("gain", "(a step) or `gain_kmh` (km/h) is needed, one of the two")
         gain = float(m.number("gain")) if "gain" in m else None
@@ -818,8 +818,8 @@ class StudyReader:
                 raise c.fault(
                     "from",
                     (
-                        f"is {c.values['from']}: closure {other} has cell {cell} in the same time;"
-                        " say each time once, with all lanes that are closed"
+                        f"is {c.values['from']}: closure {other} has cell {cell} at the same time;"
+                        " write one closure for this time, with all lanes that are closed"
                     ),
                 )
             done.append((len(done) + 1, cell, begin, end))
@@ -856,14 +856,14 @@ class StudyReader:
             f"{w.where}: ramps",
             self.ramps,
         )
-        ramps = [1] * road.n  # also where there is no ramp
+        ramps = [1] * road.n  # also at cells without a ramp
         for name in each.values:
             ramps[self.ramps[name] - 1] = each.whole(name, high=255)
         return [w.whole("gate", 1, high=255), *places], ramps
 
 
 def _name(c: TomlTable, key: str, given: Any) -> str:
-    """Return a name of a cell or a ramp, which a field of a CSV file can hold."""
+    """Return the name of a cell or a ramp; a field of a CSV file must be able to hold it."""
     if isinstance(given, bool) or not isinstance(given, (str, int)):
         raise c.fault(key, f"is {show(given)}, where a text in quotes is needed")
     name = str(given)
@@ -879,12 +879,12 @@ def _name(c: TomlTable, key: str, given: Any) -> str:
 
 
 def _always(law: tuple) -> Callable[[int], tuple]:
-    """Return what gives this law at every cell."""
+    """Return a function that gives this law at every cell."""
     return lambda cell: law
 
 
 def _critical(road: engine.Road, i: int) -> int:
-    """Return the critical count of the cell at i in whole parts; 0 where its speed is 0."""
+    """Return the critical count of the cell at i in whole parts; 0 if its speed is 0."""
     speed = road.speed[i]
     return (2 * engine.WHOLE * road.capacity[i] + speed) // (2 * speed) if speed else 0
 

@@ -1,4 +1,4 @@
-"""Studies that differ in their arrivals alone are run by the engine's batch: each as by itself, to the part."""
+"""The engine's batch runs studies that differ only in their arrivals; each gives the same numbers as alone."""
 from dataclasses import replace
 from fractions import Fraction
 from functools import partial
@@ -29,7 +29,7 @@ def told(t):
 
 
 def check(group, calls, batched=None):
-    """The same totals by the batch as one by one, with queues and without; `batched` of them by the batch."""
+    """The batch gives the same totals as single calls, with queues and without; `batched` of them use the batch."""
     for each in (totals, totals_and_queues):
         del calls[:]
         found = parallel.run_group(each, group)
@@ -68,7 +68,7 @@ def test_refusals_between_others(examples, calls):
 
 
 def test_faults_between_others(examples, calls):
-    """What can't be made is named as by itself: loads that are none or too many, seeds and peaks that are none."""
+    """A study that can't be made gives the same message as alone: wrong or too large loads, wrong seeds and peaks."""
     s = load(examples / "studies/five-cells-alinea.toml")
     loads = [1, 501, -1, float("nan"), "x", None, 0.9, Fraction(-1, 3), 1e300, Fraction(1_000_001), 1.1]
     found = check([partial(s.scaled, x) for x in loads], calls, 3)
@@ -93,7 +93,7 @@ def test_halves_are_rounded_up(examples, calls):
 
 
 def test_what_falls_back(examples, calls, tmp_path):
-    """Weights, plans, releases beside laws and studies beyond one record are run one by one, with the same numbers as ever."""
+    """Weights, plans, releases next to laws and studies beyond one record are run one by one, with the same numbers as before."""
     weighed = load(examples / "exercise/weights.toml")
     check([partial(weighed.scaled, x) for x in (0.9, 1)], calls, 0)
     s = load(examples / "studies/five-cells.toml")

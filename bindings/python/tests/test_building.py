@@ -1,4 +1,4 @@
-"""What a first build says: how long it takes, and each crate as it is proved; by ./nobyaluk, by cargo and by the page's build."""
+"""What a first build prints: how long it takes, and each crate as it is proved; by ./nobyaluk, by cargo and by the page's build."""
 import os
 import pty
 import re
@@ -34,7 +34,7 @@ def at_a_terminal(command, env, folder):
 
 @pytest.fixture
 def proving(checkout):  # noqa: F811
-    """The stand-in checkout, and what `bindings/build` says in it."""
+    """The stand-in checkout, and what `bindings/build` prints in it."""
     there, env, calls = checkout
     return there, env, calls, lambda *words: subprocess.run([there / "bindings/build", *words], env=env, capture_output=True, text=True)
 
@@ -53,7 +53,7 @@ def test_the_archive_is_built_by_one_at_a_time(proving):
     both = [subprocess.Popen([there / "bindings/build"], env=env, stderr=subprocess.PIPE, text=True) for _ in range(2)]
     said = [p.communicate()[1] for p in both]
     assert [p.returncode for p in both] == [0, 0] and (there / "target/staticlib/libexports.a").exists()
-    assert sum("another proves and builds here; this one waits for it" in x for x in said) == 1 and calls.read_text() == "check exports\nstaticlib exports\n" * 2
+    assert sum("another process proves and builds here; this one waits for it" in x for x in said) == 1 and calls.read_text() == "check exports\nstaticlib exports\n" * 2
 
 
 def test_what_fails_is_shown(proving, tmp_path):
@@ -68,7 +68,7 @@ def test_what_fails_is_shown(proving, tmp_path):
 
 @pytest.mark.skipif(not (shutil.which("cargo") or os.path.exists("/root/.cargo/bin/cargo")), reason="no cargo")
 def test_cargo_shows_each_crate(root, proving, tmp_path):
-    """At a terminal lines come as the crates are proved; cargo keeps them to itself otherwise, but for a failure."""
+    """At a terminal lines come as the crates are proved; otherwise cargo hides them, except after a failure."""
     there, env, calls, _ = proving
     shutil.copytree(root / "bindings/rust", there / "bindings/rust", ignore=shutil.ignore_patterns("target", "tests"))
     shutil.copytree(root / "bindings/c", there / "bindings/c", dirs_exist_ok=True)

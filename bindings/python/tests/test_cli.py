@@ -1,4 +1,4 @@
-"""The commands as a user calls them: what they print, what they say, how they end; and ./nobyaluk itself."""
+"""The commands as a user calls them: their output, messages and exit statuses; and ./nobyaluk itself."""
 import csv
 import os
 import re
@@ -28,7 +28,7 @@ def test_run_says_who_waits_where(examples, told):
 
 
 def test_listing_is_ctms(examples, told):
-    """Where a program ctm is built, byte for byte on every example; else by the printed run of docs/MODEL.md."""
+    """If the program ctm is built, byte for byte on every example; else by the printed run of docs/MODEL.md."""
     ctm = examples.parent / "target/bin/ctm"
     for record in sorted(examples.glob("*.rec")):
         status, out, err = told("run", record, "--listing")
@@ -56,8 +56,8 @@ def test_csv(examples, told, tmp_path):
 def test_judge(examples, told, tmp_path):
     status, out, _ = told("judge", examples / "classroom.rec", examples / "classroom-cut.schedule.csv", "--seconds", 36)
     assert (status, out) == (0, "accepted total 8123346 gate 1756916 road 6366430 ramp 0 exits 627782\n"
-                                "  81.23 vehicle-hours, where the engine's run has 30.00: it loses 51.23 (+170.8 %)\n"
-                                "  it departs first at step 10, 6:00 min, cell 2: it sends 0.000 vehicles, and 20.000 could go\n")
+                                "  81.23 vehicle-hours, and the engine's run has 30.00: it loses 51.23 (+170.8 %)\n"
+                                "  it first differs at step 10, 6:00 min, cell 2: it sends 0.000 vehicles, and 20.000 could leave\n")
     run = load(examples / "printed-run.rec").run()
     np.savetxt(tmp_path / "own.csv", run.outflow, "%d", ",", header="gate,1,2", comments="")
     status, out, _ = told("judge", examples / "printed-run.rec", tmp_path / "own.csv")
@@ -90,7 +90,7 @@ def test_judge_of_a_metered_study(examples, told, tmp_path):
     zs[101:, :] = 0
     np.savetxt(tmp_path / "s.csv", zs, "%d", ",")
     status, out, err = told("judge", path, tmp_path / "s.csv")
-    assert (status == 0 and "it departs first at step 100, 07:33:20, cell 5" in out) or (status == 1 and "refused 10" in err)
+    assert (status == 0 and "it first differs at step 100, 07:33:20, cell 5" in out) or (status == 1 and "refused 10" in err)
 
 
 def test_compare(examples, told, tmp_path):
@@ -127,7 +127,7 @@ def test_street(examples, told, tmp_path):
     (tmp_path / "street.toml").write_text("limit = 100\n" + ramp.format("north") + ramp.format("south"))
     assert told("street", tmp_path / "street.toml")[::2] == (1, f"nobyaluk: refused 24: {meaning(24, 'grant').words}\n")
     (tmp_path / "street.toml").write_text("limit = 100\n" + ramp.format("north") + ramp.format("north"))
-    assert "which is there already" in told("street", tmp_path / "street.toml")[2]
+    assert "which is named twice" in told("street", tmp_path / "street.toml")[2]
 
 
 def test_join(examples, told, tmp_path):
@@ -206,7 +206,7 @@ def test_new(told, tmp_path):
 
 
 def test_without_matplotlib_only_pictures_are_missing(root):
-    """run, compare and sweep print as ever; what draws says what to install."""
+    """run, compare and sweep print as before; a command that draws names what to install."""
     study = root / "examples/studies/five-cells.toml"
     for words, status, part in (("run", 0, "170.32"), ("compare", 0, "170.32"), ("sweep", 0, "170.3150"), ("plot", 3, "apt-get install python3-matplotlib"),
                                 ("report -o -", 3, "apt-get install python3-matplotlib")):
@@ -287,7 +287,7 @@ def test_front_door(checkout, tmp_path):
     assert calls.read_text() == "check exports\nstaticlib exports\n"
     said = "".join(err for _, err in told)
     assert re.search("nobyaluk: the engine is proved and built first: 2 crates, (about|two to) [a-z]+ minutes\n", said)
-    assert "nobyaluk: crate 1 of 2: rows proved (1 s)" in said and "another proves and builds here; this one waits for it" in said
+    assert "nobyaluk: crate 1 of 2: rows proved (1 s)" in said and "another process proves and builds here; this one waits for it" in said
     again = subprocess.run(command, cwd=tmp_path, env=env, capture_output=True, text=True)
     assert again.returncode == 0 and again.stderr == "" and calls.read_text().count("\n") == 2
     shown = subprocess.run([there / "nobyaluk", "new", "my road"], cwd=tmp_path, env=env, capture_output=True, text=True).stdout.splitlines()
@@ -308,7 +308,7 @@ def test_an_old_library_is_told(checkout, tmp_path):
     (there / "target/bindings").mkdir(parents=True)
     subprocess.run(["cc", "-shared", "-fPIC", "-o", there / "target/bindings/libnobyaluk.so", tmp_path / "old.c"], check=True)
     out = subprocess.run(command, env=env, capture_output=True, text=True)
-    assert out.returncode == 3 and out.stderr == "nobyaluk: the engine's library has no nobyaluk_read: it is older than this package; build it anew with bindings/build\n"
+    assert out.returncode == 3 and out.stderr == "nobyaluk: the engine's library has no nobyaluk_read: it is older than this package; build it again with bindings/build\n"
 
 
 def test_a_read_only_checkout(checkout, tmp_path):
@@ -366,7 +366,7 @@ def test_without_a_compiler_the_kit_links(checkout, tmp_path):
 
 @pytest.mark.parametrize("user, settings, installs", [(0, {}, True), (0, {"NOBYALUK_NO_INSTALL": "1"}, False), (0, {"PYTHON": "/bin/false"}, False), (1000, {}, False)])
 def test_what_the_checks_install(root, tmp_path, user, settings, installs):
-    """Where something is missing, and only as root: all that bindings/apt.txt names, with a stand-in for apt-get; why it failed is said."""
+    """If something is missing, and only as root: everything that bindings/apt.txt names, with a stand-in for apt-get; a failure gives its reason."""
     apt = f'echo "$@" >>"{tmp_path}/calls"\ncase $* in *install*) echo "E: no network" && exit 100 ;; esac'
     path = only(tmp_path / "few", "sh", "bash", "env", "dirname", "tr", "cat", "grep", apt_get=apt, id=f"echo {user}")
     out = subprocess.run([root / "bindings/install"], env={"PATH": path, **settings}, capture_output=True, text=True)

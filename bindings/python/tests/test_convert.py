@@ -1,4 +1,4 @@
-"""From one form to another: what a record does not hold goes into a study beside it, and nothing is lost or replaced in silence."""
+"""From one form to another: what a record does not hold goes into a study next to it, and nothing is lost or replaced silently."""
 import csv
 import io
 import shutil
@@ -93,7 +93,7 @@ def bits(s):
 
 
 def same_study(a: Study, b: Study) -> None:
-    """All that a study says, and its run."""
+    """Everything in a study, and its run."""
     for name in ("title", "seconds", "start", "lengths", "cell_names", "ramps", "laws", "weights", "built"):
         assert getattr(a, name) == getattr(b, name), name
     assert bits(a) == bits(b) and (a.plan is None) == (b.plan is None) and (a.plan is None or (a.plan == b.plan).all())
@@ -152,7 +152,7 @@ def test_a_study_that_goes_on_and_a_long_one(examples, told, tmp_path):
 
 
 def test_the_source_keeps_what_the_record_does_not(examples, told, tmp_path):
-    """`convert road.toml road.rec`: the study beside the record is the source itself."""
+    """`convert road.toml road.rec`: the study next to the record is the source itself."""
     path = tmp_path / "road.toml"
     path.write_text(FULL + METERS["laws"])
     before = path.read_text()
@@ -220,7 +220,7 @@ def test_names_in_tables_are_quoted(told, tmp_path):
 
 
 def test_fill_keeps_laws_and_works_beside_a_record(examples, told, tmp_path):
-    """The laws by which a record is filled, and the table of lanes, are not in it: a study beside it keeps both, and fills it anew."""
+    """The laws by which a record is filled, and the table of lanes, are not in it: a study next to it keeps both, and fills it again."""
     lanes, laws = examples / "rocade-sud-works.lanes.txt", examples / "rocade-sud-alinea.laws.txt"
     works = "".join(f"[[cell]]\nlanes = {3 if i == 19 else 1}\n" for i in range(1, 22)) + "[[closure]]\ncell = 19\nlanes = 1\nfrom = 0\nto = 90\n"
     for more in ("", "step = 20\n", "step = 20\n" + works):

@@ -1,4 +1,4 @@
-"""A day: more than 1,440 steps in one go, in parts that go on from one another; and roads of more than 64 cells, which the engine does not take."""
+"""A day: more than 1,440 steps in one study, in parts that go on from one another; and roads of more than 64 cells, which the engine refuses."""
 import csv
 import io
 from dataclasses import replace
@@ -10,7 +10,7 @@ from nobyaluk import Refused, StudyError, engine, fields, load, long_record, par
 from nobyaluk.cli import main
 from nobyaluk.totals import totals_and_queues
 
-ANEW = "the cumulative outflows begin anew every 1,440 steps, so each off-ramp's rounding may shift by less than one thousandth of a vehicle there"
+ANEW = "the cumulative outflows begin at 0 again every 1,440 steps, so each off-ramp's rounding may shift there by less than one thousandth of a vehicle"
 HOURS = [(0, 900, 100), (6, 2700, 450), (7, 3600, 720), (9, 1800, 360), (16, 3400, 650), (19, 1200, 200)]
 
 
@@ -100,7 +100,7 @@ def test_commands(tmp_path, examples, capsys):
     r = s.run()
     assert main(["run", path, "--csv", str(tmp_path / "a.csv")]) == 0
     said = capsys.readouterr().out
-    assert ANEW in said and "4320 steps of 20 s (1440 min)" in said
+    assert ANEW in said and "4320 steps of 20 s (24 h)" in said
     rows = list(csv.DictReader(io.StringIO((tmp_path / "a.csv").read_text())))
     assert len(rows) == 4320 * 22 and rows[-1]["step"] == "4319" and float(rows[-1]["held_veh"]) == r.held[-1, -1] / 1000
     assert main(["run", path, "--listing"]) == 0
@@ -114,7 +114,7 @@ def test_commands(tmp_path, examples, capsys):
     page = tmp_path / "page.html"
     assert main(["report", path, "-o", str(page)]) == 0
     text = page.read_text()
-    assert ANEW.replace("'", "&#x27;") in text and f"total {r.total} gate" in text and "run in records that go on from one another" in text
+    assert ANEW.replace("'", "&#x27;") in text and f"total {r.total} gate" in text and "run in several, each going on from the one before" in text
     capsys.readouterr()
     assert main(["redo", str(page)]) == 0
     assert "the same totals and record" in capsys.readouterr().out
@@ -151,12 +151,12 @@ def test_what_a_day_cant(tmp_path, examples, capsys):
     path = write_day(tmp_path, examples)
     np.savetxt(tmp_path / "z.csv", load(path).run().outflow, "%d", ",")
     assert main(["judge", path, str(tmp_path / "z.csv")]) == 2
-    assert "begins them anew every 1,440; judge studies of at most 1,440 steps, each with the one before it as `after`" in capsys.readouterr().err
+    assert "begins them at 0 again every 1,440; judge studies of at most 1,440 steps, each with the one before it as `after`" in capsys.readouterr().err
     assert main(["convert", path, str(tmp_path / "a.rec")]) == 2
     assert "21 cells leave room for 377 steps; this study has 4320" in capsys.readouterr().err
     assert main(["exercise", path, "-o", str(tmp_path / "sheet.html")]) == 2
     assert "a record has at most 65,536 bytes" in capsys.readouterr().err
-    with pytest.raises(StudyError, match="`steps` is 17281; it is at most 17280; a longer study goes on with `after`"):
+    with pytest.raises(StudyError, match="`steps` is 17281; it is at most 17280; a further study continues with `after`"):
         load(write_day(tmp_path, examples, steps=17281))
 
 

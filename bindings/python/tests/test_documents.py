@@ -1,4 +1,4 @@
-"""The pages say what is so: their commands are run, their studies are the files, their picture is the study's."""
+"""The pages are true: their commands are run, their studies are the files, their picture is the study's."""
 import re
 import shlex
 
@@ -96,7 +96,7 @@ def test_pictures_shown_are_of_their_studies(root):
 
 def test_pictures_of_teaching_are_of_their_pages(root, tmp_path):
     for name, page in teaching.pages(root, tmp_path).items():
-        assert f"page {teaching.sum_of(page)}".encode() in (root / f"docs/pictures/{name}.png").read_bytes(), "bindings/pictures makes it anew"
+        assert f"page {teaching.sum_of(page)}".encode() in (root / f"docs/pictures/{name}.png").read_bytes(), "bindings/pictures makes it again"
 
 
 def test_commands_are_all_told(root):

@@ -342,7 +342,7 @@ def printed_bytes(examples):
 
 
 def test_words_are_those_of_the_operation(printed):
-    """The same number has other words where another operation gives it, and a number without a name has words too."""
+    """The words of a number depend on the operation, and a number without a name has words too."""
     told = {}
     for operation, call in {"read": lambda: engine.read(b""), "put": lambda: engine.put(printed, 0, 3, 7), "join": lambda: engine.join(printed, printed, 1001),
                             "write": lambda: engine.write(printed.road, printed.begin, printed.rows[:, :3])}.items():

@@ -140,7 +140,7 @@ def test_nothing_is_lost(question, told, tmp_path):
     form = tmp_path / "c/sheets/exercise.csv"
     form.write_text("filled in\n")
     status, _, err = told("exercise", question, "-o", tmp_path / "c", "--no-pdf")
-    assert status == 2 and "is there already, and would be replaced" in err and form.read_text() == "filled in\n"
+    assert status == 2 and "already exists and would be replaced" in err and form.read_text() == "filled in\n"
     assert told("exercise", question, "-o", tmp_path / "c", "--no-pdf", "--force")[0] == 0 and form.read_text() != "filled in\n"
 
 
@@ -149,7 +149,7 @@ def test_nothing_is_lost(question, told, tmp_path):
     (["--seed", "x"], "whole number from 0"), (["--seed", 1 << 32], "whole number from 0"), (["--seeds", "3:1", "-o", "c"], "FIRST:LAST"), (["--seeds", "1:99999", "-o", "c"], "FIRST:LAST"),
     (["--seeds", "1:3"], "-o FOLDER writes the sheets of a class"), (["--seed", 1, "--cells", 9], "1 to 8"), (["--seed", 1, "--cells", 0], "1 to 8"), (["--seed", 1, "--steps", 0], "1 or more"),
     (["--seed", 1, "--steps", 1 << 60], "1 or more"), (["--seed", 1, "--seconds", 20], "a seed draws its own road"), (["Q", "--steps", 3], "a study has its own"),
-    (["--seed", 1, "--students", "NAMES", "-o", "c"], "is there twice"), (["--seeds", "1:3", "--students", "TWO", "-o", "c"], "2 names and --seeds 3 seeds"),
+    (["--seed", 1, "--students", "NAMES", "-o", "c"], "appears twice"), (["--seeds", "1:3", "--students", "TWO", "-o", "c"], "2 names and --seeds 3 seeds"),
     (["--seed", 1, "--students", "LONG", "-o", "c"], "is no name"), (["--seed", 1, "--students", "EMPTY", "-o", "c"], "0 names"), (["--seed", 1, "--students", "none", "-o", "c"], "there is no"),
 ])
 def test_wrong_calls(question, told, tmp_path, monkeypatch, words, say):

@@ -1,4 +1,4 @@
-"""Faults and their exit statuses: whatever is given, words for it and no traceback."""
+"""Faults and their exit statuses: every input gives a message and no traceback."""
 import os
 import subprocess
 import sys
@@ -18,7 +18,7 @@ LONG = "9" * 5000
 
 @pytest.fixture
 def told(capsys):
-    """told(word, ..): exit status, what is printed and what is said."""
+    """told(word, ..): exit status, standard output and standard error."""
 
     def run(*words):
         status = main([str(x) for x in words])
@@ -36,7 +36,7 @@ def called(words, **how):
 
 @pytest.fixture
 def files(examples, tmp_path):
-    """Files of every kind that is no study, by the words that are said of them."""
+    """Files of every kind that is no study, with their messages."""
     text = {"counts.csv": "time,gate\n07:00,3000\n", "toml.rec": 'title = "x"\nstep = 20\n', "words.rec": "hello there\n", "page.rec": "<!doctype html><html></html>",
             "not.toml": "hello\n"}
     for name, words in text.items():
@@ -190,7 +190,7 @@ def test_a_comma_in_a_number(examples, told):
 
 
 def test_numbers_of_a_table():
-    """What is there is shown in short, its limits as decimals."""
+    """A message shows the value in short, and its limits as decimals."""
     for value, says in ((10**4400, "`x` is a number of 14617 bits"), (-(10**4400), "`x` is a number of"), (Decimal("9" * 5000), "`x` is 999"), (Decimal("1e31"), "no number of a road"),
                         ("9" * 5000, "`x` is '999"), (Fraction(1, 10**7), "it is at least 0.000001"), (Decimal("1e9"), "it is at most 2.5"), (True, "`x` is True, where a number is needed"),
                         ([[1] * 5000], "`x` is [[1, 1"), (None, "it is a number from 0.000001 to 2.5"), (float("nan"), "where a number is needed"), (Decimal("nan"), "where a number is needed")):

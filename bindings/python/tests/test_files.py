@@ -161,11 +161,11 @@ def test_sums_are_right_to_a_part(spans, seconds):
         assert int(out[: k + 1].sum()) == int(exact)
 
 
-# What stands in the study, what takes its place, and what is said.
+# What the study has, what replaces it, and the message.
 FAULTS = {
     "a cell too short": ("length = 0.5", "length = 0.4", "`speed` 90 km/h x 20 s = 0.500 km passes the cell's 0.4 km in one step; take a step of at most 16 s or a cell of at least 0.500 km"),
-    "an unknown key": ("steps = 225", "steps = 225\nspeedd = 3", "`speedd` is not known here; known are after, arrivals"),
-    "an unknown key of a cell": ("split = 0.8", "splitt = 0.8", "cell 2: `splitt` is not known here; known are capacity"),
+    "an unknown key": ("steps = 225", "steps = 225\nspeedd = 3", "`speedd` is not known here; the known keys are after, arrivals"),
+    "an unknown key of a cell": ("split = 0.8", "splitt = 0.8", "cell 2: `splitt` is not known here; the known keys are capacity"),
     "no file": (INLINE, 'file = "none.csv"', "none.csv"),
     "an unknown law": ('law = "open"', 'law = "best"', '[meter.all]: `law` is \'best\'; it is "open", "fixed", "alinea" or "demand-capacity"'),
     "a law's number": ('law = "open"', 'law = "fixed"', "[meter.all]: `rate` is missing"),
@@ -198,8 +198,8 @@ FAULTS = {
     "two starts": ("split = 0.8", "density = 20\nheld = 3", "`density` and `held` both say"),
     "no TOML": ("step = 20", "step 20", "Expected '=' after a key"),
     "no base": ("step = 20", 'step = 20\nbase = "none.toml"', "`base` is 'none.toml', and there is no"),
-    "itself": ("step = 20", 'step = 20\nbase = "road.toml"', "`base` goes round in a circle"),
-    "after itself": ("step = 20", 'step = 20\nafter = "road.toml"', "`after` goes round in a circle"),
+    "itself": ("step = 20", 'step = 20\nbase = "road.toml"', "`base` is circular"),
+    "after itself": ("step = 20", 'step = 20\nafter = "road.toml"', "`after` is circular"),
     "releases and a meter": ("[meter.all]", '[releases]\nstep = [0]\n"Mill Street" = [3]\n[meter.all]', "[meter.all]: no ramp is left for it; each has a law or a table of its own"),
 }
 
@@ -213,7 +213,7 @@ def test_faults_are_told(road, name):
     assert said in str(caught.value) and (str(path) in str(caught.value) or "none.csv" in str(caught.value))
 
 
-# Rows of a CSV file, and what is said of them.
+# Rows of a CSV file, and their messages.
 CSV_FAULTS = {
     "a field": ("time,gate\n07:00,3000\n\n07:10,3OO0\n", "a.csv, row 4, column 'gate' is '3OO0', where a number is needed"),
     "an empty field": ("time,gate,Mill Street\n07:00,3000,\n", "a.csv, row 2, column 'Mill Street' is empty; write 0 where nothing came"),

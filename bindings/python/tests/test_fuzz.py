@@ -93,7 +93,7 @@ def in_time() -> Iterator[None]:
 
 
 def called(words: list[str]) -> None:
-    """Calls the command line as a user does and holds it to its manual."""
+    """Calls the command line as a user does and checks it against its manual."""
     out, err = io.StringIO(), io.StringIO()
     with in_time(), contextlib.redirect_stdout(out), contextlib.redirect_stderr(err):
         status = cli.main(words)

@@ -82,7 +82,7 @@ def test_marks_of_a_gap(study, mark):
     s = study(text, 'gaps = "hold"')
     assert came(s) == [40, 41, 42, 42, 42, 45, 46, 47, 48, 49]
     (x,) = s.filled
-    assert (x.name, x.begin, x.end, x.rows, x.numbers, x.rule) == ("gate", "07:03:00", "07:05:00", 2, "42", "hold") and x.stood == (mark or "empty")
+    assert (x.name, x.begin, x.end, x.rows, x.numbers, x.rule) == ("gate", "07:03:00", "07:05:00", 2, "42", "hold") and x.original == (mark or "empty")
     assert len(s.notes) == 1 and "2 of 10 rows had no number" in s.notes[0] and "07:03:00 to 07:05:00" in s.notes[0]
     s = study(text, 'gaps = "interpolate"')
     assert came(s) == WHOLE and s.filled[0].numbers == "43 to 44"
@@ -98,7 +98,7 @@ def test_other_negative_numbers_are_faults(study):
 def test_missing_minutes(study, rule, found):
     """Of all places in a wide file, of one in a long file."""
     s = study(wide(minutes=[m for m in range(12) if m not in (4, 5)]), f'gaps = "{rule}"')
-    assert came(s) == found and [(x.name, x.rows, x.stood) for x in s.filled] == [("gate", 2, "no row"), ("North", 2, "no row")]
+    assert came(s) == found and [(x.name, x.rows, x.original) for x in s.filled] == [("gate", 2, "no row"), ("North", 2, "no row")]
     s = study(long({(4, "gate"), (5, "gate"), (7, "North")}), f'gaps = "{rule}"')
     assert came(s) == found and [(x.name, x.rows) for x in s.filled] == [("gate", 2), ("North", 1)]
     s = study(long({(m, d) for m in (4, 5) for d in ("gate", "North")}), f'gaps = "{rule}"')
@@ -171,7 +171,7 @@ def test_a_file_that_ends_before_the_study(study, unit):
     """By a rule the last row holds no longer than the others: what comes after it is a gap like any other."""
     text, road = wide(minutes=range(8)), ROAD.replace('"count"', f'"{unit}"')
     held = study(text, 'gaps = "hold"', road=road)
-    assert [(x.name, x.begin, x.end, x.rows, x.stood) for x in held.filled] == [(name, "07:08:00", "07:10:00", 2, "no row") for name in ("gate", "North")]
+    assert [(x.name, x.begin, x.end, x.rows, x.original) for x in held.filled] == [(name, "07:08:00", "07:10:00", 2, "no row") for name in ("gate", "North")]
     assert came(held)[8:] == pytest.approx([came(held)[7]] * 2, abs=0.002)
     assert "'gate' has no number from 07:08:00 to 07:10:00 (no row), and there is none after it" in faults(study, text, 'gaps = "interpolate"', road=road)
     said = faults(study, text, 'gaps = "fault"', road=road)

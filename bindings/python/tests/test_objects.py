@@ -1,4 +1,4 @@
-"""Studies, roads, records and runs as somebody who programs meets them: built from numbers, compared, printed, and never changed in silence."""
+"""Studies, roads, records and runs as a programmer uses them: built from numbers, compared, printed, and never changed silently."""
 import doctest
 import pickle
 from dataclasses import replace
@@ -78,18 +78,18 @@ def test_meters_works_releases_and_weights(examples):
 
 @pytest.mark.parametrize("changed, words", [
     ({"step": 30}, "cell 1: `speed` 90 km/h x 30 s = 0.750 km passes the cell's 0.5 km in one step; take a step of at most 20 s"),
-    ({"arrivals": {"gate": 1000}}, "nothing says what arrives at Mill Street"),
+    ({"arrivals": {"gate": 1000}}, "there are no arrivals for Mill Street"),
     ({"arrivals": {"gate": [1000, 2000], "Mill Street": 0}}, "arrivals: `gate` has 2 numbers; it has one for each of the 225 steps, or one number for all"),
     ({"arrivals": {**RUSH, "gate": [1, 2]}}, "`gate` has 2 numbers; it has as many as `time` has, 3"),
     ({"arrivals": {"gate": float("nan"), "Mill Street": 0}}, "number 1 of `gate` is 'NaN', where a number is needed"),
     ({"arrivals": {"gate": 1, "Mil Street": 0}}, "did you mean 'Mill Street'"),
-    ({"meter": None}, "nothing says what these ramps release: Mill Street"),
+    ({"meter": None}, "these ramps have no law and no table: Mill Street"),
     ({"meter": Meter("alinea")}, "`gain` (a step) or `gain_kmh` (km/h) is needed"),
     ({"gate": Gate(-1)}, "`capacity` is -1; it is at least 0"),
     ({"gate": 4400}, "study: gate is 4400; it is a Gate, or a mapping with its words"),
     ({"meter": "open"}, "study: meter of all is 'open'; it is a Meter"),
     ({"arrivals": 3000}, 'arrivals is 3000; it has a number or a list for each name, as {"gate": 3000}'),
-    ({"arrivals": {}}, "nothing says what arrives at gate, Mill Street"),
+    ({"arrivals": {}}, "there are no arrivals for gate, Mill Street"),
     ({"steps": 17281}, "`steps` is 17281; it is at most 17280"),
     ({"closures": [Closure(6, 1, 0, 1)]}, "`cell` is 6; it is at most 5"),
 ])

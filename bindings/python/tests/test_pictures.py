@@ -101,7 +101,7 @@ def test_queues(five):
     gate = lines["gate (without each\nstep's arrivals)"]
     assert np.allclose(gate.get_ydata()[1:], (r.held[:, 0].astype(int) - r.record.rows[:, 0]) / 1000) and ax.get_ylabel() == "vehicles waiting"
     box, axes = ax.get_legend().get_window_extent(), ax.get_window_extent()
-    assert box.x0 >= axes.x1  # the legend stands outside the data
+    assert box.x0 >= axes.x1  # the legend is outside the data
     assert figure.bbox.x1 >= box.x1  # and is not cut off
 
 
@@ -173,7 +173,7 @@ def test_lanes_that_fall_are_marked(road):
 
 
 def edge_of(figure):
-    """The names at the edge, with where they stand."""
+    """The names at the edge, with their places."""
     ax = figure.axes[0]
     return [(t.get_text(), t.get_window_extent()) for t in ax.texts if t.get_window_extent().x0 > ax.get_window_extent().x1 and t.get_text() not in "►◄"]
 
@@ -232,7 +232,7 @@ def test_files_of_every_form(examples, tmp_path, capsys):
 
 
 def test_one_scale_by_the_command(examples, tmp_path, monkeypatch):
-    """Two pictures that are drawn one after the other, each beside the other, have one scale."""
+    """Two pictures that are drawn one after the other, each with the other as `beside`, have one scale."""
     one, other = (str(examples / f"studies/five-cells{x}.toml") for x in ("", "-alinea"))
     ends = []
     monkeypatch.setattr(figures, "save", lambda figure, path, of="": ends.append(figure.axes[0].get_ylim()) or path)
@@ -259,7 +259,7 @@ class Page(HTMLParser):
                 pass
 
 
-def test_a_report_stands_alone(five, tmp_path):
+def test_a_report_needs_no_other_file(five, tmp_path):
     text = report.make_page(five, "Five <cells>")
     page = Page()
     page.feed(text)

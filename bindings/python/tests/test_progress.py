@@ -1,4 +1,4 @@
-"""How far long work is: lines with rate and time left in a file or a pipe, a bar on a terminal, and lines there too where tqdm is missing."""
+"""Progress of long work: lines with rate and time left in a file or a pipe, a bar on a terminal, and lines there too if tqdm is missing."""
 import os
 import pty
 import subprocess

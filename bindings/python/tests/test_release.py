@@ -97,4 +97,4 @@ def test_other_bytes(tree):
     assert status == 1 and "dist/ has a release of this commit with other bytes" in said
     (there.parent / "clock").touch()
     status, said = release(REUSE)
-    assert status == 1 and "two makings have other bytes" in said
+    assert status == 1 and "the two copies of the packages differ" in said

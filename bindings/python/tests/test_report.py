@@ -1,4 +1,4 @@
-"""A report can be redone from itself: it states all that went into a study, has the study as a file, and its totals are those of that file's run."""
+"""A report can be redone from its own page: it states all inputs of a study, has the study as a file, and its totals are those of that file's run."""
 import html
 import re
 from dataclasses import replace
@@ -74,7 +74,7 @@ def test_redo(written, told, tmp_path):
     changed = next((tmp_path / "out").glob("*.toml"))
     changed.write_text("mine\n")
     refused = told("redo", path, "-o", tmp_path / "out")
-    assert refused[0] == 2 and f"{changed} is there already, and would be replaced" in refused[2] and changed.read_text() == "mine\n"
+    assert refused[0] == 2 and f"{changed} already exists and would be replaced" in refused[2] and changed.read_text() == "mine\n"
     assert told("redo", path, "-o", tmp_path / "out", "--force")[0] == 0 and changed.read_bytes() == there[changed.name]
     assert (status, err) == (0, "") and out.splitlines()[-1] == f"{tmp_path}/out: 4 studies" and out.count("the same totals and record") == 4
     assert told("run", tmp_path / "out/works.toml")[0] == 0
@@ -101,8 +101,8 @@ def test_what_is_no_report(written, told, tmp_path):
 def test_a_report_states_what_went_in(written):
     """Meter laws with gains and rates, works, arrivals, releases, weights, versions, filled gaps, sums."""
     page = html.unescape(written[0].read_text())
-    for words in ("open: whatever arrives goes on where there is room", "fixed rate 431 veh/h", "demand-capacity, capacity 5,257.08 veh/h", "least rate 300 veh/h",
-                  "ALINEA, gain 7 km/h (0.0777778 a step), target 20 vehicles (40 veh/km)", "by the table of releases, at most what it has",
+    for words in ("open: every arrival passes if the cell has room", "fixed rate 431 veh/h", "demand-capacity, capacity 5,257.08 veh/h", "least rate 300 veh/h",
+                  "ALINEA, gain 7 km/h (0.0777778 a step), target 20 vehicles (40 veh/km)", "by the table of releases, as the most",
                   "<td>cell 19</td><td>1 of 3</td><td>07:00:00</td><td>07:30:00</td>", "<td>each cell</td><td>2</td>", "<td>queue of ramp 16</td><td>7</td>",
                   "No lane is closed.", "the waiting of every vehicle counts alike", "07:00:00 to 09:05:40", "record: version 2", "Gaps that were filled", "54.667 to 56.333",
                   "<h3>Table of releases</h3>", "SHA-256", "boundary", "numpy", "Python", "The studies differ in their number of steps"):
@@ -138,7 +138,7 @@ def test_two_studies_of_one_file_name(examples, told, tmp_path):
 
 
 def test_a_record_without_seconds(examples, told, tmp_path):
-    """Its bytes are in the page, with a study beside them."""
+    """Its bytes are in the page, with a study next to them."""
     assert told("report", examples / "printed-run.rec", "-o", tmp_path / "r.html")[0] == 0
     assert told("redo", tmp_path / "r.html", "-o", tmp_path / "out")[0] == 0
     assert (tmp_path / "out/printed-run.rec").read_bytes() == (examples / "printed-run.rec").read_bytes()

@@ -1,4 +1,4 @@
-"""Study files leave nothing out in silence: every entry has arrivals, every ramp a law or a table, every name exists, and no input ends in a traceback."""
+"""Study files leave nothing out silently: every entry has arrivals, every ramp a law or a table, every name exists, and no input ends in a traceback."""
 import re
 
 import numpy as np
@@ -53,7 +53,7 @@ def write(tmp_path):
 
 
 def fault(path, *parts):
-    """A study that is no study: its fault names the folder and says all of these."""
+    """A faulty study: the message names the folder and has all of these words."""
     with pytest.raises(StudyError) as caught:
         load(path)
     said = str(caught.value)
@@ -191,7 +191,7 @@ def test_works_weights_and_length_with_a_table_beside_laws(write):
     assert a.outflow[30:60, 5].max() < a.outflow[:, 5].max()
 
 
-# A study beside a record.
+# A study next to a record.
 
 
 def test_a_study_beside_a_record(write, tmp_path):
@@ -205,7 +205,7 @@ def test_a_study_beside_a_record(write, tmp_path):
     assert law.laws.keys() == {2} and (law.run().record.rows[:, 8] == whole.run().record.rows[:, 8]).all()  # South as in the record
     exact = load(write(f'record = "r.rec"\n{cells}[releases]\nNorth = 0\ncap = false\n', road="")).run()
     assert exact.record.rows[:, 4].sum() == 0 and (exact.record.rows[:, 8] == whole.run().record.rows[:, 8]).all()
-    fault(write(f'record = "r.rec"\n{cells}[releases]\nNorth = 0\n', road=""), "South")  # a plan shuts nobody in silence
+    fault(write(f'record = "r.rec"\n{cells}[releases]\nNorth = 0\n', road=""), "South")  # a plan shuts no ramp silently
     for more, says in (("steps = 3\n", "`steps`"), ("[arrivals]\ngate = 0\n", "`arrivals`"), ("step = 30\n", "steps of 20 s"), ("[[cell]]\n", "1 times"), ("[gate]\ncapacity = 1\n", "`gate`")):
         fault(write('record = "r.rec"\n' + more, road=""), says)
     fault(write('record = "r.rec"\n' + cells.replace("lanes = 2", "speed = 2"), road=""), "cell 4: `speed`", "`record`")
@@ -298,7 +298,7 @@ def test_headings_of_any_name(write):
 
 
 def test_columns_choose_among_headings(write):
-    """Two columns of times, of places or of numbers: `columns` says which, and nothing is taken in silence."""
+    """Two columns of times, of places or of numbers: `columns` says which, and nothing is chosen silently."""
     want = load(write(LISTS, OPEN, name="l.toml")).record.rows
     rows = "".join(f"{30 * i * (1 if i < 2 else 1.5):g},{t},{d},x{d},{v},9\n" for i, (t, vs) in enumerate(ROWS) for d, v in zip(("gate", "North", "South"), vs))
     text = "step,Zeit,detector,station,flow,count\n" + rows
@@ -334,14 +334,14 @@ def test_marks_that_may_be_thousands(write):
 
 
 def test_counts_say_how_long_they_are(write):
-    fault(write(FILE, 'unit = "count"\n', OPEN, a="time,gate,North,South\n07:00,9,9,9\n"), "row 2", "how long")
+    fault(write(FILE, 'unit = "count"\n', OPEN, a="time,gate,North,South\n07:00,9,9,9\n"), "row 2", "the length of the only row of counts is unknown")
     rows = "".join(f"{m},10,1,1\n" for m in (0, 1, 2, 4, 5, *range(6, 60)))
     s = load(write(FILE, 'unit = "count"\n', OPEN, a="minutes,gate,North,South\n" + rows))
     assert any("row 4" in note and "120 s" in note for note in s.notes)
 
 
 def test_rows_that_all_begin_before_the_study_are_noted(write):
-    """A start of 17:00 beside a file of the morning: one rate holds in every step, which is noted; so is a file's last day."""
+    """A start of 17:00 with a file of the morning: one rate holds in every step, and a note says so; so does one about a file's last day."""
     evening = TWO.replace('"07:00"', '"17:00"')
     for tables_, csv in (((LISTS,), {}), ((FILE,), {"a": WIDE}), ((FILE,), {"a": detectors(["gate", "North", "South"])})):
         s = load(write(*tables_, OPEN, road=evening, **csv))
@@ -351,7 +351,7 @@ def test_rows_that_all_begin_before_the_study_are_noted(write):
     assert not load(write(one, OPEN, road=evening)).notes  # one row is a constant, as it is written
 
 
-# A base's files are beside the base.
+# A base's files are next to the base.
 
 
 def test_files_of_a_base_are_beside_the_base(write, tmp_path):
@@ -386,7 +386,7 @@ def test_small_tables_are_merged_with_the_bases(write, tmp_path):
     assert s.weights == ([3, 1, 1, 1, 1, 1], [1, 2, 1, 2, 1])
 
 
-# Names and numbers that are passed over.
+# Names and numbers that were ignored.
 
 
 def test_nothing_is_passed_over(write):
@@ -445,7 +445,7 @@ BAD_TOMLS = {
     "a day": ('start = "07:00"', "start = 2024-02-30", "date"),
     "a missing number": ("speed = 90", "", "`speed` is missing; it is a number from 0.000001"),
     "no steps": ("steps = 120", "", "`steps` is missing; it is a number from 1 to 17280"),
-    "steps": ("steps = 120", "steps = 17281", "it is at most 17280; a longer study goes on with `after`"),
+    "steps": ("steps = 120", "steps = 17281", "it is at most 17280; a further study continues with `after`"),
 }
 
 
@@ -508,7 +508,7 @@ def test_a_street_reads_whole_names(examples, tmp_path):
     st = street.read_street(path)
     assert [s.name for s in st.studies] == ["north-road", "south-road"] and st.names[0] == "north-road, ramp Mill Street"
     path.write_text("limit = 1260\n" + ramp.format("north/road.toml") + ramp.format("./north/../north/road.toml"))
-    with pytest.raises(StudyError, match="already"):
+    with pytest.raises(StudyError, match="which is named twice"):
         street.read_street(path)
     south = tmp_path / "south/road.toml"
     south.write_text(south.read_text().replace('"07:', '"08:'))

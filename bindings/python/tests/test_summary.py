@@ -1,4 +1,4 @@
-"""What a summary says is so: the gate's part that is the step of arrival, conservation, one numbering of steps, words for numbers."""
+"""A summary is true: the gate's part that is the step of arrival, conservation, one numbering of steps, words for numbers."""
 import re
 from dataclasses import replace
 
@@ -127,7 +127,7 @@ def test_cells_steps_and_ramps(examples):
 
 
 def test_the_promise_of_weights_is_that_of_records(examples):
-    """What is proved of weighted totals is proved of records; a study beyond one is stepped, and nothing is said of its total."""
+    """The promise about weighted totals covers records; for a study beyond one record nothing is promised about its total."""
     s = load(examples / "exercise/weights.toml")
     run = s.run()
     assert "no schedule has a smaller one" in summary.weighted_lines(s, run)[0]

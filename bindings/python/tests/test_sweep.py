@@ -1,4 +1,4 @@
-"""Sweeps lose nothing: rows as they come, --resume, processes and clusters that are killed, signals; each as a user meets it."""
+"""Sweeps lose nothing: rows as they come, --resume, processes and clusters that are killed, signals; each as a user sees it."""
 import csv
 import io
 import os
@@ -206,14 +206,14 @@ def test_rows_are_printed_as_they_come(sweeping, two):
 
 @pytest.mark.skipif(not Path("/dev/full").exists(), reason="no /dev/full")
 def test_a_full_disk(examples, tmp_path):
-    """The rows that fit stay, and it is said."""
+    """The rows that fit stay, and a message says so."""
     command = "import resource, signal, sys; signal.signal(signal.SIGXFSZ, signal.SIG_IGN); resource.setrlimit(resource.RLIMIT_FSIZE, (900, 900)); from nobyaluk.cli import main; sys.exit(main())"
     p = subprocess.run([sys.executable, "-c", command, "sweep", examples / "studies/five-cells.toml", "--load", "0.5:0.9:0.001", "-o", tmp_path / "a.csv"], capture_output=True, text=True)
     assert p.returncode == 4 and "a.csv.part could not be written: File too large" in p.stderr and "Traceback" not in p.stderr and not (tmp_path / "a.csv").exists()
 
 
 def test_whatever_fails_is_named(examples, monkeypatch):
-    """A study that fails in a way that nobody thought of fails alone."""
+    """A study that fails in an unforeseen way fails alone."""
     good = load(examples / "studies/five-cells.toml")
 
     class Bad(Study):
@@ -341,7 +341,7 @@ def cluster_sweep(examples, out, address, *words):
 
 
 def test_a_lost_scheduler_and_a_killed_worker(examples, tmp_path):
-    """A killed worker costs nothing, a lost scheduler is said in words, and the sweep goes on elsewhere."""
+    """A killed worker costs nothing, a lost scheduler gives a message, and the sweep goes on elsewhere."""
     part = tmp_path / "a.csv.part"
     lines = lambda: part.read_text().count("\n") - 2 if part.exists() else 0
     with scheduler(tmp_path, 2) as (address, first, others):

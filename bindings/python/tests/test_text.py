@@ -81,7 +81,7 @@ def test_schedules_as_csv():
     assert read("") == []
     for given, says in (("20.0,24.0\n", "row 1, column 1: '20.0' is no outflow; an outflow is a whole number of parts, thousandths of a vehicle"), ("1;2\n20,0;24,0\n", "row 2, column 1: '20,0'"),
                         ("20,0;24,0\n", "row 1, column 1: '20,0' is no outflow"),
-                        ("20,0,24,0\n", "row 1: 4 outflows; a row has 2: the gate's, then each cell's; where a comma is the decimal sign"), ("gate,1\nfoo,2\n", "row 2, column 1: 'foo'"),
+                        ("20,0,24,0\n", "row 1: 4 outflows; a row has 2: the gate's, then each cell's; if a comma is the decimal mark"), ("gate,1\nfoo,2\n", "row 2, column 1: 'foo'"),
                         ("step,gate,1\n1,1,2\n", "`step` is '1', where step 0 comes next"), ("1,2\n3,\n", "row 2, column 2: ''"), ("1,2\n3,²\n", "'²'"), ("0,1,2\n", "3 outflows"), ("-1,2\n", "'-1'"),
                         (f"1,{LONG}\n", "column 2"), ("1," + "x" * 140_000, "field larger than field limit"), ("1 2\n", "1 outflows"), ("step,gate,1\n0,1,2.5\n", "row 2, column 3: '2.5'")):
         assert says in fault(read, given), given

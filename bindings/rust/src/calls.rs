@@ -1,4 +1,4 @@
-//! The operations with lists of their own: what is wanted, or the refusal.
+//! The operations that allocate their own lists; each returns its result, or the refusal.
 use crate::lent;
 use crate::refused::Refused;
 use crate::types::{
@@ -6,7 +6,7 @@ use crate::types::{
     Tallied, Weights, BYTES, CELLS, STEPS,
 };
 
-/// A run without refusal, with its tables: one row a step, n + 1 numbers a row, gate first, all in parts.
+/// A run without refusal, with its tables: one row per step, n + 1 numbers per row, gate first, all in parts.
 #[derive(Clone, Debug, PartialEq, Eq)]
 pub struct Run {
     /// Totals, and the state after the last step.
@@ -19,13 +19,13 @@ pub struct Run {
     pub queue: Vec<u32>,
 }
 
-/// A list as long as a record's table of outflows; empty where the record is refused.
+/// A list as long as a record's table of outflows; empty if the record is refused.
 fn table(record: &[u8]) -> Vec<u32> {
     let reading = lent::read(record).value;
     vec![0; reading.steps as usize * (reading.road.n + 1)]
 }
 
-/// A run's end and outflows with the states that go with them.
+/// A run's end and outflows, with its states.
 fn with_states(
     record: &[u8],
     lanes: &[u8],
@@ -41,7 +41,7 @@ pub fn read(record: &[u8]) -> Result<Reading, Refused> {
     lent::read(record).into_result()
 }
 
-/// Reads a record for a caller that takes at most `cells` cells and `most` bytes. More of either is
+/// Reads a record for a caller that takes at most `cells` cells and `most` bytes. A larger one is refused with
 /// [`Refusal::CallerLimits`](crate::Refusal::CallerLimits), directly after [`Refusal::Size`](crate::Refusal::Size).
 ///
 /// ```
@@ -61,7 +61,7 @@ pub fn run(record: &[u8], lanes: &[u8]) -> Result<Run, Refused> {
     with_states(record, lanes, ended, outflow)
 }
 
-/// [`run`] with weights of waiting; gives the weighted total, in part-steps, too.
+/// [`run`] with weights of waiting; also gives the weighted total, in part-steps.
 pub fn run_weighted(record: &[u8], lanes: &[u8], weights: Weights) -> Result<(Run, u64), Refused> {
     let mut outflow = table(record);
     let weighed = lent::run_weighted(record, lanes, weights, &mut outflow).into_result()?;
@@ -116,8 +116,8 @@ pub fn fill_longest(record: &mut [u8], laws: &[Law], lanes: &[u8]) -> Result<Lon
     lent::fill_longest(record, laws, lanes, &mut outflow).into_result()
 }
 
-/// Runs the rows of a further record from a state; the record's own start is checked and then ignored. Where the state is the one after
-/// the rows before, the two runs are one. Gives the weighted total, in part-steps, and the longest queues, in parts, of this record's steps too.
+/// Runs the rows of a further record from a state; the record's own start is checked and then ignored. If the state is the one after
+/// the rows before, the two runs are one. Also gives the weighted total, in part-steps, and the longest queues, in parts, of this record's steps.
 ///
 /// ```
 /// use nobyaluk::{run, run_on, Weights};
@@ -169,7 +169,7 @@ pub fn history_on(
 }
 
 /// Fills a further record's releases by a law for each cell, from a state and the step before it, and runs it; after a refusal the record is unchanged.
-/// Gives the longest queues of this record's steps too, and what a record after it goes on from.
+/// Also gives the longest queues of this record's steps, and the progress from which the next record goes on.
 ///
 /// ```
 /// use nobyaluk::{fill, fill_on, read, Law, Progress};
@@ -194,12 +194,12 @@ pub fn fill_on(
     Ok((run, filled))
 }
 
-/// As many studies as the tables of arrivals are for; none where the record is refused.
+/// One study for each table of arrivals; none if the record is refused.
 fn studies(record: &[u8], arrivals: &[u32]) -> Vec<Study> {
     vec![Study::EMPTY; arrivals.len() / table(record).len().max(1)]
 }
 
-/// Runs a record with each of many tables of arrivals, of T rows of n + 1 numbers in parts a step, gate first: what [`run_longest`] gives of each. A
+/// Runs a record with each of many tables of arrivals, of T rows of n + 1 numbers in parts a step, gate first: what [`run_longest`] gives for each. A
 /// refused study has its refusal, and the others go on.
 ///
 /// ```
@@ -216,7 +216,7 @@ pub fn run_many(record: &[u8], lanes: &[u8], arrivals: &[u32]) -> Result<Vec<Stu
     Ok(studies)
 }
 
-/// [`run_many`] with releases filled by a law for each cell: what [`fill_longest`] gives of each study.
+/// [`run_many`] with releases filled by a law for each cell: what [`fill_longest`] gives for each study.
 pub fn fill_many(
     record: &[u8],
     laws: &[Law],
@@ -229,8 +229,8 @@ pub fn fill_many(
     Ok(studies)
 }
 
-/// The record's bytes of a road, T steps, a start and T rows of 1 + 2n numbers, in parts a step: gate arrivals, then each cell's ramp arrivals
-/// and release.
+/// The bytes of the record of a road, T steps, a start and T rows of 1 + 2n numbers, in parts a step: gate arrivals, then each cell's ramp
+/// arrivals and release.
 pub fn write(road: Road, steps: usize, start: Start, rows: &[u32]) -> Result<Vec<u8>, Refused> {
     let mut target = vec![0; BYTES];
     let written = lent::write(road, steps, start, rows, &mut target).into_result()?;
@@ -247,8 +247,8 @@ pub fn rows(record: &[u8]) -> Result<Vec<u32>, Refused> {
     Ok(list)
 }
 
-/// One row of any bytes, taken as a record of n cells, whether it reads or not; a number past their end is 0. None where n is
-/// above 64 or the step not below 1,440.
+/// One row of any bytes, taken as a record of n cells, whether it reads or not; a number past their end is 0. None if n is
+/// above 64 or the step is not below 1,440.
 pub fn row(record: &[u8], n: usize, step: usize) -> Option<Vec<u32>> {
     if n > CELLS || step >= STEPS {
         return None;
@@ -256,16 +256,16 @@ pub fn row(record: &[u8], n: usize, step: usize) -> Option<Vec<u32>> {
     Some(lent::row(record, n, step).numbers[..1 + 2 * n].to_vec())
 }
 
-/// A stated load: its arrivals, and the last number, from which a longer load goes on.
+/// A stated load: its arrivals, and the last number, from which a longer load continues.
 #[derive(Clone, Debug, PartialEq, Eq)]
 pub struct Load {
     /// In parts a step.
     pub arrivals: Vec<u32>,
-    /// The last number of the generator; the seed where no arrival was asked for.
+    /// The last number of the generator; the seed if no arrival was asked for.
     pub last: u32,
 }
 
-/// As many arrivals of a seed and a peak as asked for; peak and arrivals in parts a step.
+/// The first `count` arrivals of a seed and a peak; peak and arrivals in parts a step.
 ///
 /// ```
 /// use nobyaluk::load;
@@ -284,7 +284,7 @@ pub fn load(seed: u32, peak: u32, count: usize) -> Result<Load, Refused> {
     })
 }
 
-/// The releases that keep a ramp's queue at or below the ceiling, with the least running sum after every step; none where no table does it. Start and
+/// The releases that keep a ramp's queue at or below the ceiling, with the least running sum after every step; none if no table does. Start and
 /// ceiling in parts; rate, arrivals and releases in parts a step.
 ///
 /// ```
@@ -330,7 +330,7 @@ pub fn put(record: &mut [u8], step: usize, cell: usize, release: u32) -> Result<
 }
 
 /// Puts into a record the releases that keep the queue of a cell's ramp at or below the ceiling, as [`wanted`] gives them from the record's own start
-/// and arrivals, and gives them too, in parts a step. Where no table does it the answer is none; then, as after a refusal, the record is unchanged.
+/// and arrivals, and also returns them, in parts a step. If no table does, the answer is none; then, as after a refusal, the record is unchanged.
 /// The cell's supply is not considered: a run refuses a release above it.
 ///
 /// ```
@@ -349,7 +349,7 @@ pub fn put_wanted(
     rate: u32,
 ) -> Result<Option<Vec<u32>>, Refused> {
     let mut changed = record.to_vec();
-    put(&mut changed, 0, cell, 0)?; // refused where there is no such ramp
+    put(&mut changed, 0, cell, 0)?; // refused if there is no such ramp
     let start = read(record)?;
     let arrivals = rows(record)?;
     let arrivals = arrivals.chunks(1 + 2 * start.road.n);
@@ -365,7 +365,7 @@ pub fn put_wanted(
 }
 
 /// Two neighbouring roads as one record: upstream's cells, then downstream's, with an onward share for the joint, in thousandths.
-/// Downstream's gate, which must have neither queue nor arrivals, is dropped; all else is unchanged.
+/// Downstream's gate must have neither queue nor arrivals and is dropped; everything else is unchanged.
 ///
 /// ```
 /// let upstream = include_bytes!("../../../examples/rocade-sud-upstream.rec");
@@ -384,7 +384,7 @@ pub fn join(upstream: &[u8], downstream: &[u8], share: u16) -> Result<Vec<u8>, R
 }
 
 /// One step of any road and state by a row of 1 + 2n numbers, in parts: gate arrivals, then each cell's ramp arrivals and release. A refusal names
-/// its cell, and no step: the state has only how many are done.
+/// its cell and no step: the state only has the number of steps done.
 ///
 /// ```
 /// use nobyaluk::{read, rows, step, Lanes};

@@ -1,10 +1,10 @@
-//! The engine's operations on lent lists, as the boundary has them: each gives the engine's own [`Answer`], refused or not.
+//! The engine's operations on lent lists, as the boundary has them. Each gives the engine's own [`Answer`], refused or not.
 //!
-//! The lists are the caller's, so nothing is allocated. [`Answer::into_result`] makes a [`Result`] of an answer. After a broken rule of a step
+//! The lists are the caller's, so nothing is allocated. [`Answer::into_result`] turns an answer into a [`Result`]. After a broken rule of a step
 //! ([`Refusal::ReleaseAboveQueue`](crate::Refusal::ReleaseAboveQueue) and its like) the answer's `value` has the state before that step.
 //!
-//! Counts are in parts, thousandths of a vehicle; rates in parts a step; times in part-steps; shares in thousandths. A table of lanes has a
-//! byte a cell, each set bit a lane: a row of the lanes built, then a row a step of the lanes open; empty, all are open.
+//! Counts are in parts, thousandths of a vehicle; rates in parts a step; times in part-steps; shares in thousandths. A table of lanes has one
+//! byte per cell, each set bit a lane: a row of the lanes built, then one row per step of the lanes open. An empty table means all open.
 use crate::raw::call;
 use crate::refusal::Operation;
 use crate::refused::Answer;
@@ -18,20 +18,20 @@ pub fn read(record: &[u8]) -> Answer<Reading> {
     Answer::new(Operation::Read, call!(nobyaluk_read([record])))
 }
 
-/// Reads a record for a caller that takes at most `cells` cells and `most` bytes. More of either is
+/// Reads a record for a caller that takes at most `cells` cells and `most` bytes. A larger one is refused with
 /// [`Refusal::CallerLimits`](crate::Refusal::CallerLimits).
 pub fn read_within(record: &[u8], cells: usize, most: usize) -> Answer<Reading> {
     let value = call!(nobyaluk_read_within([record], cells, most));
     Answer::new(Operation::ReadWithin, value)
 }
 
-/// Runs a record. Writes a row of n + 1 outflows a step, gate first, to the front of `list`, which has room for T × (n + 1).
+/// Runs a record. Writes one row of n + 1 outflows per step, gate first, to the front of `list`, which needs room for T × (n + 1).
 pub fn run(record: &[u8], lanes: &[u8], list: &mut [u32]) -> Answer<Ended> {
     let value = call!(nobyaluk_run([record], [lanes], [mut list]));
     Answer::new(Operation::Run, value)
 }
 
-/// [`run`] with weights of waiting; gives the weighted total, in part-steps, too.
+/// [`run`] with weights of waiting; also gives the weighted total, in part-steps.
 ///
 /// ```
 /// use nobyaluk::{lent, Weights};
@@ -123,7 +123,7 @@ pub fn fill_kinds_longest(
     Answer::new(Operation::Fill, value)
 }
 
-/// Runs the rows of a further record from a state; the record's own start is checked and then ignored. Where the state is the one after
+/// Runs the rows of a further record from a state; the record's own start is checked and then ignored. If the state is the one after
 /// the rows before, the two runs are one. `list` takes the outflows as in [`run`], and a refused step is counted in this record.
 ///
 /// ```
@@ -157,7 +157,7 @@ pub fn judge_on(record: &[u8], lanes: &[u8], from: State, schedule: &[u32]) -> A
     Answer::new(Operation::JudgeOn, value)
 }
 
-/// Judges so, and writes the states as [`history`] does.
+/// [`judge_on`], which also writes the states as [`history`] does.
 pub fn history_on(
     record: &[u8],
     lanes: &[u8],
@@ -233,7 +233,7 @@ pub fn run_many_numbers(
     Answer::new(Operation::RunMany, value)
 }
 
-/// Fills the record so, by a law for each cell; study k is what [`fill_longest`] gives with table k.
+/// [`run_many`] with releases filled by a law for each cell; study k is what [`fill_longest`] gives with table k.
 pub fn fill_many(
     record: &mut [u8],
     laws: &[Law],
@@ -285,13 +285,13 @@ pub fn write(
 }
 
 /// Writes the rows of a record's first `steps` steps, for a road of n cells, and gives how many numbers they have. Never refused: 0, with nothing
-/// written, where the list is too short, n above 64 or `steps` above 1,440.
+/// written, if the list is too short, n is above 64 or `steps` is above 1,440.
 pub fn rows(record: &[u8], n: usize, steps: usize, list: &mut [u32]) -> usize {
     call!(nobyaluk_rows([record], n, steps, [mut list]))
 }
 
-/// The numbers of one row, of any bytes as a record of n cells. Never refused: 0 for each number that they do not hold, and all 0 where n is
-/// above 64 or the step not below 1,440. [`row`](crate::row) gives those of the n cells alone.
+/// The numbers of one row, from any bytes laid out as a record of n cells. Never refused: 0 for each number that they do not hold, and all 0 if n
+/// is above 64 or the step is not below 1,440. [`row`](crate::row) gives only those of the n cells.
 pub fn row(record: &[u8], n: usize, step: usize) -> Row {
     call!(nobyaluk_row([record], n, step))
 }
@@ -302,7 +302,7 @@ pub fn load(seed: u32, peak: u32, list: &mut [u32]) -> Answer<Loaded> {
     Answer::new(Operation::Load, value)
 }
 
-/// Fills a table with the releases that keep a ramp's queue at or below a ceiling, where any do: the least running sum after every step. Start and
+/// Fills a table with the releases that keep a ramp's queue at or below a ceiling, if any do, with the least running sum after every step. Start and
 /// ceiling in parts, rate and arrivals in parts a step.
 pub fn wanted(
     start: u32,
@@ -343,13 +343,13 @@ pub fn put(record: &mut [u8], step: usize, cell: usize, release: u32) -> Answer<
 }
 
 /// Joins two neighbouring roads' records, with an onward share for the joint, and writes the record to the front of `target`. A refusal of
-/// reading is the upstream record's, if it has one.
+/// reading is about the upstream record if that record has a fault.
 pub fn join(upstream: &[u8], downstream: &[u8], share: u16, target: &mut [u8]) -> Answer<Written> {
     let value = call!(nobyaluk_join([upstream], [downstream], share, [mut target]));
     Answer::new(Operation::Join, value)
 }
 
-/// One step of any road and state by a row of 1 + 2n numbers. A refusal names its cell, and no step: the state has only how many are done.
+/// One step of any road and state by a row of 1 + 2n numbers. A refusal names its cell and no step: the state only has the number of steps done.
 pub fn step(road: Road, state: State, row: &[u32], lanes: Lanes) -> Answer<Stepped> {
     let value = call!(nobyaluk_step(road, state, [row], lanes));
     Answer::new(Operation::Step, value)

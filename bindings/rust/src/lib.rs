@@ -2,12 +2,12 @@
 //!
 //! Counts are in parts, thousandths of a vehicle; rates in parts a step; times in part-steps; speeds, waves and shares in thousandths.
 //!
-//! Every call that can be refused returns a [`Result`]. Its error is a [`Refused`], which has the [`Refusal`], the step and the place, and whose
-//! text says all of it in words. No call panics, whatever it is given, as long as there is memory for the list that [`load`] is asked for.
+//! Every call that can be refused returns a [`Result`]. Its error is a [`Refused`] with the [`Refusal`], the step and the place; its
+//! message says all of it in words. No call panics, whatever it is given, as long as there is memory for the list that [`load`] is asked for.
 //!
 //! | operation | call |
 //! |---|---|
-//! | reading, for a caller with limits of its own | [`read`], [`read_within`] |
+//! | reading, for a caller with its own limits | [`read`], [`read_within`] |
 //! | running, with weights, with the longest queues | [`run`], [`run_weighted`], [`run_longest`] |
 //! | judging, with the states | [`judge`], [`history`] |
 //! | filling by meter laws, with the longest queues | [`fill`], [`fill_longest`] |

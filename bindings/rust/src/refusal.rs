@@ -169,7 +169,7 @@ pub(crate) const ROWS: [Row; 37] = [
     (R::Size, &[O::Read, O::ReadWithin, O::Run, O::Fill, O::Judge, O::History, O::Put, O::Join, O::RunMany, O::FillMany, O::RunOn, O::FillOn, O::JudgeOn, O::HistoryOn], Where::None,
         "a size other than 16 + 24n + T × (4 + 8n) bytes, in version 2 two more"),
     (R::Size, &[O::Write], Where::None,
-        "rows of other than T × (1 + 2n) numbers"),
+        "the rows do not have T × (1 + 2n) numbers"),
     (R::Limits, &[O::Read, O::ReadWithin, O::Run, O::Fill, O::Judge, O::History, O::Write, O::RunMany, O::FillMany, O::RunOn, O::FillOn, O::JudgeOn, O::HistoryOn], Where::Place,
         "the gate or a cell out of its limits, a ramp mark above 1, held above the jam count, a queue without a ramp, or a last share other than 0"),
     (R::Limits, &[O::Put], Where::Place,

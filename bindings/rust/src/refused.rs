@@ -7,7 +7,7 @@ use crate::types::{
 use std::fmt;
 
 impl Refusal {
-    /// The refusal with this number, from 1 on; [`Refusal::Unknown`] where none has it.
+    /// The refusal with this number, from 1 on; [`Refusal::Unknown`] if there is none.
     pub fn from_number(number: u64) -> Refusal {
         let index = usize::try_from(number).ok().and_then(|n| n.checked_sub(1));
         let named = index.and_then(|index| REFUSALS.get(index));
@@ -28,12 +28,12 @@ impl Refusal {
         }
     }
 
-    /// What was refused, in the words of an operation; in those of the first one that gives this refusal, if that operation never does.
+    /// What was refused, in the words of an operation. If that operation never gives this refusal, in the words of the first one that does.
     pub fn words(self, operation: Operation) -> &'static str {
         self.meaning(operation).1
     }
 
-    /// What its place is and its words, where an operation gives it.
+    /// The meaning of its place, and its words, if an operation gives it.
     fn meaning(self, operation: Operation) -> (Where, &'static str) {
         let rows = || ROWS.iter().filter(|row| row.0 == self);
         rows()
@@ -45,7 +45,7 @@ impl Refusal {
     }
 }
 
-/// A refused call: the refusal, where it is, and what was called. Its text is the same in all languages of the package.
+/// A refused call: the refusal, where it is, and what was called. Its message is the same in all programming languages.
 ///
 /// ```
 /// use nobyaluk::Refusal;
@@ -60,9 +60,9 @@ pub struct Refused {
     pub refusal: Refusal,
     /// What was called.
     pub operation: Operation,
-    /// The step that was refused, counted from 0; none where the answer has no step, as in stepping.
+    /// The step that was refused, counted from 0; none if the answer has no step, as in stepping.
     pub step: Option<u64>,
-    /// A cell counted from 1, the gate (0) or a step, as the refusal says; 0 where it names none.
+    /// A cell counted from 1, the gate (0) or a step, as the refusal says; 0 if it names none.
     pub place: u64,
 }
 
@@ -113,7 +113,7 @@ impl std::error::Error for Refused {}
 pub struct Answer<T> {
     /// What was called.
     pub operation: Operation,
-    /// What the engine answered. Its `number` is 0 where nothing was refused.
+    /// What the engine answered. Its `number` is 0 if nothing was refused.
     pub value: T,
 }
 
@@ -138,7 +138,7 @@ impl<T: Refusable> Answer<T> {
 
 /// Answers of the engine, each of which has the number of a refusal.
 pub trait Refusable: sealed::Sealed {
-    /// The refusal's number (0 for none), its step where the answer has one, and its place.
+    /// The refusal's number (0 for none), its step if the answer has one, and its place.
     fn fault(&self) -> (u64, Option<u64>, u64);
 }
 

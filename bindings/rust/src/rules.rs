@@ -1,4 +1,4 @@
-//! What is never refused: what a state holds, and the rules of one place, of any numbers.
+//! Calls that are never refused: what a state holds, and the rules of one place, for any numbers.
 //!
 //! Counts and flows are in parts, thousandths of a vehicle; times in part-steps; speeds, waves and shares in thousandths.
 use crate::raw::call;
@@ -48,13 +48,13 @@ pub fn exits(road: Road, state: State) -> u64 {
     call!(nobyaluk_exits(road, state))
 }
 
-/// A state's total time spent, in part-steps: gate, road and ramp time together; the greatest number of 64 bits where they pass it.
+/// A state's total time spent, in part-steps: gate, road and ramp time together; the greatest 64-bit number if the sum exceeds it.
 pub fn total(state: State) -> u64 {
     call!(nobyaluk_total(state))
 }
 
-/// A state's total in vehicle-seconds, with so many seconds a step, rounded down; the greatest number of 64 bits where that
-/// passes it.
+/// A state's total in vehicle-seconds, with these seconds per step, rounded down; the greatest 64-bit number if the total
+/// exceeds it.
 pub fn vehicle_seconds(seconds: u16, state: State) -> u64 {
     call!(nobyaluk_vehicle_seconds(seconds, state))
 }
@@ -74,7 +74,7 @@ pub fn supply(wave: u16, capacity: u32, jam: u32, held: u32) -> u32 {
     call!(nobyaluk_supply(wave, capacity, jam, held))
 }
 
-/// What a release leaves of a cell's supply for those from upstream, in parts: 0 where it is above the supply.
+/// What a release leaves of a cell's supply for traffic from upstream, in parts: 0 if it is above the supply.
 pub fn room(supply: u32, release: u32) -> u32 {
     call!(nobyaluk_room(supply, release))
 }
@@ -114,7 +114,7 @@ pub fn open_capacity(capacity: u32, built: u8, usable: u8) -> u32 {
     call!(nobyaluk_open_capacity(capacity, built, usable))
 }
 
-/// What a law wishes to release, in parts, after the last step's release and its entry from upstream, with so much held.
+/// What a law wishes to release, in parts, given the last step's release, its entry from upstream and what the cell holds.
 pub fn wish(law: Law, last: u32, entered: u32, held: u32) -> f64 {
     let (kind, numbers) = law.flat();
     wish_of_kind(kind, numbers, last, entered, held)

@@ -1,6 +1,6 @@
 //! Structs of the boundary, as bindings/c/nobyaluk.h has them, and its limits.
 
-/// Of the structs and arguments below; [`version`](crate::version) gives the linked library's.
+/// The version of the structs and arguments below; [`version`](crate::version) gives the linked library's.
 pub const VERSION: u32 = 1;
 /// The most cells of a road.
 pub const CELLS: usize = 64;
@@ -31,7 +31,7 @@ pub struct Road {
     pub wave: [u16; CELLS],
     /// The share of the outflow that enters the next cell, in thousandths.
     pub share: [u16; CELLS],
-    /// 1 where the cell has an on-ramp, 0 otherwise.
+    /// 1 if the cell has an on-ramp, 0 otherwise.
     pub ramp: [u16; CELLS],
     /// The most that a cell can hold, in parts.
     pub jam: [u32; CELLS],
@@ -63,7 +63,7 @@ pub struct State {
     pub cumulative: [u32; CELLS],
 }
 
-/// What a study starts from.
+/// The start of a study.
 #[repr(C)]
 #[derive(Clone, Copy, Debug, PartialEq, Eq)]
 pub struct Start {
@@ -85,7 +85,7 @@ pub struct Lanes {
     pub usable: [u8; CELLS],
 }
 
-/// Weights of waiting, 0 to 255: of the gate and each cell, gate first, and of each ramp's queue. None is read past cell n.
+/// Weights of waiting, 0 to 255: of the gate and each cell, gate first, and of each ramp's queue. Weights past cell n are not read.
 #[repr(C)]
 #[derive(Clone, Copy, Debug, PartialEq, Eq)]
 pub struct Weights {
@@ -95,7 +95,7 @@ pub struct Weights {
     pub ramps: [u8; CELLS],
 }
 
-/// What reading answers; number 0 without a refusal.
+/// The answer of reading; its number is 0 without a refusal.
 #[repr(C)]
 #[derive(Clone, Copy, Debug, PartialEq, Eq)]
 pub struct Reading {
@@ -111,7 +111,7 @@ pub struct Reading {
     pub state: State,
 }
 
-/// What running, filling, judging and history answer; number 0 without a refusal.
+/// The answer of running, filling, judging and history; its number is 0 without a refusal.
 #[repr(C)]
 #[derive(Clone, Copy, Debug, PartialEq, Eq)]
 pub struct Ended {
@@ -133,7 +133,7 @@ pub struct Ended {
     pub state: State,
 }
 
-/// What a weighted run answers: running's answer, and the weighted sum of present over the steps done.
+/// The answer of a weighted run: running's answer, and the weighted sum of present over the steps done.
 #[repr(C)]
 #[derive(Clone, Copy, Debug, PartialEq, Eq)]
 pub struct Weighed {
@@ -143,9 +143,9 @@ pub struct Weighed {
     pub ended: Ended,
 }
 
-/// What running and filling answer with the longest queues, after any step done: of the gate; of the gate without the step's
+/// The answer of running and filling with the longest queues after any step done: of the gate; of the gate without the step's
 /// arrivals, the most that were there before a step and did not leave in it; and of each cell's on-ramp, 0 past cell n. All are 0
-/// where no step was done, and the queues of the start do not count.
+/// if no step was done, and the queues of the start do not count.
 #[repr(C)]
 #[derive(Clone, Copy, Debug, PartialEq, Eq)]
 pub struct Longest {
@@ -159,7 +159,7 @@ pub struct Longest {
     pub ended: Ended,
 }
 
-/// What running answers that goes on from a state. The weighted total and the longest queues are those of the record's own steps.
+/// The answer of running that goes on from a state. The weighted total and the longest queues are those of the record's own steps.
 #[repr(C)]
 #[derive(Clone, Copy, Debug, PartialEq, Eq)]
 pub struct Tallied {
@@ -169,8 +169,8 @@ pub struct Tallied {
     pub longest: Longest,
 }
 
-/// What filling goes on from: a state and the step before it. [`Progress::start`] is that of a study's start, [`Filled::progress`] that of a further
-/// record.
+/// The progress from which filling goes on: a state and the step before it. [`Progress::start`] is for a study's start, [`Filled::progress`] for a
+/// further record.
 #[repr(C)]
 #[derive(Clone, Copy, Debug, PartialEq, Eq)]
 pub struct Progress {
@@ -182,7 +182,7 @@ pub struct Progress {
     pub entries: [u32; CELLS],
 }
 
-/// What filling answers that goes on: the longest queues of the record's own steps with the answer, and the last step's releases and entries, which are
+/// The answer of filling that goes on: the longest queues of the record's own steps, the answer, and the last step's releases and entries, which are
 /// 0 after a refusal.
 #[repr(C)]
 #[derive(Clone, Copy, Debug, PartialEq, Eq)]
@@ -196,7 +196,7 @@ pub struct Filled {
 }
 
 impl Progress {
-    /// No step was before the state.
+    /// The progress of a start: there was no step before.
     pub const fn start(state: State) -> Self {
         Self {
             state,
@@ -207,7 +207,7 @@ impl Progress {
 }
 
 impl Filled {
-    /// What a further record goes on from.
+    /// The progress from which a further record goes on.
     pub const fn progress(&self) -> Progress {
         Progress {
             state: self.longest.ended.state,
@@ -268,7 +268,7 @@ impl Study {
     }
 }
 
-/// What many studies answer as a whole; each study's own refusal is in its [`Study`].
+/// The answer of the whole call with many studies; each study's own refusal is in its [`Study`].
 #[repr(C)]
 #[derive(Clone, Copy, Debug, PartialEq, Eq)]
 pub struct Many {
@@ -278,7 +278,7 @@ pub struct Many {
     pub place: u64,
 }
 
-/// What stepping answers; after a refusal the state is the one given.
+/// The answer of stepping; after a refusal the state is the one given.
 #[repr(C)]
 #[derive(Clone, Copy, Debug, PartialEq, Eq)]
 pub struct Stepped {
@@ -290,7 +290,7 @@ pub struct Stepped {
     pub state: State,
 }
 
-/// What writing and joining answer; after a refusal the count of bytes is 0.
+/// The answer of writing and joining; after a refusal the count of bytes is 0.
 #[repr(C)]
 #[derive(Clone, Copy, Debug, PartialEq, Eq)]
 pub struct Written {
@@ -302,7 +302,7 @@ pub struct Written {
     pub count: u64,
 }
 
-/// What loading answers: the last number, the seed after a refusal or for an empty list.
+/// The answer of loading: the last number, or the seed after a refusal or for an empty list.
 #[repr(C)]
 #[derive(Clone, Copy, Debug, PartialEq, Eq)]
 pub struct Loaded {
@@ -312,17 +312,17 @@ pub struct Loaded {
     pub last: u64,
 }
 
-/// What the search for releases answers.
+/// The answer of the search for releases.
 #[repr(C)]
 #[derive(Clone, Copy, Debug, PartialEq, Eq)]
 pub struct Wanted {
     /// The refusal's number, 0 without one.
     pub number: u64,
-    /// 1 where a table keeps the queue, 0 otherwise.
+    /// 1 if a table keeps the queue, 0 otherwise.
     pub found: u64,
 }
 
-/// What putting a release answers.
+/// The answer of putting a release.
 #[repr(C)]
 #[derive(Clone, Copy, Debug, PartialEq, Eq)]
 pub struct Released {
@@ -340,7 +340,7 @@ pub struct Row {
     pub numbers: [u32; 1 + 2 * CELLS],
 }
 
-/// What granting answers.
+/// The answer of granting.
 #[repr(transparent)]
 #[derive(Clone, Copy, Debug, PartialEq, Eq)]
 pub struct Granted {
@@ -378,7 +378,7 @@ impl State {
         cumulative: [0; CELLS],
     };
 
-    /// What a study starts from that begins in this state.
+    /// The start of a study that begins in this state.
     pub fn start(&self) -> Start {
         Start {
             gate_queue: self.gate_queue,
@@ -413,7 +413,7 @@ impl Weights {
     };
 }
 
-/// A meter law. In the boundary it is a kind and three numbers, those it doesn't use 0.
+/// A meter law. In the boundary it is a kind and three numbers; numbers that it does not use are 0.
 #[derive(Clone, Copy, Debug, PartialEq)]
 pub enum Law {
     /// The same wish in every step.

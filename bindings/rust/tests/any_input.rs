@@ -1,4 +1,4 @@
-//! Calls with lists of their own on any input: they answer, and after a refusal the record is as it was.
+//! Calls that allocate their own lists, on any input: they answer, and after a refusal the record is unchanged.
 use nobyaluk::{
     at_ramps, entering, exits, fill, fill_longest, gate_demand, grant, history, join, judge, lent,
     load, on_road, onward, outflow, outflow_by_halves, present, put, put_wanted, read, room, row,
@@ -96,7 +96,7 @@ fn every_record_is_answered() {
     assert!(accepted > 20 && refused > 20, "{accepted} and {refused}");
 }
 
-/// Two records that both read join where T, version and seconds agree and the second gate is idle; all others are refused.
+/// Two records that both read are joined if T, version and seconds agree and the second gate is idle; all others are refused.
 #[test]
 fn every_pair_of_records_is_answered() {
     let records = records();

@@ -1,4 +1,4 @@
-//! Every example through the safe calls. `trials/` holds the same calls to the reference.
+//! Every example through the safe calls. `trials/` compares the same calls with the reference.
 use nobyaluk::{join, judge, lent, put_wanted, run, version, Refusal, Run, VERSION};
 use std::collections::BTreeMap;
 use std::fs;
@@ -47,7 +47,7 @@ fn a_refused_example_is_named_by_its_number() {
     }
 }
 
-/// What examples/rocade-sud-ceiling.md says: made anew from the ALINEA record by wanted and put, none one part lower.
+/// What examples/rocade-sud-ceiling.md says: made again from the ALINEA record by wanted and put; there is none one part lower.
 #[test]
 fn a_town_s_ceiling_on_rocade_sud() {
     let records: BTreeMap<String, Vec<u8>> = examples().into_iter().collect();

@@ -151,7 +151,7 @@ fn roads_that_do_not_join() {
     assert_eq!(verdict(&up, &most, 0, 0), (Refusal::JoinedSize, 0));
 }
 
-/// Kinds from 3 on are fixed rates; numbers that a law doesn't use may be anything; past the ends of both lists stands rate 0.
+/// Kinds from 3 on are fixed rates; numbers that a law doesn't use may be anything; past the ends of both lists the rate is 0.
 #[test]
 fn kinds_of_laws() {
     let old = printed_run();

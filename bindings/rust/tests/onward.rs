@@ -217,7 +217,7 @@ fn a_refused_step_is_counted_in_its_record() {
     );
 }
 
-/// What a filling was refused by; then releases and entries are 0 and the lists as they were.
+/// The refusal of a filling; then releases and entries are 0 and the lists are unchanged.
 fn refused_filling(record: &[u8], from: Progress, list: &mut [u32]) -> Refusal {
     let (mut lent, given) = (record.to_vec(), list.to_vec());
     let answer = lent::fill_on(&mut lent, &[law(0), law(1)], &[], from, list);

@@ -1,4 +1,4 @@
-//! Records told as text, and back.
+//! Records written as text, and back.
 
 use crate::support::*;
 use reference::as_text::text_of;
@@ -6,8 +6,8 @@ use reference::draft::Draft;
 use reference::record::read;
 use trials::compare;
 
-/// Makes a record, tells it, and gives the text without its comments.
-fn told(record: &[u8]) -> String {
+/// Makes a record, writes it as text, and gives the text without its comments.
+fn text_form(record: &[u8]) -> String {
     let text = text_of(record).unwrap_or_else(|reason| panic!("{reason}"));
     assert_eq!(record_of(&text), record, "{text}");
     without_comments(&text)
@@ -46,7 +46,7 @@ fn canonical_texts_come_back() {
          damage length 9\ndamage version 2\ndamage cells 3\ndamage steps 4\n",
     ];
     for text in texts {
-        assert_eq!(told(&record_of(text)), text);
+        assert_eq!(text_form(&record_of(text)), text);
     }
 }
 
@@ -55,7 +55,7 @@ fn records_come_back_or_a_reason_is_given() {
     for compare::Named { name, record } in compare::records() {
         match text_of(&record) {
             Ok(text) => assert_eq!(record_of(&text), record, "{name}"),
-            // Its frame is refused: a text can tell every record of a right size.
+            // Its frame is refused: every record of a right size has a text.
             Err(_) => assert!([1, 2, 3, 4, 19].contains(&read(&record).number), "{name}"),
         }
     }
@@ -88,6 +88,6 @@ fn cuts_between_cells_and_numbers_are_told() {
     for count in [16, 40, 64, 68, 84, 120] {
         let mut draft = example_draft();
         draft.cut = 124 - count;
-        told(&draft.encode());
+        text_form(&draft.encode());
     }
 }

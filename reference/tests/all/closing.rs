@@ -228,7 +228,7 @@ fn a_table_as_text() {
         ),
         ("cells 0", "line 1: the cells: 0 is less than 1"),
         ("cells 65", "line 1: the cells: 65 is more than 64"),
-        ("cells 2\ncells 2", "line 2: 'cells' can't stand here"),
+        ("cells 2\ncells 2", "line 2: 'cells' is not allowed here"),
         ("cells 2\nbuilt 9", "line 2: the lanes: 9 is more than 8"),
         (
             "cells 2\nbuilt 1 cell 3",

@@ -1,4 +1,4 @@
-//! The records on which a program is compared, and what is said of it.
+//! The records on which a program is compared, and the messages.
 
 use reference::print::{printed_run, printed_within};
 use reference::record::{read, Caller};

@@ -334,7 +334,11 @@ fn texts_make_the_records_and_come_back() {
         let text = text_in(&format!("{name}.txt"));
         let record = bytes_of(&format!("{name}.rec"));
         assert_eq!(record_of(&text), record, "{name}");
-        let told = text_of(&record).unwrap();
-        assert_eq!(without_comments(&told), without_comments(&text), "{name}");
+        let written = text_of(&record).unwrap();
+        assert_eq!(
+            without_comments(&written),
+            without_comments(&text),
+            "{name}"
+        );
     }
 }

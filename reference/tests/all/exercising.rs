@@ -107,7 +107,7 @@ fn greater_limits_change_nothing() {
     }
 }
 
-/// What is taken reads as ever; what isn't is 26 unless 1, 2, 3, 19 or 4 comes before.
+/// A record within the limits is read as without them; a larger one is refused with 26 unless 1, 2, 3, 19 or 4 applies.
 #[test]
 fn other_limits_refuse_or_change_nothing() {
     let mut seen = [0; 3];
@@ -165,7 +165,7 @@ fn reading_within_refuses_in_order() {
 }
 
 /// An exercise prints the same lines, or its refusal alone. Refusals of the run are
-/// printed as ever.
+/// printed as before.
 #[test]
 fn an_exercise_prints_what_the_full_program_prints() {
     let printed = |record: &[u8]| printed_within(record, Caller::EXERCISE);

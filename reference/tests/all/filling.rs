@@ -224,7 +224,7 @@ fn a_filled_record_run_again_gives_the_same() {
         for (at, (new, old)) in record.iter().zip(&input.record).enumerate() {
             assert!(new == old || in_release(&answer.road, at));
         }
-        // The releases that stood there before don't matter.
+        // The releases that were there before don't matter.
         let mut twice = record.clone();
         let mut list = vec![LENT; input.length];
         fill_under(&mut twice, &input.laws(), &input.lanes, &mut list);

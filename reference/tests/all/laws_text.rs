@@ -26,7 +26,7 @@ fn each_law_by_its_numbers() {
 #[test]
 fn faults_are_named_with_their_line() {
     for (text, wanted) in [
-        ("cell 1", "line 1: 'ramp' should stand here, not 'cell'"),
+        ("cell 1", "line 1: 'ramp' is expected here, not 'cell'"),
         (
             "\nramp 65 fixed 1",
             "line 2: the ramp's cell: 65 is more than 64",
@@ -34,7 +34,7 @@ fn faults_are_named_with_their_line() {
         ("ramp 0 fixed 1", "line 1: there is no cell 0, only 1 to 64"),
         (
             "ramp 1 fixed 1\nramp 1 fixed 1",
-            "line 2: ramp 1 stands twice",
+            "line 2: ramp 1 is given twice",
         ),
         ("ramp 1 open", "line 1: unknown law 'open'"),
         (
@@ -48,7 +48,7 @@ fn faults_are_named_with_their_line() {
         ),
         (
             "ramp 1 alinea target 1",
-            "line 1: 'gain' should stand here, not 'target'",
+            "line 1: 'gain' is expected here, not 'target'",
         ),
     ] {
         assert_eq!(laws_of(text).unwrap_err().to_string(), wanted);

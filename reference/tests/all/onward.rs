@@ -509,7 +509,7 @@ fn a_state_at_its_limits_passes_and_one_more_is_seven() {
                 assert_eq!(numbers_of(&longer, spoilt), [7; 4], "{k}");
             }
         }
-        // Numbers past cell n are neither looked at nor changed.
+        // Numbers past cell n are neither tested nor changed.
         let mut past = state;
         (past.held[3], past.queue[63], past.f[40]) = (u32::MAX, u32::MAX, u32::MAX);
         assert_eq!(numbers_of(&draft, past), [0; 4]);

@@ -51,8 +51,8 @@ fn a_text_into_a_record_file_and_back() {
     let record = fs::read(folder.0.join("road.rec")).unwrap();
     assert_eq!(record, record_of(EXAMPLE));
     assert_eq!(folder.reference(&["record", "road.txt"]).stdout, record);
-    let told = folder.reference(&["text", "road.rec", "again.txt"]);
-    assert!(told.status.success());
+    let output = folder.reference(&["text", "road.rec", "again.txt"]);
+    assert!(output.status.success());
     let text = fs::read_to_string(folder.0.join("again.txt")).unwrap();
     assert_eq!(record_of(&text), record);
 }
@@ -66,9 +66,9 @@ fn after_an_error_there_is_no_output_file() {
     assert_eq!(made.status.code(), Some(1));
     let wanted = "reference: road.txt: line 2: unknown statement 'lane'\n";
     assert_eq!(said(&made), wanted);
-    let told = folder.reference(&["text", "short.rec", "short.txt"]);
-    assert_eq!(told.status.code(), Some(1));
-    assert!(said(&told).starts_with("reference: short.rec: a record of 7 bytes"));
+    let output = folder.reference(&["text", "short.rec", "short.txt"]);
+    assert_eq!(output.status.code(), Some(1));
+    assert!(said(&output).starts_with("reference: short.rec: a record of 7 bytes"));
     let none = folder.reference(&["record", "none.txt", "none.rec"]);
     assert!(said(&none).starts_with("reference: none.txt: "));
     for name in ["road.rec", "short.txt", "none.rec"] {
@@ -179,9 +179,9 @@ fn input_is_read_up_to_a_bound() {
         said(&made),
         "reference: long.txt: more than 1048576 bytes\n"
     );
-    let told = folder.reference(&["text", "/dev/zero"]);
+    let output = folder.reference(&["text", "/dev/zero"]);
     let wanted = "reference: /dev/zero: a record has at most 65536 bytes\n";
-    assert_eq!(said(&told), wanted);
+    assert_eq!(said(&output), wanted);
     folder.file("lanes.txt", b"cells 2\nsteps 3\nbuilt 2\n");
     let run = folder.reference(&["run", "/dev/zero", "lanes.txt"]);
     assert_eq!(run.stdout, b"refused 1 0 0\n");

@@ -199,7 +199,7 @@ fn refusal_6() {
     for k in [1, 2] {
         assert_eq!(with(|d| d.rows[1][k] = 1), (6, 1));
     }
-    // The first step is named; its number stands in the place.
+    // The first step is named; its number is the place.
     assert_eq!(
         with(|d| (d.rows[2][0], d.rows[0][1]) = (u32::MAX, 7)),
         (6, 0)

@@ -11,7 +11,7 @@ fn listed(bytes: &[u8], n: usize, steps: usize, length: usize) -> (usize, Vec<u3
     (count, list)
 }
 
-/// The count is 0 and the list is as it was lent.
+/// The count is 0 and the list is unchanged.
 fn nothing(bytes: &[u8], n: usize, steps: usize, length: usize) {
     let wanted = (0, vec![LENT; length]);
     assert!(listed(bytes, n, steps, length) == wanted, "{n} {steps}");

@@ -7,7 +7,7 @@ use reference::record::{read, row};
 use reference::street::grant;
 use trials::cases::dice::Dice;
 
-/// The grants; none after refusal 24, which leaves the list as lent.
+/// The grants; none after refusal 24, which leaves the list unchanged.
 fn granted(limit: u32, guarantees: &[u32], wishes: &[u32], length: usize) -> Option<Vec<u32>> {
     let mut grants = vec![LENT; length];
     match grant(limit, guarantees, wishes, &mut grants) {
@@ -135,7 +135,7 @@ fn answer(record: &[u8], step: usize, cell: usize, release: u32) -> (u32, usize)
 }
 
 /// The rows start at byte 64, each of 20 bytes; the second cell's release is the fifth
-/// number: in step 1 bytes 100 to 103. In version 2 all stands two bytes later.
+/// number: in step 1 bytes 100 to 103. In version 2 everything comes two bytes later.
 #[test]
 fn one_number_changes() {
     for (draft, at) in [(example_draft(), 100), (example_draft().timed(60), 102)] {

@@ -1,4 +1,4 @@
-//! The text form: what it encodes, and what it says of faulty lines.
+//! The text form: what it encodes, and its messages for faulty lines.
 
 use crate::support::*;
 use reference::print::printed_run;
@@ -107,11 +107,11 @@ fn numbers_past_the_limits_are_kept_where_that_is_meant() {
 /// Lines 1 to 3 of a sound text without its row.
 const HEAD: &str = "steps 1\ngate capacity 1\ncell v 1 w 1 b 0 jam 1 capacity 1\n";
 
-/// What follows the head, and what is said of it.
+/// What follows the head, and its message.
 const FAULTY: [(&str, &str); 48] = [
     ("lane 3", "line 4: unknown statement 'lane'"),
-    ("row\nsteps 1", "line 5: 'steps' stands twice"),
-    ("gate capacity 1", "line 4: 'gate' stands twice"),
+    ("row\nsteps 1", "line 5: 'steps' is given twice"),
+    ("gate capacity 1", "line 4: 'gate' is given twice"),
     ("row gate", "line 4: gate is missing at the end of the line"),
     (
         "row gate x",
@@ -136,7 +136,7 @@ const FAULTY: [(&str, &str); 48] = [
     ),
     (
         "row gate 1 gate 2",
-        "line 4: 'gate' stands twice for the same place",
+        "line 4: 'gate' is given twice for the same place",
     ),
     (
         "row 1 gate",
@@ -144,7 +144,7 @@ const FAULTY: [(&str, &str); 48] = [
          in thousandths of a vehicle, not 'gate'",
     ),
     ("cell v 1", "line 4: 'w' is missing"),
-    ("cell v 1 v 1", "line 4: 'v' stands twice"),
+    ("cell v 1 v 1", "line 4: 'v' is given twice"),
     ("cell speed 1", "line 4: unknown keyword 'speed'"),
     ("cell v 1001", "line 4: v: 1001 is more than 1000"),
     (
@@ -180,15 +180,15 @@ const FAULTY: [(&str, &str); 48] = [
     ("repeat 1441 row", "line 4: a record has at most 1440 steps"),
     (
         "refused 5",
-        "line 4: 'refused' stands before all other statements",
+        "line 4: 'refused' must come before all other statements",
     ),
-    ("row\ncell v 1", "line 5: cells stand before the rows"),
+    ("row\ncell v 1", "line 5: cells must come before the rows"),
     ("repeat 2 steps 3", "line 4: 'steps' can't be repeated"),
     ("damage road 3", "line 4: unknown damage 'road'"),
     ("version 3", "line 4: version: 3 is more than 2"),
     ("version 0", "line 4: there is no version 0, only 1 and 2"),
-    ("version 1\nversion 1", "line 5: 'version' stands twice"),
-    ("seconds 1\nseconds 1", "line 5: 'seconds' stands twice"),
+    ("version 1\nversion 1", "line 5: 'version' is given twice"),
+    ("seconds 1\nseconds 1", "line 5: 'seconds' is given twice"),
     ("seconds 901", "line 4: seconds: 901 is more than 900"),
     ("seconds 0", "line 4: seconds: 0 is less than 1"),
     ("seconds 20\nrow", "line 4: only version 2 has seconds"),

@@ -1,4 +1,4 @@
-//! Version 2: a step's seconds, where they stand, and refusal 19.
+//! Version 2: a step's seconds, their place, and refusal 19.
 
 use crate::support::*;
 use reference::draft::Draft;

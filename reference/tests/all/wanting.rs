@@ -24,7 +24,7 @@ fn lent(numbers: [u32; 3], arrivals: &[u32], length: usize) -> (Wanted, Vec<u32>
     (answer, table)
 }
 
-/// The releases wanted by start, ceiling and rate, if any; else the table is as lent.
+/// The releases wanted by start, ceiling and rate, if any; else the table is unchanged.
 fn releases(numbers: [u32; 3], arrivals: &[u32]) -> Option<Vec<u32>> {
     let (answer, table) = lent(numbers, arrivals, arrivals.len());
     match answer {
@@ -46,7 +46,7 @@ fn refused(numbers: [u32; 3], arrivals: &[u32], length: usize) -> bool {
     true
 }
 
-/// 3, 6, 15 and 15 have come. 0, 1, 10 and 10 stand above the ceiling of 5. Of the 10
+/// 3, 6, 15 and 15 have arrived. 0, 1, 10 and 10 are above the ceiling of 5. Of the 10
 /// gone after step 2, 4 go in step 2, so 6 after step 1 and 2 after step 0. Releasing as
 /// late as the ceiling allows, 0 and 1, would leave 10 after step 2.
 #[test]
@@ -166,7 +166,7 @@ fn the_search_finds_what_is_worked_out_of_random_numbers() {
     assert!(found > 300 && none > 300, "{found} {none}");
 }
 
-/// A large table obeys, and none of those that obey beside it has a smaller sum
+/// A large table obeys, and no other table that obeys has a smaller sum
 /// anywhere. Where there is none, no table that releases all it can obeys.
 #[test]
 fn large_tables_obey_and_are_the_least() {
@@ -228,7 +228,7 @@ fn between(least: &[u32], greatest: &[u32], dice: &mut Dice) -> Vec<u32> {
 }
 
 /// A ramp with that start queue and these arrivals releases what was found: running
-/// never says 9. Where supply suffices it says nothing.
+/// never refuses it with 9. If supply suffices, running does not refuse it.
 #[test]
 fn running_takes_the_releases_found() {
     let mut dice = Dice::new(26);

@@ -381,7 +381,7 @@ struct Compared {
 }
 
 impl Compared {
-    /// A road that runs, beside one that is raised.
+    /// A road that runs, compared with one that is raised.
     fn compare(&mut self, record: &[u8], lanes: &[u8], dice: &mut Dice) {
         let reading = read(record);
         let mut rows = vec![0; reading.steps * (reading.road.n + 1)];

@@ -119,7 +119,7 @@ fn refusal_1_of_writing_is_for_records_that_are_too_long() {
         (wide(124), wide(125), wide(1_440)),
         ((0, 0), (1, 0), (1, 0))
     );
-    // Before 4: the rows aren't looked at.
+    // Before 4: the rows aren't read.
     assert_eq!(with(|x| (x.road.n, x.steps) = (64, 125)), (1, 0));
     assert_eq!(with(|x| (x.road.n, x.steps) = (64, 124)), (4, 0));
 }

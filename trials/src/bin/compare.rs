@@ -1,10 +1,10 @@
-//! A program held to what the reference prints, on the named records and on the trials' own.
+//! Compares a program's output with the reference's, on the named records and on the trials' own.
 //!
 //!     compare PROGRAM RECORD...              of the full program
 //!     compare --exercise PROGRAM RECORD...   of the exercise program
 //!     compare --write DIR                    those records of the trials, with what the reference prints
 //!
-//! Exit status: 0; 1 where they differ or a file can't be read; 2 for a wrong call.
+//! Exit status: 0; 1 if they differ or a file can't be read; 2 for a wrong call.
 
 #![forbid(unsafe_code)]
 
@@ -58,7 +58,7 @@ fn beside(program: &str, caller: Caller, files: &[&str]) -> Result<(), String> {
     Ok(())
 }
 
-/// A record, or as much of it as shows that it is too long.
+/// A record, or enough of it to show that it is too long.
 fn read(name: &str) -> std::io::Result<Vec<u8>> {
     let mut bytes = Vec::new();
     let most = Road::MAX_BYTES as u64 + 1;

@@ -1,7 +1,7 @@
 //! The proved engine goes on, and runs many studies.
 
 use super::{ended, flat, longest, refusal, state_for, weights_for, Engine};
-use crate::freeway::{Ended, Laws, Told};
+use crate::freeway::{Ended, HistoryArguments, Laws};
 use crate::onward::{FilledOn, Onward, RanOn, Studies};
 use nobyaluk::{lent, Many};
 use reference::fill::Last;
@@ -63,13 +63,13 @@ impl Onward for Engine {
         ended(lent::judge_on(record, lanes, state_for(from), schedule).value)
     }
 
-    fn history_on(&self, record: &[u8], from: State, told: Told) -> Ended {
-        let Told {
+    fn history_on(&self, record: &[u8], from: State, arguments: HistoryArguments) -> Ended {
+        let HistoryArguments {
             lanes,
             schedule,
             held,
             queue,
-        } = told;
+        } = arguments;
         ended(lent::history_on(record, lanes, state_for(from), schedule, held, queue).value)
     }
 

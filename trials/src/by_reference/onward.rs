@@ -1,7 +1,7 @@
 //! The second implementation goes on, and runs many studies.
 
 use super::{ended, Reference};
-use crate::freeway::{Ended, Laws, Told};
+use crate::freeway::{Ended, HistoryArguments, Laws};
 use crate::onward::{FilledOn, Onward, RanOn, Studies};
 use reference::many;
 use reference::model::State;
@@ -54,13 +54,13 @@ impl Onward for Reference {
         ended(onward::judge_on(record, lanes, from, schedule))
     }
 
-    fn history_on(&self, record: &[u8], from: State, told: Told) -> Ended {
-        let Told {
+    fn history_on(&self, record: &[u8], from: State, arguments: HistoryArguments) -> Ended {
+        let HistoryArguments {
             lanes,
             schedule,
             held,
             queue,
-        } = told;
+        } = arguments;
         let lists = Lists { held, queue };
         ended(onward::history_on(record, lanes, from, schedule, lists))
     }

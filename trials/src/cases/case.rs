@@ -1,5 +1,5 @@
-//! A case: what one operation is asked. Lists and targets are lent by the one who
-//! asks; a case says how long they are.
+//! A case: the arguments of one operation. The caller lends lists and targets; a case
+//! says how long they are.
 
 use super::batches::Batch;
 use super::joins::JoinInput;
@@ -96,7 +96,7 @@ pub struct WriteInput {
     pub length: usize,
 }
 
-/// A law as a frame has it. Bits compare, also those of no number.
+/// A law as a frame has it. Its bits are compared, also those of a NaN.
 #[derive(Clone, Copy, Debug, Default, PartialEq, Eq)]
 pub struct LawInput {
     pub kind: u32,

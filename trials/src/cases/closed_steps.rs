@@ -69,11 +69,11 @@ const FAULTS: [Change; 14] = [
     |x| (x.built[0], x.open[2]) = (0, 3),
     |x| (x.open[1], x.built[2]) = (2, 0),
     |x| (x.built, x.open) = ([0; 64], [255; 64]),
-    // Sound up to cell 3, whatever stands past it.
+    // Sound up to cell 3, whatever comes after it.
     |x| (x.built[3..].fill(0), x.open[3..].fill(255)).1,
 ];
 
-/// 18 beside 7, 8, 9 and 10.
+/// 18 together with 7, 8, 9 and 10.
 const BESIDE: [Change; 12] = [
     |x| (x.built[1], x.row[0]) = (0, 1_000_001),
     |x| (x.open[1], x.road.v[2]) = (2, 1_001),

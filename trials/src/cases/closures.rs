@@ -95,7 +95,7 @@ fn faults(cases: &mut Cases) {
 
 type Change = fn(&mut Draft);
 
-/// 17 and 18 beside 1 to 6, 16, 11 and 12.
+/// 17 and 18 together with 1 to 6, 16, 11 and 12.
 fn several(cases: &mut Cases) {
     let changes: [Change; 7] = [
         |_| (),

@@ -56,7 +56,7 @@ fn printed_steps(cases: &mut Cases) {
 }
 
 /// v 500, C 2000 with held 2566 and 2567; v 1000 with held 2001; w 250,
-/// J 8000, C 2000 with held 2566 and 8000, and one beside each.
+/// J 8000, C 2000 with held 2566 and 8000, and one next to each.
 fn demand_and_supply(cases: &mut Cases) {
     let mut input = samples::first_step(&samples::even(1, 1));
     input.road.gate_capacity = 1_000_000;

@@ -17,7 +17,7 @@ use reference::record;
 
 /// Longer records are not cut here.
 const MAX_BYTES: usize = 2_500;
-/// So many roads of group 4 are cut.
+/// The number of roads of group 4 that are cut.
 const ROADS: usize = 60;
 /// Random pairs of roads.
 const RANDOM: usize = 150;

@@ -155,7 +155,7 @@ fn rounding(cases: &mut Cases) {
     }
 }
 
-/// Held at the critical count, beside it and by one unit beside it; entries
+/// Held at the critical count, next to it and by one unit from it; entries
 /// below, at and above the capacity.
 fn demand_capacity(cases: &mut Cases) {
     for critical in [499.0, 499.999_999_999_999_94, 500.0, 500.000_000_000_000_06] {

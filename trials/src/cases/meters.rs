@@ -189,7 +189,7 @@ fn not_finite(cases: &mut Cases) {
     }
 }
 
-/// Numbers that aren't finite where nobody looks: at a cell without a ramp,
+/// Numbers that aren't finite where they are not read: at a cell without a ramp,
 /// past cell n, and in what a law doesn't use.
 fn ignored(cases: &mut Cases) {
     for number in NOT_FINITE {
@@ -214,7 +214,7 @@ fn ignored(cases: &mut Cases) {
     }
 }
 
-/// 16 beside the other refusals: after 6, before 11.
+/// 16 together with the other refusals: after 6, before 11.
 fn several(cases: &mut Cases) {
     let changes: [Change; 7] = [
         |_| (),
@@ -251,7 +251,7 @@ fn lists(cases: &mut Cases) {
     }
 }
 
-/// Each cap alone: queue and arrivals, supply, 1,000,000; and one beside it.
+/// Each cap alone: queue and arrivals, supply, 1,000,000; and one next to it.
 fn caps(cases: &mut Cases) {
     // Ramp 1 has 700 and 80 waiting, ramp 3 700 and 90; supplies 1500 and 500.
     for rate in [499.0, 500.0, 501.0, 779.0, 780.0, 781.0, 1e6, 1e18] {

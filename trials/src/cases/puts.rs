@@ -14,7 +14,7 @@ use reference::record;
 
 /// Roads with longer records are not tried here.
 const MAX_BYTES: usize = 2_000;
-/// So many roads of group 4.
+/// The number of roads of group 4 that are used.
 const ROADS: usize = 40;
 
 /// Releases within the bound and past it.
@@ -46,7 +46,7 @@ pub struct PutInput {
 }
 
 impl PutInput {
-    /// The record with the release, or as it was.
+    /// The record with the release, or unchanged.
     pub fn record_after(&self) -> Vec<u8> {
         let mut record = self.record.clone();
         put::put(

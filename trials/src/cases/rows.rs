@@ -11,7 +11,7 @@ use reference::draft::Draft;
 
 /// Roads with longer records are not tried here.
 const MAX_BYTES: usize = 900;
-/// So many roads of group 4.
+/// The number of roads of group 4 that are used.
 const ROADS: usize = 10;
 
 /// `trials` are the roads of group 4.

@@ -1,4 +1,4 @@
-//! Studies that go on from a state: run, filled and judged. Refusals 7 and 8 beside those
+//! Studies that go on from a state: run, filled and judged. Refusals 7 and 8 with those
 //! of the operations, states at their limits, cumulative outflows whose onward total has
 //! a remainder, and studies cut in two.
 
@@ -318,7 +318,7 @@ fn three_after(steps: usize, dice: &mut Dice) -> State {
 }
 
 /// Each number of a state at its limit and past it. Three rows are left to 1,440 and
-/// then fewer, so that 7 comes beside 8.
+/// then fewer, so that 7 and 8 both apply.
 fn limits_of_states(all: &mut Vec<Stretch>, dice: &mut Dice) {
     let draft = samples::three_cells();
     for steps in [0, 1, 934, 1_437, 1_438, 1_440] {
@@ -338,7 +338,7 @@ fn limits_of_states(all: &mut Vec<Stretch>, dice: &mut Dice) {
     }
 }
 
-/// Each cell's entry at what it holds and past it, with 8 beside it; and past cell n.
+/// Each cell's entry at what it holds and past it, also together with 8; and past cell n.
 fn limits_of_entries(all: &mut Vec<Stretch>, dice: &mut Dice) {
     let draft = samples::three_cells();
     for steps in [0, 934, 1_438] {
@@ -387,7 +387,7 @@ fn last_steps(all: &mut Vec<Stretch>, dice: &mut Dice) {
 
 type Change = fn(&mut Draft);
 
-/// Each refusal beside those that come after it.
+/// Each refusal together with those that come after it.
 fn orders(all: &mut Vec<Stretch>, dice: &mut Dice) {
     let changes: [Change; 14] = [
         |_| (),

@@ -12,7 +12,7 @@ use reference::step;
 /// A record and a schedule.
 pub struct Trial {
     pub record: Vec<u8>,
-    /// The table of lanes, empty where all are open.
+    /// The table of lanes, empty if all are open.
     pub lanes: Vec<u8>,
     pub n: usize,
     pub steps: usize,
@@ -26,7 +26,7 @@ pub struct Trial {
 pub enum Hold {
     /// Not at all: the run's own rows.
     Nothing,
-    /// To so many thousandths.
+    /// To this many thousandths.
     Scaled(u64),
     /// Anywhere from 0.
     Random,

@@ -1,5 +1,5 @@
 //! Group 9: records of version 2, with a step's seconds. Refusals 1, 2, 3, 19
-//! and 4 in their order, and all that version 1 is tried with.
+//! and 4 in their order, and everything that is tried with version 1.
 
 use super::case::{Case, FillInput, LawInput, WriteInput, MAX_RECORD};
 use super::dice::Dice;
@@ -101,7 +101,7 @@ fn changed(cases: &mut Cases, changes: &[Change]) {
     }
 }
 
-/// Refusals 1 to 4, and 19 beside the others.
+/// Refusals 1 to 4, and 19 together with the others.
 const FRAMES: [Change; 24] = [
     |d| d.length = Some(1),
     |d| d.length = Some(168),
@@ -237,7 +237,7 @@ fn sound_fill(case: &Case) -> Option<FillInput> {
     }
 }
 
-/// Stepping doesn't look at version or seconds.
+/// Stepping ignores version and seconds.
 fn any_version_steps(cases: &mut Cases, dice: &mut Dice) {
     for (version, seconds) in [
         (0, 0),
@@ -272,7 +272,7 @@ const WRITES: [WriteChange; 38] = [
     |x| x.road.version = 3,
     |x| x.road.version = 129,
     |x| x.road.version = 255,
-    // Version 1's seconds aren't looked at.
+    // Version 1's seconds are ignored.
     |x| (x.road.version, x.road.seconds) = (1, 0),
     |x| (x.road.version, x.road.seconds) = (1, 65_535),
     // Targets.

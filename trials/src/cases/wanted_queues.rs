@@ -166,7 +166,7 @@ fn peaks(cases: &mut Cases) {
     }
 }
 
-/// Ceilings and rates of 0, beside starts and arrivals of 0.
+/// Ceilings and rates of 0, with starts and arrivals of 0.
 fn zeros(cases: &mut Cases) {
     for arrivals in [[0, 0, 0], [0, 0, 1], [5, 0, 5], [1_000_000; 3]] {
         for start in [0, 1, 1_000_000_000] {

@@ -12,7 +12,7 @@ use reference::record::Caller;
 
 /// Longer records are tried with few pairs of limits.
 const MAX_BYTES: usize = 1_000;
-/// So many roads of group 4.
+/// The number of roads of group 4 that are used.
 const ROADS: usize = 80;
 
 /// What reading within limits takes.

@@ -1,7 +1,7 @@
 //! The whole answers of studies that go on and of many studies.
 
 use super::Whole;
-use crate::freeway::Told;
+use crate::freeway::HistoryArguments;
 use crate::lent;
 use crate::onward::{FilledOn, Onward, RanOn, Studies};
 use reference::longest::Queues;
@@ -69,13 +69,13 @@ fn history(freeway: &impl Onward, stretch: &Stretch, schedule: &[u32], whole: &m
         _ => (longer, schedule.len()),
     };
     let (mut held, mut queue) = (lent::numbers(held), lent::numbers(queue));
-    let told = Told {
+    let arguments = HistoryArguments {
         lanes: &stretch.lanes,
         schedule,
         held: held.list(),
         queue: queue.list(),
     };
-    whole.put_ended(&freeway.history_on(&stretch.record, stretch.from, told));
+    whole.put_ended(&freeway.history_on(&stretch.record, stretch.from, arguments));
     whole.put_lent("held after each step", held);
     whole.put_lent("queues after each step", queue);
 }

@@ -11,7 +11,9 @@ from ..toml_reader import round_half_up
 from .declaration import Argument, argument
 
 MOST_STUDIES = 1_000_000  # of a sweep
-SECONDS = argument("--seconds", help="of a step, for a record of version 1, which has none")
+SECONDS = argument(
+    "--seconds", help="the seconds of a step, for a record of version 1, which has none"
+)
 STUDY_FILE = "a .toml or .rec file"
 
 
@@ -22,7 +24,7 @@ def study_arguments(nargs: str | None = None) -> list[Argument]:
 
 
 def file_to_write(text: str) -> str:
-    """Return a name of a file to write, which a folder's name like `.` is not."""
+    """Return the name of a file to write; a folder's name like `.` is an error."""
     if text != "-" and not Path(text).name:
         raise argparse.ArgumentTypeError(f"{show(text)} is no name of a file")
     return text
@@ -39,14 +41,14 @@ def limit(text: str) -> int:
 
 
 def short_number(text: str) -> str:
-    """Return a number of a few digits, still as it is written."""
+    """Return a number of few digits, as it is written."""
     if len(text) > 40:
         raise argparse.ArgumentTypeError(f"{show(text)} is too long for a number")
     return text
 
 
 def worker_count(text: str) -> int:
-    """Return a number of processes; more than there are processors or studies are not started."""
+    """Return a number of processes; at most as many start as there are processors or studies."""
     try:
         if x := parse_whole(text):
             return x
@@ -62,7 +64,7 @@ def parse_span(
     least: int | None = None,
     most: int | None = None,
 ) -> list[Fraction]:
-    """Return the numbers of LOW:HIGH:STEP, exactly; of whole numbers the step may be left out."""
+    """Return the exact numbers of LOW:HIGH:STEP; with whole numbers the step is optional."""
     try:
         low, high, *rest = (parse_option(x, option) for x in words.split(":"))
         step = rest[0] if rest else Fraction(1) if whole_numbers else (high - low) / 10
@@ -107,12 +109,12 @@ def parse_ramp_peak(s: Study, given: str | None) -> int:
     if given is None and s.ramps:
         raise StudyError(
             f"--ramp-peak is missing: the road has {len(s.ramps)} ramp{'s' * (len(s.ramps) != 1)};"
-            " it is 0 where nobody arrives there"
+            " write 0 if nobody arrives there"
         )
     return parse_rate(s, given or "0", "--ramp-peak")
 
 
-PEAK = argument("--peak", help="of the gate's arrivals, veh/h")
+PEAK = argument("--peak", help="the peak of the gate's arrivals, veh/h")
 RAMP_PEAK = argument(
-    "--ramp-peak", help="of each ramp's arrivals, veh/h; needed where the road has ramps"
+    "--ramp-peak", help="the peak of each ramp's arrivals, veh/h; required if the road has ramps"
 )

@@ -8,7 +8,7 @@ from types import ModuleType
 from typing import Any
 
 COMMAND = shlex.quote(os.environ.get("NOBYALUK_COMMAND") or "nobyaluk")  # as it was called
-FORCE = "write also over a file that this command reads, or that is there beside the output"
+FORCE = "also replace a file that this command reads, or an existing file next to the output"
 
 Function = Callable[[argparse.Namespace], int | None]
 

@@ -32,8 +32,8 @@ from .running import UNUSED_SECONDS
         required=True,
         type=short_number,
         help=(
-            "of what leaves the last upstream cell, what goes on: thousandths, 0 to 1000, or a"
-            " decimal like 0.89"
+            "the part of the last upstream cell's outflow that goes on: thousandths, 0 to 1000, or"
+            " a decimal like 0.89"
         ),
     ),
     SECONDS,
@@ -43,7 +43,7 @@ from .running import UNUSED_SECONDS
         required=True,
         type=file_to_write,
         metavar="FILE",
-        help="a .rec, with its study beside it, or a .toml",
+        help="a .rec, with its study next to it, or a .toml",
     ),
     examples=[
         (

@@ -25,7 +25,7 @@ PICTURES = ["space-time", "density", "speed", "queues", "cumulative"]
         reads=True,
         action="append",
         metavar="STUDY",
-        help="a study that it is compared with: the scales serve it too; may be repeated",
+        help="another study with which the pictures share their scales; may be repeated",
     ),
     examples=[
         "plot road.toml -o pictures",
@@ -50,7 +50,7 @@ def plot(args: argparse.Namespace) -> None:
 
 @command(
     "report STUDY... -o FILE.html",
-    "write one page with everything, also the studies themselves",
+    "write one page with everything, including the studies themselves",
     *study_arguments("+"),
     argument("-o", "--output", required=True, metavar="FILE.html"),
     argument("--title"),
@@ -74,13 +74,13 @@ def write_report(args: argparse.Namespace) -> None:
         "report",
         reads=True,
         metavar="REPORT.html",
-        help="a page of `report`, which has its studies in it",
+        help="a page made by `report`; it contains its studies",
     ),
-    argument("-o", "--output", metavar="FOLDER", help="keeps the studies as files"),
+    argument("-o", "--output", metavar="FOLDER", help="keep the studies as files there"),
     examples=["redo report.html", "redo report.html -o studies"],
 )
 def redo(args: argparse.Namespace) -> int:
-    """Run the studies of a report again; 1 where something differs."""
+    """Run the studies of a report again; 1 if something differs."""
     found = redoing.redo_report(args.report, args.output, args.force)
     for name, differs in found:
         print(f"{name}: " + (differs or "the same totals and record"))

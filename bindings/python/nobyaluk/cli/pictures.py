@@ -1,4 +1,4 @@
-"""Pictures of the command line: matplotlib where it is installed, and figures saved."""
+"""Pictures of the command line: imports matplotlib if it is installed, and saves figures."""
 import os
 from pathlib import Path
 from types import ModuleType
@@ -14,7 +14,7 @@ if "NOBYALUK_COMMAND" in os.environ:  # called through ./nobyaluk, which can ins
 
 
 def import_figures() -> ModuleType:
-    """Return the module that draws, which needs matplotlib; ImportError where that is missing."""
+    """Return the module that draws, which needs matplotlib; ImportError if that is missing."""
     try:
         from .. import figures
     except ImportError:
@@ -23,7 +23,7 @@ def import_figures() -> ModuleType:
 
 
 def save_figure(figure: Any, path: str | Path, of: str = "") -> Path:
-    """Write a picture; NotWritten where it can't be written."""
+    """Write a picture; NotWritten if it can't be written."""
     try:
         output_files.check_target(path)
         return import_figures().save(figure, path, of)

@@ -26,14 +26,14 @@ from .running import load_study, run_study, write_text
         "-o",
         "--output",
         metavar="FILE.csv",
-        help='the releases in parts, for [releases] with unit = "parts"',
+        help='writes the releases in parts, for [releases] with unit = "parts"',
     ),
     examples=[
         "queue examples/studies/rocade-sud-alinea.toml 16 --ceiling 50 --rate 1200 -o releases.csv"
     ],
 )
 def queue(args: argparse.Namespace) -> int:
-    """Print the releases that keep a ramp's queue under a ceiling; 1 where there are none."""
+    """Print the releases that keep a ramp's queue under a ceiling; 1 if there are none."""
     s = load_study(args.study, args)
     if args.ramp not in s.ramps:
         raise StudyError(
@@ -91,7 +91,7 @@ def queue(args: argparse.Namespace) -> int:
         help="limit = veh/h, and up to eight [[ramp]] with study, ramp and guarantee (veh/h)",
     ),
     argument(
-        "-o", "--output", metavar="FOLDER", help="each road's record with its granted releases"
+        "-o", "--output", metavar="FOLDER", help="for each road's record with its granted releases"
     ),
     examples=["street street.toml -o records"],
 )
@@ -134,7 +134,7 @@ def share_street(args: argparse.Namespace) -> None:
     "write the stated load as a CSV of arrivals",
     *study_arguments(),
     argument("--seed", required=True, help="0 to 4294967295"),
-    argument("--peak", required=True, help="of the gate's arrivals, veh/h"),
+    argument("--peak", required=True, help="the peak of the gate's arrivals, veh/h"),
     RAMP_PEAK,
     argument("-o", "--output", default="-", metavar="FILE.csv"),
     examples=["load road.toml --seed 1 --peak 3600 --ramp-peak 600 -o arrivals.csv"],

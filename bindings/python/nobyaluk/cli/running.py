@@ -1,4 +1,4 @@
-"""Studies of the command line, loaded and run; texts written where the command line says."""
+"""Loads and runs the studies of the command line, and writes texts to its output."""
 import argparse
 import sys
 from pathlib import Path

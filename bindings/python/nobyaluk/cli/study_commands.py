@@ -45,19 +45,19 @@ def new(args: argparse.Namespace) -> None:
 @command(
     "run STUDY",
     (
-        "print who waits where; --listing prints every step as `ctm` does, --csv FILE writes the "
-        "tables"
+        "print who waits where; --listing prints every step as `ctm` does, --csv FILE writes a "
+        "table"
     ),
     *study_arguments(),
     argument(
         "--listing",
         action="store_true",
-        help="every step and place, as the program `ctm` prints it",
+        help="print every step and place, as the program `ctm` does",
     ),
     argument(
         "--csv",
         metavar="FILE",
-        help="a table with a row a step and place, in vehicles; - is standard output",
+        help="write a table with one row per step and place, in vehicles; - is standard output",
     ),
     examples=[
         "run examples/studies/five-cells.toml",
@@ -99,9 +99,9 @@ def note_lines(s: Study) -> list[str]:
 
 
 def run_csv(s: Study, r: Run) -> str:
-    """Return the run as CSV: a row a step and place.
+    """Return the run as CSV, one row per step and place.
 
-    Place 0 is the gate, times are those of the step's end.
+    Place 0 is the gate; times are those of the step's end.
     """
     f = io.StringIO()
     out = csv.writer(f, lineterminator="\n")
@@ -159,7 +159,7 @@ def fill(args: argparse.Namespace) -> None:
     argument(
         "schedule",
         reads=True,
-        help="a .csv file: a row of outflows a step in whole parts, the gate's first",
+        help="a .csv file: for each step a row of outflows in whole parts, the gate's first",
     ),
     examples=["judge examples/classroom.rec examples/classroom-cut.schedule.csv --seconds 36"],
     force=False,
@@ -183,17 +183,17 @@ def judge(args: argparse.Namespace) -> None:
     lost = summary.find_loss(best, r)
     if lost.step is None:
         promise = ", and no schedule with these arrivals and releases has less"
-        one = isinstance(s.record, engine.Record)  # of longer studies it is not proved
+        one = isinstance(s.record, engine.Record)  # it is not proved for longer studies
         print(f"  {w.total:,.2f} {w.unit}: it is the engine's run{promise * one}")
         return
     more = f" ({100 * (w.total / b.total - 1):+.1f} %)" if b.total else ""
     print(
-        f"  {w.total:,.2f} {w.unit}, where the engine's run has {b.total:,.2f}:"
+        f"  {w.total:,.2f} {w.unit}, and the engine's run has {b.total:,.2f}:"
         f" it loses {w.total - b.total:,.2f}{more}"
     )
     print(
-        f"  it departs first at {s.when(lost.step)}, {s.place(lost.place)}: it sends"
-        f" {lost.sent / 1000:,.3f} vehicles, and {lost.could / 1000:,.3f} could go"
+        f"  it first differs at {s.when(lost.step)}, {s.place(lost.place)}: it sends"
+        f" {lost.sent / 1000:,.3f} vehicles, and {lost.could / 1000:,.3f} could leave"
     )
 
 
@@ -215,7 +215,7 @@ def explain(s: Study, schedule: np.ndarray, e: Refused) -> str:
     "compare STUDY...",
     "print the three totals side by side; --plot FILE draws them",
     *study_arguments("+"),
-    argument("--plot", metavar="FILE", help="draws the totals: .png, .svg or .pdf"),
+    argument("--plot", metavar="FILE", help="draw the totals: .png, .svg or .pdf"),
     examples=["compare examples/studies/rocade-sud*.toml --plot totals.png"],
 )
 def compare(args: argparse.Namespace) -> None:
@@ -232,7 +232,7 @@ def compare(args: argparse.Namespace) -> None:
         print(
             (
                 "nobyaluk: note: the studies differ in their number of steps or a step's seconds,"
-                " so their totals are not alike"
+                " so their totals are not comparable"
             ),
             file=sys.stderr,
         )

@@ -34,19 +34,19 @@ from .running import load_study
     "sweep STUDY --load 0.8:1.2:0.01",
     "write the totals of many loads, seeds or values of a key as CSV",
     *study_arguments(),
-    argument("--load", metavar="LOW:HIGH:STEP", help="all arrivals times each of these"),
+    argument("--load", metavar="LOW:HIGH:STEP", help="multiply all arrivals by each of these"),
     argument(
         "--seeds",
         metavar="FIRST:LAST",
-        help="the stated load of each seed, with --peak and --ramp-peak",
+        help="use the stated load of each seed, with --peak and --ramp-peak",
     ),
     argument(
         "--vary",
         metavar="KEY=LOW:HIGH:STEP",
         action="append",
         help=(
-            "a number of the .toml, as meter.all.rate=300:900:50; twice: each pair of both keys'"
-            " values"
+            "set a number of the .toml, as meter.all.rate=300:900:50; if given twice, each pair of"
+            " both keys' values"
         ),
     ),
     PEAK,
@@ -54,22 +54,22 @@ from .running import load_study
     argument(
         "--workers",
         type=worker_count,
-        help="processes, at most as many as processors; default: as many",
+        help="number of processes; default, and at most: the number of processors",
     ),
     argument(
-        "--scheduler", metavar="ADDRESS", help="of a Dask cluster whose workers have this package"
+        "--scheduler", metavar="ADDRESS", help="a Dask cluster whose workers have this package"
     ),
     argument(
         "-o",
         "--output",
         default="-",
         metavar="FILE.csv",
-        help="default: standard output; until all rows are there they are in FILE.csv.part",
+        help="default: standard output; rows are in FILE.csv.part until all are done",
     ),
     argument(
         "--resume",
         action="store_true",
-        help="go on with FILE.csv.part, which a sweep left that was interrupted",
+        help="continue an interrupted sweep from its FILE.csv.part",
     ),
     examples=[
         "sweep road.toml --load 0.8:1.2:0.01 -o loads.csv",
@@ -84,9 +84,9 @@ from .running import load_study
     ],
 )
 def sweep(args: argparse.Namespace) -> int:
-    """Write the totals of many studies; 2 where all of them failed."""
+    """Write the totals of many studies; 2 if all of them failed."""
     if sum(x is not None for x in (args.load, args.seeds, args.vary)) != 1:
-        raise StudyError("one of --load, --seeds and --vary says what is swept")
+        raise StudyError("say what is swept by exactly one of --load, --seeds and --vary")
     s = load_study(args.study, args)
     what = plan_sweep(s, args)
     rows, count = SweepRows(what, s), len(what)
@@ -140,14 +140,14 @@ def run_sweep(
 
 
 def plan_sweep(s: Study, args: argparse.Namespace) -> Sweep:
-    """Return what is swept; files are read here, where a cluster may not see them."""
+    """Return what is swept; files are read here, because a cluster may not see them."""
     if args.load is not None:
         loads = parse_span(args.load, "--load", least=0)
         return Sweep(["load"], [loads], partial(partial, s.scaled))
     if args.vary is not None:
         return plan_variants(args)
     if args.peak is None:
-        raise StudyError("--seeds needs --peak, and --ramp-peak where the road has ramps, in veh/h")
+        raise StudyError("--seeds needs --peak, and --ramp-peak if the road has ramps, in veh/h")
     seeds = parse_span(args.seeds, "--seeds", whole_numbers=True, least=0, most=(1 << 32) - 1)
     peaks = parse_rate(s, args.peak, "--peak"), parse_ramp_peak(s, args.ramp_peak)
     return Sweep(["seed"], [seeds], lambda x: partial(s.with_stated_load, int(x), *peaks), peaks)

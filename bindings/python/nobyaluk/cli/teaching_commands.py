@@ -22,41 +22,43 @@ from .running import load_study, run_study
     argument(
         "--seed",
         help=(
-            "draws a road, 0 to 4294967295; with --students the first student's, and the next have"
-            " the next"
+            "draw a road, 0 to 4294967295; with --students, it is the first student's seed, and"
+            " each further student has the next one"
         ),
     ),
-    argument("--seeds", metavar="FIRST:LAST", help="a road of each seed, as 1:30"),
+    argument("--seeds", metavar="FIRST:LAST", help="draw a road for each seed, as 1:30"),
     argument(
         "--students",
         reads=True,
         metavar="FILE",
-        help="a name a line; each has a sheet of their own",
+        help="a list with one name per line; each student gets a sheet",
     ),
     argument(
         "--cells",
         type=limit,
-        help="of a road that a seed draws, default: 4; of a study at most so many, default: 8",
+        help="the cells of a seed's road, default: 4; the most cells of a study, default: 8",
     ),
-    argument("--steps", type=limit, help="of a road that a seed draws, default: 6"),
+    argument("--steps", type=limit, help="the steps of a seed's road, default: 6"),
     argument(
         "--bytes",
         type=limit,
-        help="of a study's record at most, default: 4,096; sheets take no more",
+        help="the most bytes of a study's record, default: 4,096; sheets take no more",
     ),
-    argument("--lang", choices=LANGUAGES, default="en", help="of sheets and keys, default: en"),
-    argument("--title", help="of sheets and keys, default: the study's own"),
+    argument(
+        "--lang", choices=LANGUAGES, default="en", help="language of sheets and keys, default: en"
+    ),
+    argument("--title", help="title of sheets and keys, default: the study's own"),
     argument(
         "--listing",
         action="store_true",
         help="print every step and place, as the exercise program does; also without -o",
     ),
-    argument("--no-pdf", action="store_true", help="write HTML alone, which is faster"),
+    argument("--no-pdf", action="store_true", help="write only HTML, which is faster"),
     argument(
         "-o",
         "--output",
         metavar="FOLDER",
-        help="sheets to hand out, keys, answer forms and class.csv",
+        help="for sheets to hand out, keys, answer forms and class.csv",
     ),
     examples=[
         "exercise question.toml -o class",
@@ -83,7 +85,7 @@ def exercise(args: argparse.Namespace) -> None:
 
 
 def check_options(args: argparse.Namespace) -> None:
-    """Raise StudyError where options of `exercise` do not go together."""
+    """Raise StudyError if options of `exercise` do not go together."""
     if (args.study is None) == (args.seed is None and args.seeds is None):
         raise StudyError(
             "an exercise is of a STUDY, or drawn by --seed or --seeds: name one of them"
@@ -161,9 +163,9 @@ def exercise_of_study(args: argparse.Namespace) -> Exercise:
         default="marks",
         type=file_to_write,
         metavar="NAME",
-        help="of the tables NAME.csv and NAME.html, default: marks",
+        help="write the tables NAME.csv and NAME.html, default: marks",
     ),
-    argument("--title", default="Marks", help="of the page, default: Marks"),
+    argument("--title", default="Marks", help="title of the page, default: Marks"),
     examples=["mark class answers", "mark question.toml anna.csv answers-ben.json -o marks"],
 )
 def mark(args: argparse.Namespace) -> int:

@@ -1,6 +1,6 @@
-"""Answers as students hand them in: a table as CSV, or the file that the browser page saves.
+"""Reads answers as students hand them in: a table as CSV, or the file that the page saves.
 
-Read here, marked in `marking`.
+`marking` marks them.
 """
 import base64
 import binascii
@@ -28,7 +28,7 @@ Column = tuple[str, int]  # a table and a column of it, from 0; or a time and 0
 class Number:
     """A number as it is written.
 
-    `groups` is it read with thousands set apart, where it can be read so.
+    `groups` is its value if its mark separates thousands, or None.
     """
 
     text: str
@@ -37,9 +37,9 @@ class Number:
     groups: int | None = None
 
     def parts(self, vehicles: bool) -> tuple[Fraction, Fraction]:
-        """Return the number in parts, and how far it may be off.
+        """Return the number in parts, and its possible rounding error.
 
-        `vehicles` is the file's unit; a number is off where decimals were left out.
+        `vehicles` says whether its unit is vehicles; then decimals may have been left out.
         """
         if not vehicles:
             return Fraction(self.groups if self.groups is not None else self.value), Fraction(0)
@@ -50,15 +50,15 @@ class Number:
     def is_of_vehicles(self) -> bool:
         """Whether it can only be a number of vehicles.
 
-        Its decimals are not zeros, and their mark sets no thousands apart.
+        Its decimals are not all zeros, and their mark does not separate thousands.
         """
         return self.groups is None and self.value.denominator != 1
 
 
 def parse_number(text: str) -> Number | None:
-    """Return a number with a decimal point or comma, or with thousands set apart.
+    """Return a number with a decimal point or comma, or with separated thousands.
 
-    None where nothing is written, ValueError where it is none.
+    None for an empty text, ValueError for any other.
     """
     bare = re.sub(r"[\s\u00a0\u202f'’]", "", text)
     if not bare:
@@ -88,12 +88,12 @@ def parse_number(text: str) -> Number | None:
 
 @dataclass
 class Answer:
-    """What a student hands in; None where a field is empty."""
+    """A student's answer; an empty field is None."""
 
     file: str
     name: str = ""
     exercise: str = ""  # what it says of itself, as a sheet's last line
-    record: bytes | None = None  # the exercise itself, where the file has it
+    record: bytes | None = None  # the exercise itself, if the file has it
     outflows: list[list[Number | None]] = field(
         default_factory=list
     )  # a row a step: the gate, then each cell
@@ -103,7 +103,7 @@ class Answer:
     queue: list[list[Number | None]] = field(default_factory=list)  # after the step, at each ramp
     times: dict[str, Number | None] = field(default_factory=dict)  # of TIMES
     whose: str = ""
-    vehicles: bool | None = None  # the unit that it states; None where it states none
+    vehicles: bool | None = None  # the unit that it states; None if it states none
     by_page: bool = (
         False  # whether the page saved it, which takes thousandths of a vehicle and nothing else
     )
@@ -125,7 +125,7 @@ class Answer:
 
 
 def _known() -> dict[str, str]:
-    """Return what begins a line of an answer, in every language."""
+    """Return the words that begin a line of an answer, in every language."""
     t = Words("en")
     out = {
         "exercise": "exercise",
@@ -169,9 +169,9 @@ _UNITS |= {
 
 
 def read_answer(path: str | Path, n: int, ramps: int, steps: int) -> Answer:
-    """Return the answer of a file to an exercise of so many cells, ramps and steps.
+    """Return the answer in a file to an exercise of `n` cells, `ramps` ramps and `steps` steps.
 
-    StudyError with file and row where it is none.
+    StudyError, with file and row, if it is no answer.
     """
     text = read_text(path, MOST_BYTES)
     if Path(path).suffix.lower() == ".json":
@@ -180,7 +180,7 @@ def read_answer(path: str | Path, n: int, ramps: int, steps: int) -> Answer:
 
 
 def read_answer_head(path: str | Path) -> Answer:
-    """Return name and exercise alone, which say what else the file should have."""
+    """Return only name and exercise, which determine what else the file should have."""
     text = read_text(path, MOST_BYTES)
     if Path(path).suffix.lower() == ".json":
         return _head_of_json(_json(text, str(path)), str(path))
@@ -222,7 +222,7 @@ def _of_csv(text: str, name: str, n: int, ramps: int, steps: int) -> Answer:
 
 
 def _rows(text: str, name: str, n: int) -> list[tuple[int, list[str]]]:
-    """Return the rows of a CSV, by the separator that gives the most rows enough fields, or any."""
+    """Return the rows of a CSV, by the separator that gives the most rows with enough fields."""
     lines = [re.sub('"[^"]*"', '""', x) for x in text.splitlines()]
     delimiter = max(
         ";\t,", key=lambda x: [sum(line.count(x) >= least for line in lines) for least in (n, 1)]
@@ -236,7 +236,7 @@ def _rows(text: str, name: str, n: int) -> list[tuple[int, list[str]]]:
 
 
 def _line(answer: Answer, key: str, values: Sequence[str], where: str) -> None:
-    """Take a line of one word and its value into the answer."""
+    """Add a line of one word and its value to the answer."""
     value = ",".join(values).rstrip(",")
     if key in TIMES:
         answer.times[key] = _number(value, f"{where}, {key}")
@@ -266,7 +266,7 @@ def _fill_table(
     name: str,
     size: tuple[int, int, int],
 ) -> None:
-    """Take outflows and states of the steps into the answer, by the columns' order."""
+    """Add outflows and states of the steps to the answer, by the columns' order."""
     n, ramps, steps = size
     narrow, wide = n + 1, 2 * (n + 1) + ramps
     counted = bool(heading) and _bare(heading[0]) in _STEP
@@ -288,7 +288,7 @@ def _fill_table(
         fields = _trimmed(row)[counted:]
         if len(fields) > most or not heading and len(fields) not in (narrow, wide):
             decimals = (
-                "; where a comma is the decimal mark, put semicolons between fields"
+                "; if a comma is the decimal mark, put semicolons between fields"
                 if len(fields) == 2 * narrow
                 else ""
             )

@@ -1,6 +1,6 @@
-"""A class marked: each answer with its exercise, one table for the lecturer.
+"""Marks of a class: each answer with its exercise, one table for the lecturer.
 
-An answer that can't be read is named, and the others are marked.
+A message names each answer that can't be read, and the others are marked.
 """
 import argparse
 import sys
@@ -20,7 +20,7 @@ FORMS = (".csv", ".json")
 def find_answers(names: list[str], outputs: list[Path]) -> list[Path]:
     """Return the answers of folders and files, in order.
 
-    Tables that this command writes are none.
+    Tables that this command writes are not answers.
     """
     found = []
     for name in names:
@@ -59,9 +59,9 @@ def find_answers(names: list[str], outputs: list[Path]) -> list[Path]:
 
 
 def find_seat(seats: list[Seat], path: Path) -> tuple[Seat, str]:
-    """Return the exercise that an answer is to, and the student's name.
+    """Return the exercise of an answer, and the student's name.
 
-    StudyError where it is to another one, or to none.
+    StudyError if the answer is to another exercise, or to none.
     """
     said = answers.read_answer_head(path)
     student = said.name or path.stem.removeprefix("answers-")
@@ -97,7 +97,7 @@ def find_seat(seats: list[Seat], path: Path) -> tuple[Seat, str]:
 def find_seats(seats: list[Seat], student: str, path: Path) -> list[Seat]:
     """Return the places in the class of a student of this name.
 
-    Where there are none, of the name in other letters, then of the file's.
+    If there are none, the name is compared as a file name, then the answer's own file name.
     """
     known = [x for x in seats if x.student]
     named = [x for x in known if x.student.casefold() == student.casefold()] or [
@@ -117,9 +117,9 @@ def mark_unread(seats: list[Seat], path: Path, fault: str) -> tuple[Mark, Seat |
 
 
 def mark_file(seats: list[Seat], path: Path) -> tuple[Mark, Seat | None]:
-    """Return the mark of one file, or its fault where it can't be read.
+    """Return the mark of one file, or its fault if it can't be read.
 
-    And the student's place in the class, where there is one.
+    The student's place in the class is returned too, or None.
     """
     try:
         seat, student = find_seat(seats, path)
@@ -137,7 +137,7 @@ def mark_file(seats: list[Seat], path: Path) -> tuple[Mark, Seat | None]:
 
 
 def mark(args: argparse.Namespace) -> int:
-    """Mark all answers and write both tables; return 2 where none could be read."""
+    """Mark all answers and write both tables; return 2 if none could be read."""
     stem = Path(args.output)
     stem = stem.with_suffix("") if stem.suffix in (".csv", ".html") else stem
     outputs = [stem.with_name(f"{stem.name}{x}") for x in (".csv", ".html")]
@@ -167,9 +167,9 @@ def mark(args: argparse.Namespace) -> int:
 
 
 def order_marks(seats: list[Seat], marked: list[tuple[Mark, Seat | None]]) -> list[Mark]:
-    """Return all marks in the order of the class, with those who handed nothing in.
+    """Return all marks in the order of the class, with students who handed nothing in.
 
-    Files of nobody in it at the end.
+    Files that belong to nobody in the class come last.
     """
     out: list[Mark] = []
     for seat in seats:
@@ -181,7 +181,7 @@ def order_marks(seats: list[Seat], marked: list[tuple[Mark, Seat | None]]) -> li
 
 
 def class_files(name: str) -> list[Path]:
-    """Return the file that says who has which exercise, which no table replaces."""
+    """Return the file that says who has which exercise; no table may replace it."""
     return [Path(name) / "class.csv"] if Path(name).is_dir() else []
 
 

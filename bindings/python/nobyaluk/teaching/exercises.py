@@ -30,7 +30,7 @@ CELLS, STEPS = 4, 6  # of a road that a seed draws
 
 @dataclass(frozen=True)
 class Seat:
-    """A student of a class with the exercise of their own; no name is everybody."""
+    """A student of a class with an exercise; an empty name means everybody."""
 
     student: str
     file: str  # the beginning of their files' names
@@ -75,7 +75,7 @@ def file_stem(name: str) -> str:
 
 
 def read_students(path: str) -> list[str]:
-    """Return the names of a list: one a line."""
+    """Return the names of a list with one name per line."""
     names = [line.strip() for line in read_text(path, MOST_LIST).splitlines()]
     names = [x for x in names if x and not x.startswith("#")]
     for x in names:
@@ -91,12 +91,12 @@ def read_students(path: str) -> list[str]:
     if twice := next(
         (x for i, x in enumerate(names) if x.lower() in [y.lower() for y in names[:i]]), None
     ):
-        raise StudyError(f"{path}: {show(twice)} is there twice")
+        raise StudyError(f"{path}: {show(twice)} appears twice")
     return names
 
 
 def parse_seeds(args: argparse.Namespace) -> list[int]:
-    """Return the seeds of --seed and --seeds; none where a study is named."""
+    """Return the seeds of --seed and --seeds; none if a study is named."""
     if args.seeds is not None:
         found = re.fullmatch(r"([0-9]{1,10}):([0-9]{1,10})", args.seeds)
         low, high = (int(x) for x in found.groups()) if found else (1, 0)
@@ -134,7 +134,7 @@ def drawn_size(args: argparse.Namespace) -> tuple[int, int]:
 
 
 def assign_exercises(args: argparse.Namespace, one: Exercise | None, title: str) -> list[Seat]:
-    """Return who has which exercise: everybody the same study, or each a road of their own."""
+    """Return who has which exercise: everybody the same study, or each student a separate road."""
     students = read_students(args.students) if args.students is not None else None
     if one is not None:
         return (
@@ -158,7 +158,7 @@ def assign_exercises(args: argparse.Namespace, one: Exercise | None, title: str)
 
 
 def _apart(names: Iterable[str]) -> list[str]:
-    """Return file names of students, no two alike."""
+    """Return file names of students, all different."""
     out: list[str] = []
     for name in map(file_stem, names):
         count = 2
@@ -169,9 +169,9 @@ def _apart(names: Iterable[str]) -> list[str]:
 
 
 def answer_form(e: Exercise, t: Words, student: str) -> str:
-    """Return an empty answer, to be filled in with a spreadsheet.
+    """Return an empty answer form for a spreadsheet.
 
-    Semicolons where the language's decimal mark is a comma.
+    Semicolons separate fields if the language's decimal mark is a comma.
     """
     places = [t("gate"), *(t("cell", x=i + 1) for i in range(e.n))]
     states = [
@@ -200,9 +200,9 @@ HEADING = ["student", "exercise", "study", "files"]
 
 
 def class_files(seats: list[Seat], t: Words, title: str, folder: Path) -> dict[Path, str | bytes]:
-    """Return all that a class is given, but the PDFs.
+    """Return all files of a class except the PDFs.
 
-    Sheets and forms, all keys in one page, the exercises, and who has which.
+    These are sheets and forms, all keys in one page, the exercises, and who has which.
     """
     files: dict[Path, str | bytes] = {}
     rows: list[list[str]] = []
@@ -269,7 +269,7 @@ def write_class(seats: list[Seat], args: argparse.Namespace) -> None:
 
 
 def read_class(folder: Path) -> list[Seat]:
-    """Return the class of a folder that `exercise` wrote; a fault where it is none."""
+    """Return the class of a folder that `exercise` wrote; any other folder is a fault."""
     path = folder / "class.csv"
     if not path.is_file():
         raise StudyError(

@@ -1,6 +1,6 @@
-"""Answers marked: the first broken rule, what a schedule costs, why a total is wrong.
+"""Marks answers: the first broken rule, what a schedule costs, why a total is wrong.
 
-Rules are judged by the proved engine.
+The proved engine judges the rules.
 """
 import csv
 import html
@@ -42,10 +42,7 @@ def _variants(e: Exercise, x: engine.Run | wrong_rules.WrongRun) -> dict[str, in
 
 
 def find_mistakes(e: Exercise) -> list[tuple[str, int]]:
-    """Return mistakes with the totals that they give, for the key.
-
-    Those that give another total than the right one.
-    """
+    """Return the mistakes that give a wrong total, each with that total, for the key."""
     found = [
         *_variants(e, e.run).items(),
         *((key, rule(e.study.record, e.study.lanes).total) for key, rule in WRONG.items()),
@@ -55,13 +52,13 @@ def find_mistakes(e: Exercise) -> list[tuple[str, int]]:
 
 @dataclass
 class Mark:
-    """The mark of one answer; fields are empty where there is nothing to report."""
+    """The mark of one answer; a field is empty if there is nothing to report."""
 
     student: str
     file: str = ""
     exercise: str = ""
     outflows: str = ""  # in a few words
-    rule: str = ""  # the first broken rule, or where a schedule departs from the engine's run
+    rule: str = ""  # the first broken rule, or where a schedule differs from the engine's run
     cost: int | None = None  # the accepted schedule's total, in part-steps
     best: int | None = None  # the engine's
     states: str = ""
@@ -117,11 +114,11 @@ class Units:
 
 
 def _units(e: Exercise, answer: Answer, m: Mark) -> Units:
-    """Return the unit of each column; whatever the file itself does not settle is in the notes.
+    """Return the unit of each column; the notes say what the file itself does not settle.
 
-    The page's file is in thousandths, and a file that says vehicles is in vehicles. Any other goes
-    column by column: vehicles where a number has decimals, thousandths where one is larger than all
-    vehicles of the exercise. A column that shows neither is as the rest of the table.
+    The page's file is in thousandths, and a file that says vehicles is in vehicles. Any other file
+    is read column by column: vehicles if a number has decimals, thousandths if one is larger than
+    all vehicles of the exercise. A column that shows neither is read as the rest of the table.
     """
     columns = answer.columns()
     if answer.vehicles:
@@ -177,24 +174,24 @@ def _units(e: Exercise, answer: Answer, m: Mark) -> Units:
 def _settled(columns: set[Column], vehicles: set[Column], large: set[Column]) -> set[Column]:
     """Return the columns in vehicles.
 
-    Those that show it, and those that show nothing where the rest of the table, or of the times, is
-    in vehicles.
+    A column that does not show its unit is in vehicles if the rest of the table, or of the times,
+    is.
     """
     table = {column for column in columns if column[0] in TABLES}
     out = set(vehicles)
     for group in (table, columns - table):
         seen = (
             group & (vehicles | large) or vehicles | large
-        )  # where a group shows nothing, the other one
+        )  # if a group shows nothing, the other one
         if seen and seen <= vehicles:
             out |= group
     return out
 
 
 def _too_many(e: Exercise, x: Number, column: Column) -> bool:
-    """Return whether a number can't be of vehicles.
+    """Return whether a number is too large to be in vehicles.
 
-    The exercise has fewer, at the start and arriving; a time is at most these in every step.
+    The limit is all vehicles of the exercise, for a time in every step.
     """
     most = e.run.present + e.run.exits
     return x.groups is None and x.value * 1000 > (
@@ -215,7 +212,7 @@ def _fits(e: Exercise, columns: Mapping[Column, Sequence[Number]], vehicles: boo
 
 
 def _columns(e: Exercise, columns: Iterable[Column], vehicles: set[Column]) -> str:
-    """Return the columns in vehicles, in words; the table where all of it is."""
+    """Return the columns in vehicles, in words; `the table` if all columns are."""
     table = [column for column in columns if column[0] in TABLES]
     named = (
         ["the table"]
@@ -267,10 +264,7 @@ def _schedule(e: Exercise, answer: Answer, units: Units, m: Mark) -> tuple[np.nd
 
 
 def _judge(e: Exercise, schedule: np.ndarray, done: int, m: Mark) -> engine.Run | None:
-    """Return what the judge says of the steps that are filled in.
-
-    The accepted schedule's run where all are.
-    """
+    """Judge the steps that are filled in; return the run if all are and it is accepted."""
     steps, record, lanes = e.study.record.steps, e.study.record, e.study.lanes
     if not done:
         m.outflows = "wrong" if m.rule else "none"
@@ -343,9 +337,9 @@ def _shown(parts: Fraction) -> str:
 
 
 def _bases(e: Exercise, own: engine.Run | None) -> Iterator[tuple[str, int, dict[str, int]]]:
-    """Yield the runs of which a total may be: the engine's, the student's, those of wrong rules.
+    """Yield possible sources of a total: the engine's run, the student's, those of wrong rules.
 
-    Each with its total and its variants.
+    Each comes with its total and its variants.
     """
     yield "", e.run.total, _variants(e, e.run)
     if own is not None and own.total != e.run.total:
@@ -363,9 +357,9 @@ def _total(
     schedule: np.ndarray | None,
     m: Mark,
 ) -> None:
-    """Note whether the total is right, or where a wrong one comes from.
+    """Note whether the total is right, or the cause of a wrong one.
 
-    Outflows of a wrong rule are recognised too, also with a right total.
+    Outflows of a wrong rule are recognised too, even with a right total.
     """
     by_rule = next(
         (
@@ -395,7 +389,7 @@ def _total(
 
 
 def diagnose(e: Exercise, same: Callable[[int], bool], own: engine.Run | None = None) -> str:
-    """Return what a wrong total comes from, in words; nothing where it is not recognised.
+    """Return what a wrong total comes from, in words; nothing if it is not recognised.
 
     `same` says whether a total is the one given.
     """
@@ -510,7 +504,7 @@ def _kind(m: Mark, column: int) -> str:
 
 
 def marks_page(marks: Sequence[Mark], title: str) -> str:
-    """Return the table as one HTML page, with the numbers of how many are right."""
+    """Return the table as one HTML page, with the number of right answers."""
     heading = [
         "student",
         "outflows",
@@ -555,7 +549,7 @@ def marks_page(marks: Sequence[Mark], title: str) -> str:
         body.append(f"<tr{' class=fault' if m.fault else ''}>{tds}</tr>")
     read = [m for m in marks if not m.fault]
     outflows, totals = sum(m.outflows == "right" for m in read), sum(bool(m.right) for m in read)
-    told = (
+    counts = (
         f"{len(marks)} students or files: {len(read)} marked, {outflows} with right outflows,"
         f" {totals} with the right total. Times are in thousandths of a vehicle × steps."
     )
@@ -574,5 +568,5 @@ def marks_page(marks: Sequence[Mark], title: str) -> str:
     )
     return (
         f"<!doctype html><html lang=en><head>{head}</head><body><h1>{html.escape(title)}</h1><p"
-        f" class=note>{told}</p>{table}<p class=note>{proof}</p></body></html>\n"
+        f" class=note>{counts}</p>{table}<p class=note>{proof}</p></body></html>\n"
     )

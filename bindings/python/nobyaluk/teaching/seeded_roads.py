@@ -1,9 +1,8 @@
 """Roads of a seed, for exercises.
 
-The same on every machine, and the same as the browser page draws (bindings/wasm/exercise.js).
-
-Everything is drawn by the engine's stated load and whole numbers. A road on which nobody is held
-back, or without an off-ramp, is passed over: the next numbers of the load draw another.
+They are the same on every machine and on the browser page (bindings/wasm/exercise.js). The engine's
+stated load draws everything, in whole numbers. A road on which nobody is held back, or without an
+off-ramp, is skipped: the next numbers of the load draw another.
 """
 import numpy as np
 
@@ -29,7 +28,7 @@ def draw_road(seed: int, cells: int, steps: int) -> Record:
 
 
 def _draw(seed: int, n: int, steps: int) -> tuple[Run, int]:
-    """Return one road, and the number from which the load goes on."""
+    """Return one road, and the number from which the load continues."""
     chosen, last = engine.stated_load(seed, 999, DRAWS)
     numbers = iter(chosen.tolist())
 
@@ -59,9 +58,9 @@ def _draw(seed: int, n: int, steps: int) -> tuple[Run, int]:
 
 
 def _fits(run: Run) -> bool:
-    """Return whether a road makes an exercise.
+    """Return whether a road suits an exercise.
 
-    Somebody is held back, and one cell has an off-ramp where there is a cell for it.
+    Somebody is held back, and a road of two cells or more has an off-ramp.
     """
     road = run.record.road
     off = road.n == 1 or any(0 < b < engine.WHOLE for b in road.share[: road.n - 1])

@@ -1,7 +1,4 @@
-"""A sheet and its key.
-
-Pages in HTML, which print as they are, and as PDF where weasyprint is installed.
-"""
+"""A sheet and its key, as printable HTML pages, and as PDF if weasyprint is installed."""
 import html
 import logging
 from collections.abc import Callable, Iterable, Iterator, Sequence
@@ -53,7 +50,7 @@ block; } .together { break-inside: avoid; } .page + .page { break-before: page; 
 
 @dataclass(frozen=True)
 class Exercise:
-    """What a sheet asks: a study whose record has its releases, and the engine's run of it."""
+    """The exercise of a sheet: a study whose record has its releases, and the engine's run."""
 
     study: Study
     run: Run
@@ -83,7 +80,7 @@ def _row(cells: Iterable[Any], tag: str = "td", classes: Callable[[int], str] | 
 
 
 def _ramp_name(e: Exercise, cell: int) -> str:
-    """Return a ramp's own name; nothing where it is called by its cell."""
+    """Return a ramp's own name; nothing if its name is its cell's number."""
     name = next((name for name, at in e.study.ramps.items() if at == cell), str(cell))
     return "" if name == str(cell) else summary.make_legible(name, 30)
 
@@ -192,7 +189,7 @@ def _inflow(e: Exercise, t: Words) -> str:
 def _works(e: Exercise, t: Words) -> str:
     """Return the capacity of cells with closed lanes, by spans of steps.
 
-    Nothing where all lanes are open.
+    Nothing if all lanes are open.
     """
     if not e.study.lanes:
         return ""
@@ -225,10 +222,7 @@ def _works(e: Exercise, t: Words) -> str:
 
 
 def _answers(e: Exercise, t: Words, filled: bool) -> str:
-    """Return outflows and states of each step, empty or filled.
-
-    In one table where they fit, otherwise in two.
-    """
+    """Return outflows and states of each step, empty or filled, in one table or two."""
     n, run = e.n, e.run
     places = [t("gate"), *(t("cell", x=i + 1) for i in range(n))]
     out = [(t("outflow"), places, run.outflow)]
@@ -311,7 +305,7 @@ def _states(e: Exercise) -> Iterator[engine.State]:
 
 
 def _present(e: Exercise, t: Words) -> str:
-    """Return who is present after each step, and the total so far, as docs/BY-HAND.md has them.
+    """Return who is present after each step, and the total so far, as in docs/BY-HAND.md.
 
     Every number is the engine's.
     """
@@ -404,7 +398,7 @@ def key_html(
 ) -> str:
     """Return the key of a sheet.
 
-    Every field filled, who is present after each step, and wrong totals with their mistakes.
+    It has every field filled, who is present after each step, and wrong totals with their mistakes.
     """
     names = f"<p class=note>{html.escape(', '.join(students))}</p>" if students else ""
     head = _head(e, t, f"{t('key')}{t.colon} {title or e.study.title}", "")
@@ -432,7 +426,7 @@ def _what(e: Exercise, t: Words) -> str:
 
 
 def page_html(bodies: Sequence[str], t: Words, title: str, cells: int) -> str:
-    """Return one HTML page of sheets or keys, each beginning on a page of its own when printed."""
+    """Return one HTML page of sheets or keys; in print each begins a new page."""
     wide = cells > WIDE
     style = CSS % ("landscape" if wide else "portrait", "270mm" if wide else "185mm")
     head = (
@@ -446,9 +440,9 @@ def page_html(bodies: Sequence[str], t: Words, title: str, cells: int) -> str:
 
 
 def road_drawing(e: Exercise, t: Words) -> str:
-    """Return the road as a picture.
+    """Return a picture of the road.
 
-    Cells from left to right, the gate, on-ramps with their meters below, off-ramps above.
+    It has the gate and the cells from left to right, on-ramps with meters below, off-ramps above.
     """
     n, r = e.n, e.study.record.road
     left, width = 92, 560
@@ -539,7 +533,7 @@ def road_drawing(e: Exercise, t: Words) -> str:
 
 
 def _tip(x: float, y: float, dx: float, dy: float) -> str:
-    """Return the tip of an arrow that points so."""
+    """Return the tip of an arrow in this direction."""
     size = (dx * dx + dy * dy) ** 0.5
     ux, uy = 6 * dx / size, 6 * dy / size
     points = [
@@ -557,9 +551,9 @@ MISSING = (
 
 
 def pdf_maker() -> Callable[[str], bytes] | None:
-    """Return what makes a PDF of a page, without reading any other file.
+    """Return a function that makes a PDF of a page, without reading any other file.
 
-    None where weasyprint is not installed.
+    None if weasyprint is not installed.
     """
     try:
         import weasyprint

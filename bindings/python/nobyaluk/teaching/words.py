@@ -1,6 +1,6 @@
 """The words of sheets and keys in English, German and French.
 
-The browser page says the same things in bindings/wasm/texts.tsv.
+bindings/wasm/texts.tsv has the words of the browser page.
 """
 import re
 
@@ -126,8 +126,8 @@ _WORDS = {
     ),
     "rule.next": (
         (
-            "All from the state before the step. Then: held + entering + release − outflow; queue +"
-            " arrivals − release; at the gate queue + arrivals − outflow."
+            "All values are those of the state before the step. Then: held + entering + release −"
+            " outflow; queue + arrivals − release; at the gate queue + arrivals − outflow."
         ),
         (
             "Alles folgt aus dem Zustand vor dem Schritt. Danach gilt: Bestand + einfahrend +"
@@ -281,7 +281,7 @@ class Words:
         return f"{int(x):,}".replace(",", _THOUSANDS[self.language])
 
     def decimal(self, x: float, places: int) -> str:
-        """Return a number with so many decimals."""
+        """Return a number with `places` decimals."""
         whole, _, rest = f"{x:,.{places}f}".partition(".")
         return (
             whole.replace(",", _THOUSANDS[self.language])
@@ -291,11 +291,11 @@ class Words:
 
     @property
     def colon(self) -> str:
-        """The colon, with the blank that French has before it."""
+        """The colon; in French a blank precedes it."""
         return _COLON[self.language]
 
     def narrow(self, words: str) -> str:
-        """Return words for a narrow column, which shows a hyphen where it breaks one."""
+        """Return words for a narrow column, with a hyphen where a word may break."""
         return (
             re.sub("|".join(_SOFT), lambda x: _SOFT[x[0]], words)
             if self.language == "de"

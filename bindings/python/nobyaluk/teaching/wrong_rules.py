@@ -1,9 +1,7 @@
 """Wrong programs, run to recognise their answers; docs/BY-HAND.md describes them.
 
-Nothing here is a number of the model.
-
-Each goes step by step in whole numbers, as a student would on paper. The rules of one place that it
-gets right are the engine's own.
+Nothing here is a number of the model. Each program goes step by step in whole numbers, as a student
+does on paper. It takes the rules of one place that it gets right from the engine.
 """
 from collections.abc import Iterator
 from dataclasses import dataclass
@@ -18,7 +16,7 @@ from ..engine import BaseRecord
 class WrongRun:
     """The answer of a wrong program.
 
-    Its outflows, and the time spent at the gate, in the cells and at the ramps, in part-steps.
+    It has outflows, and the time spent at the gate, in the cells and at the ramps, in part-steps.
     """
 
     outflow: np.ndarray
@@ -36,7 +34,7 @@ class WrongRun:
 class _Paper:
     """The counts that a student keeps on paper.
 
-    Gate queue and held counts together, ramp queues, cumulative outflows.
+    They are gate queue and held counts in one list, ramp queues, and cumulative outflows.
     """
 
     def __init__(self, record: BaseRecord, lanes: bytes) -> None:
@@ -65,7 +63,7 @@ class _Paper:
     def room(self, step: int, cell: int) -> int:
         """Return what the release leaves of a cell's supply.
 
-        Nothing where the cell is overfull, as it may become by a wrong rule.
+        It is 0 if a wrong rule has overfilled the cell.
         """
         i = cell - 1
         if self.held[cell] > self.road.jam[i]:
@@ -85,7 +83,7 @@ class _Paper:
 
 
 def _summed(paper: _Paper, steps: Iterator[list[int]]) -> WrongRun:
-    """Return all steps of a wrong program, and who is present after each."""
+    """Return the run of all steps of a wrong program, with the time spent at each place."""
     outflow, gate, road, ramp = [], 0, 0, 0
     for step, sent in enumerate(steps):
         paper.arrive(step)
@@ -97,7 +95,7 @@ def _summed(paper: _Paper, steps: Iterator[list[int]]) -> WrongRun:
 def round_shares_alone(record: BaseRecord, lanes: bytes = b"") -> WrongRun:
     """Return the run in which each step's share is rounded down by itself.
 
-    The rule is the growth of the onward total.
+    The right rule is the growth of the onward total.
     """
     paper = _Paper(record, lanes)
 
@@ -121,9 +119,9 @@ def round_shares_alone(record: BaseRecord, lanes: bytes = b"") -> WrongRun:
 def move_one_after_another(
     record: BaseRecord, lanes: bytes = b"", last_first: bool = True
 ) -> WrongRun:
-    """Return the places moved one after another, each by the state that the one before it left.
+    """Return the run whose places move one after another, from the last cell or from the gate.
 
-    From the last cell, or from the gate.
+    Each place moves in the state that the one before it left.
     """
     paper = _Paper(record, lanes)
 

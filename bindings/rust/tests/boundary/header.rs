@@ -93,7 +93,7 @@ fn without_comments(text: &str) -> String {
     code
 }
 
-/// What stands for C++ alone goes too.
+/// Lines that are only for C++ are removed too.
 fn without_preprocessor(code: &str) -> String {
     let (mut kept, mut for_cplusplus) = (String::new(), false);
     for line in code.lines() {
@@ -126,7 +126,7 @@ fn statements(code: &str) -> Vec<String> {
     found
 }
 
-/// A struct's name stands last, a function's before its arguments.
+/// A struct's name comes last, a function's before its arguments.
 fn name_of(statement: &str) -> &str {
     let head = match statement.starts_with("typedef") {
         true => statement,

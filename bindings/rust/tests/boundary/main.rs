@@ -1,4 +1,4 @@
-//! The boundary held together: the header to its number, and this crate's structs and functions to the header.
+//! Compares the header with its version, and this crate's structs and functions with the header.
 mod header;
 
 use header::{declarations, Declaration};
@@ -24,7 +24,7 @@ bindings/python/nobyaluk/library.py. Then add the header's lines, under the new 
 const NEW: &str = "The header has declarations that bindings/c/versions.tsv has not under this number. One more leaves callers as they are; \
 add:";
 
-/// What is wrong with a header beside the table of its numbers, in sentences.
+/// The faults of a header, compared with the table of its versions, in sentences.
 fn faults(header: &str, versions: &str) -> Vec<String> {
     let Some(number) = header::number(header) else {
         return vec!["bindings/c/nobyaluk.h has no NOBYALUK_VERSION".into()];

@@ -22,7 +22,7 @@ fn with(cases: &mut Cases, change: impl FnOnce(&mut Draft)) {
     cases.draft(&draft);
 }
 
-/// Cut to so many bytes, with a true first field where there is room for it.
+/// Cut to this many bytes, with a true first field if there is room for it.
 /// From 16 bytes on the frame passes 1.
 fn short(cases: &mut Cases) {
     for count in [0, 1, 3, 4, 15, 16, 17] {

@@ -85,7 +85,7 @@ const RELEASES: [Change; 12] = [
     |d| (d.rows[0][2], d.rows[0][6], d.cells[2].held) = (780, 791, 8_000),
 ];
 
-/// 11 and 12 beside 1, 5, 6, 9, 10, 13 and 14.
+/// 11 and 12 together with 1, 5, 6, 9, 10, 13 and 14.
 fn lengths(cases: &mut Cases) {
     let changes: [Change; 6] = [
         |_| (),
@@ -191,7 +191,7 @@ fn outflows(cases: &mut Cases) {
     }
 }
 
-/// 9 or 10 beside 13 or 14: in one step releases come first, otherwise the
+/// 9 or 10 together with 13 or 14: in one step releases come first, otherwise the
 /// earlier step.
 fn releases_and_outflows(cases: &mut Cases) {
     // The last cell's release above its queue, and above its supply.

@@ -1,4 +1,4 @@
-//! A failure told: what differs, the case in words, and a file to put it again.
+//! The report of a failure: what differs, the case in words, and a file to run it again.
 
 use crate::frame;
 use crate::show;
@@ -14,10 +14,10 @@ const FOLDER: &str = "target/trials";
 const LINES: usize = 40;
 
 /// `name` says where the case is from, and names the file.
-pub fn tell(name: &str, case: &Case, failure: &Failure) {
+pub fn print(name: &str, case: &Case, failure: &Failure) {
     print!("FAILED {}, {name}\n{failure}", show::kind(case));
     match keep(name, case) {
-        Ok(file) => println!("  to put it again: trials --replay {}", file.display()),
+        Ok(file) => println!("  to run it again: trials --replay {}", file.display()),
         Err(error) => println!("  there is no file of it: {FOLDER}: {error}"),
     }
     let text = show::case(case);
@@ -26,7 +26,7 @@ pub fn tell(name: &str, case: &Case, failure: &Failure) {
     }
     let more = text.lines().count().saturating_sub(LINES);
     if more > 0 {
-        println!("    and {more} lines more, which --replay shows");
+        println!("    and {more} more lines, which --replay shows");
     }
 }
 
