@@ -123,24 +123,25 @@ class Cluster:
             self.watch()
         batches, sent = Batches(items, DASK_TASK, DASK_GROWTH), dumps(run)
         pending: deque = deque()
-        threads = max(1, sum(self.client.nthreads().values()))
+        threads, seconds = max(1, sum(self.client.nthreads().values())), 0.0
         submit = lambda group: self.client.submit(_packed, sent, dumps(group), pure=False)
         try:
             more = True
             while True:
-                ahead = 4 * threads if batches.each else threads
-                while more and len(pending) < ahead:
+                ahead = 4 if seconds > DASK_TASK / 2 else 2 if seconds else 1  # while tasks grow
+                while more and len(pending) < ahead * threads:
                     if more := bool(group := batches.next()):
                         pending.append((submit(group), group))
                 if not pending:
                     return
                 future, group = pending.popleft()
                 try:
-                    seconds, out = wait_for(future, self.watch)
+                    seconds, found = wait_for(future, self.watch)
                     batches.took(len(group), seconds)
-                    yield pickle.loads(out)
+                    out = pickle.loads(found)
                 except KilledWorker:
-                    yield [self._alone(x, submit([x]), lost, KilledWorker) for x in group]
+                    out = [self._alone(x, submit([x]), lost, KilledWorker) for x in group]
+                yield out
         except (CancelledError, OSError) as e:
             raise NoCluster(
                 f"the cluster at {self.address} was lost:"
@@ -172,9 +173,9 @@ def _packed(run: bytes, items: bytes) -> tuple[float, bytes]:
 
     As bytes, so that Dask looks through none of them.
     """
-    wall, own = time.perf_counter(), time.thread_time()
     if getattr(_kept, "bytes", None) != run:  # most tasks of a thread are of one sweep
         _kept.bytes, _kept.run = run, pickle.loads(run)
+    wall, own = time.perf_counter(), time.thread_time()
     out = pickle.dumps(_kept.run(pickle.loads(items)))
     return (
         max(time.thread_time() - own, (time.perf_counter() - wall) / 4),

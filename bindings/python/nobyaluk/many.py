@@ -161,12 +161,13 @@ class Seeds:
     limit = BITS - 1
 
     def __init__(self, base: Study, peak: int, ramp_peak: int) -> None:
-        self.table, cells = base.record.arrivals, list(base.ramps.values())
+        self.table = base.record.arrivals
         self.peaks = [to_unsigned(x, 32) for x in (peak, ramp_peak)]
         if max(self.peaks) > engine.RATE:
             raise ValueError("a peak above its limit is refused by itself")
-        places = np.arange(self.table.size).reshape(self.table.shape)
-        self.places = places[:, [0, *cells]].T.ravel()  # of what is drawn: the gate's, each ramp's
+        steps, width = self.table.shape
+        rows = np.arange(0, steps * width, width)
+        self.places = np.add.outer([0, *base.ramps.values()], rows).ravel()  # of what is drawn
 
     def fill(self, seeds: Sequence[int], out: np.ndarray) -> None:
         """Make the tables of these seeds: the gate's arrivals, then each ramp's."""
@@ -304,7 +305,7 @@ SHORT = 9  # number, step, place; gate, road, ramp time; exits; the gate's and t
 
 
 def short_entries(answers: np.ndarray, n: int) -> np.ndarray:
-    """Return what a table needs of the entries of studies of n cells."""
+    """Return what a table needs of the entries of studies of n cells, in their own place."""
     out = answers[:, :SHORT]
     out[:, 7] = out[:, 8]  # the gate's queue without the step's arrivals
     np.max(answers[:, SHORT : SHORT + n], axis=1, out=out[:, 8])
