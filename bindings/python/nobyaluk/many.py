@@ -146,13 +146,16 @@ class Loads:
             for table, top in zip(out, tops):
                 table[:] = times_factor(self.table, Fraction(top, self.unit))
             return
-        divisor = np.uint32(2 * self.unit)
+        sums, more, last, step = self.sums, self.more, self.last, self.step
+        divisor = np.array(2 * self.unit, np.uint32)  # numpy would make one for each table
         for table, top in zip(out, tops):
-            if (step := top - self.last) != self.step:
-                self.step, self.more = step, self.table * np.uint32(2 * step % BITS)
-            self.last = top
-            self.sums += self.more
-            np.floor_divide(self.sums, divisor, out=table)
+            if top - last != step:
+                step = top - last
+                more = self.table * np.uint32(2 * step % BITS)
+            last = top
+            np.add(sums, more, sums)
+            np.floor_divide(sums, divisor, table)
+        self.more, self.last, self.step = more, last, step
 
 
 class Seeds:
@@ -161,23 +164,20 @@ class Seeds:
     limit = BITS - 1
 
     def __init__(self, base: Study, peak: int, ramp_peak: int) -> None:
-        self.table = base.record.arrivals
+        self.table, self.places = base.record.arrivals, np.array([0, *base.ramps.values()])
         self.peaks = [to_unsigned(x, 32) for x in (peak, ramp_peak)]
         if max(self.peaks) > engine.RATE:
             raise ValueError("a peak above its limit is refused by itself")
-        steps, width = self.table.shape
-        rows = np.arange(0, steps * width, width)
-        self.places = np.add.outer([0, *base.ramps.values()], rows).ravel()  # of what is drawn
 
     def fill(self, seeds: Sequence[int], out: np.ndarray) -> None:
         """Make the tables of these seeds: the gate's arrivals, then each ramp's."""
         steps, (peak, ramp_peak) = len(self.table), self.peaks
-        drawn = np.empty(self.places.size, np.uint32)
+        drawn = np.empty((len(self.places), steps), np.uint32)
         at, count = lend(drawn)
-        for table, seed in zip(out.reshape(len(out), -1), seeds):
+        for columns, seed in zip(out.transpose(0, 2, 1), seeds):
             last = library.load(seed, peak, at, steps).last
             library.load(last, ramp_peak, at + 4 * steps, count - steps)
-            table[self.places] = drawn
+            columns[self.places] = drawn
 
 
 class Batch:

@@ -29,7 +29,8 @@ from .sweep_studies import Sweep
 from .totals import Totals, totals_and_queues
 
 PARTS = ("total", "gate", "road", "ramp")
-ROW = "%s,%.4f,%.4f,%.4f,%.4f,%s,%s,%s,\n"  # of a study that has numbers, without a weighted total
+ROW = "%s,%.4f,%.4f,%.4f,%.4f,%d%s,%d%s,%d%s,\n"  # with numbers, without a weighted total
+THOUSANDTHS = np.array([repr(x / 1000)[1:] for x in range(1000)], object)  # as .0 and .125
 PATIENCE = 3  # seconds that a file may still be held by processes of a sweep that was killed
 
 
@@ -101,14 +102,14 @@ class SweepRows:
 
     def lines(self, ks: Sequence[int], entries: np.ndarray) -> list[str]:
         """Return the rows of short entries."""
-        gate, road, ramp = entries[:, 3:6].T * self.factor
-        waiting, longest, exits = entries[:, [7, 8, 6]].T / 1000
-        columns = (gate + road + ramp, gate, road, ramp, waiting, longest, exits)
-        texts = self.sweep.texts(ks)
+        texts, (gate, road, ramp) = self.sweep.texts(ks), entries[:, 3:6].T * self.factor
+        columns = [gate + road + ramp, gate, road, ramp]
+        for whole, part in zip(*np.divmod(entries[:, [7, 8, 6]].T, 1000)):  # queues, and what left
+            columns += [whole, THOUSANDTHS[part]]
         out = [ROW % row for row in zip(texts, *[x.tolist() for x in columns])]
         for at in np.flatnonzero(entries[:, 0]).tolist():
             why = " ".join(map(str, entries[at, :3].tolist()))
-            out[at] = f"{texts[at]}{',' * (len(columns) + 1)}{why}\n"
+            out[at] = f"{texts[at]}{',' * (len(self.heading) - len(self.sweep.axes))}{why}\n"
         return out
 
     def line(self, k: int, t: Totals) -> str:
