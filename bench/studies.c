@@ -1,6 +1,6 @@
-/* Runs records of standard input through nobyaluk_run and nobyaluk_fill, again and again: the least seconds of a pass over all of them, and
- * the sum of all totals. Before the records come 64 kinds of laws and 192 numbers. Each record has memory of its own, as Python's have: side
- * by side in one block they'd be read ahead. */
+/* Runs the records of a file through nobyaluk_run or nobyaluk_fill, all of them for each line of standard input that says which, and prints the
+ * seconds of processor time and the sum of all totals. Before the records the file has 64 kinds of laws and 192 numbers. Each record has memory of
+ * its own, as Python's have: side by side in one block they'd be read ahead. */
 #include "../bindings/c/nobyaluk.h"
 #include <stdio.h>
 #include <stdlib.h>
@@ -21,16 +21,16 @@ static double now(void) {
     return t.tv_sec + t.tv_nsec / 1e9;
 }
 
-/* The next record of standard input: 1, or 0 at its end. */
-static int next_record(uint8_t **record, size_t *size) {
+/* The next record of a file: 1, or 0 at its end. */
+static int next_record(FILE *file, uint8_t **record, size_t *size) {
     uint8_t head[4];
-    if (fread(head, 1, sizeof head, stdin) != sizeof head) return 0;
+    if (fread(head, 1, sizeof head, file) != sizeof head) return 0;
     size_t rest = (size_t)head[0] << 24 | head[1] << 16 | head[2] << 8 | head[3];
     *size = sizeof head + rest;
     *record = malloc(*size);
     if (!*record) return 0;
     memcpy(*record, head, sizeof head);
-    return fread(*record + sizeof head, 1, rest, stdin) == rest;
+    return fread(*record + sizeof head, 1, rest, file) == rest;
 }
 
 /* A record's total, run or filled. */
@@ -40,21 +40,17 @@ static uint64_t total(int i, int filled) {
 }
 
 int main(int count, char **words) {
-    int passes = count > 1 ? atoi(words[1]) : 20;
+    char line[16];
     int all = 0;
-    if (fread(kinds, 1, sizeof kinds, stdin) != sizeof kinds || fread(numbers, 1, sizeof numbers, stdin) != sizeof numbers) return 1;
-    while (all < MOST_RECORDS && next_record(&records[all], &sizes[all])) all++;
-    for (int filled = 0; filled < 2; filled++) {
-        double least = 1e9;
+    FILE *file = count == 2 ? fopen(words[1], "rb") : NULL;
+    if (!file || fread(kinds, 1, sizeof kinds, file) != sizeof kinds || fread(numbers, 1, sizeof numbers, file) != sizeof numbers) return 1;
+    while (all < MOST_RECORDS && next_record(file, &records[all], &sizes[all])) all++;
+    while (fgets(line, sizeof line, stdin)) {
+        double start = now();
         uint64_t sum = 0;
-        for (int pass = 0; pass < passes; pass++) {
-            double start = now();
-            sum = 0;
-            for (int i = 0; i < all; i++) sum += total(i, filled);
-            double took = now() - start;
-            if (took < least) least = took;
-        }
-        printf("%.6f %llu\n", least, (unsigned long long)sum);
+        for (int i = 0; i < all; i++) sum += total(i, line[0] == 'f');
+        printf("%.9f %llu\n", now() - start, (unsigned long long)sum);
+        fflush(stdout);
     }
     return 0;
 }

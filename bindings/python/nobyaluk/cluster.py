@@ -2,23 +2,25 @@
 import logging
 import pickle
 import sys
+import threading
 import time
 from collections import deque
-from collections.abc import Callable, Iterable, Iterator
+from collections.abc import Iterable, Iterator
 from concurrent.futures import CancelledError, Executor, Future
 from contextlib import suppress
 from typing import Any
 
 from .errors import StudyError, show
-from .parallel import Recipe, describe_study, run_group, wait_for
-from .study import Study
-from .totals import Totals, totals, totals_and_queues
-from .workers import Batches
+from .parallel import wait_for
+from .workers import Batches, Lost, Run
 
 TIMEOUT = 20  # seconds until a scheduler has answered
 PATIENCE = 60  # seconds that a cluster may be without workers
 LOGGERS = ("distributed", "concurrent.futures", "tornado", "asyncio")  # of Dask
 DASK_TASK = 0.05  # seconds that a task of a cluster should take
+DASK_GROWTH = 64  # how many times as many studies as one a task has at most after it
+
+_kept = threading.local()
 
 
 class NoCluster(Exception):
@@ -104,15 +106,13 @@ class Cluster:
                 f"the cluster at {self.address} has no workers, and none came within {PATIENCE} s"
             )
 
-    def spread(
-        self, studies: Iterable[Study | str | Recipe], each: Callable[[Study], Any] = totals
-    ) -> Iterator[list[Any]]:
-        """Return what `each` gives of every study, in groups in their order, by its workers.
+    def spread(self, items: Iterable[Any], run: Run, lost: Lost) -> Iterator[list[Any]]:
+        """Return what `run` gives of every item, in groups in their order, by its workers.
 
         NoCluster where they are lost on the way.
 
-        A task takes some milliseconds. The studies of one at which workers die are run again one by
-        one, and then named.
+        A task takes some milliseconds. The items of one at which workers die are run again one by
+        one; of those at which they die then, `lost` gives the answer.
         """
         from distributed import KilledWorker
         from distributed.protocol.pickle import dumps  # which takes functions of a notebook too
@@ -121,24 +121,26 @@ class Cluster:
         while self.without is not None:
             time.sleep(min(1, PATIENCE / 4))
             self.watch()
-        batches = Batches(studies, DASK_TASK)
+        batches, sent = Batches(items, DASK_TASK, DASK_GROWTH), dumps(run)
         pending: deque = deque()
-        ahead = max(8, 4 * sum(self.client.nthreads().values()))
-        submit = lambda group: self.client.submit(_packed, dumps((each, group)), pure=False)
+        threads, seconds = max(1, sum(self.client.nthreads().values())), 0.0
+        submit = lambda group: self.client.submit(_packed, sent, dumps(group), pure=False)
         try:
             more = True
             while True:
-                while more and len(pending) < ahead:
+                ahead = 4 if seconds > DASK_TASK / 2 else 2 if seconds else 1  # while tasks grow
+                while more and len(pending) < ahead * threads:
                     if more := bool(group := batches.next()):
                         pending.append((submit(group), group))
                 if not pending:
                     return
                 future, group = pending.popleft()
                 try:
-                    seconds, out = wait_for(future, self.watch)
-                    batches.took(len(out), seconds)
+                    seconds, found = wait_for(future, self.watch)
+                    batches.took(len(group), seconds)
+                    out = pickle.loads(found)
                 except KilledWorker:
-                    out = [self._alone(each, x, submit([x]), KilledWorker) for x in group]
+                    out = [self._alone(x, submit([x]), lost, KilledWorker) for x in group]
                 yield out
         except (CancelledError, OSError) as e:
             raise NoCluster(
@@ -149,26 +151,16 @@ class Cluster:
             with suppress(Exception):  # whatever a lost connection raises
                 self.client.cancel([future for future, _ in pending])
 
-    def _alone(
-        self,
-        each: Callable[[Study], Any],
-        x: Study | str | Recipe,
-        future: Future,
-        killed: type[Exception],
-    ) -> Any:
-        """Run one study of a task at which workers died."""
+    def _alone(self, x: Any, future: Future, lost: Lost, killed: type[Exception]) -> Any:
+        """Run one item of a task at which workers died."""
         try:
-            return wait_for(future, self.watch)[1][0]
+            return pickle.loads(wait_for(future, self.watch)[1])[0]
         except killed:
-            if each not in (totals, totals_and_queues):
-                raise
-            return Totals(
-                describe_study(x),
-                fault=(
-                    "workers of the cluster ended at it, again and again; it may need more memory"
-                    " than they have"
-                ),
+            fault = (
+                "workers of the cluster ended at it, again and again; it may need more memory than"
+                " they have"
             )
+            return lost(x, fault)
 
     def close(self) -> None:
         """Close the connection; one that is lost is left."""
@@ -176,13 +168,15 @@ class Cluster:
             self.client.close(timeout=2)
 
 
-def _packed(task: bytes) -> tuple[float, list[Any]]:
+def _packed(run: bytes, items: bytes) -> tuple[float, bytes]:
     """Return a task's answers, with the seconds that they took.
 
-    As bytes, so that Dask looks through none of its studies.
+    As bytes, so that Dask looks through none of them.
     """
+    if getattr(_kept, "bytes", None) != run:  # most tasks of a thread are of one sweep
+        _kept.bytes, _kept.run = run, pickle.loads(run)
     wall, own = time.perf_counter(), time.thread_time()
-    out = run_group(*pickle.loads(task))
+    out = pickle.dumps(_kept.run(pickle.loads(items)))
     return (
         max(time.thread_time() - own, (time.perf_counter() - wall) / 4),
         out,

@@ -139,6 +139,25 @@ class LongRecord(BaseRecord):
         return held, queue
 
 
+class _FilledRecord(LongRecord):
+    """A record whose stretches were filled: its rows are read from them when somebody asks."""
+
+    @property
+    def steps(self) -> int:
+        """T, the number of steps."""
+        return self.stretches[-1].begin + self.stretches[-1].steps
+
+    @cached_property
+    def rows(self) -> np.ndarray:
+        """Arrivals and releases in parts a step, shape (T, 1 + 2n); read-only."""
+        n = self.road.n
+        out = np.empty((self.steps, 1 + 2 * n), np.uint32)
+        for s in self.stretches:
+            lent = lend(out[s.begin : s.begin + s.steps])
+            library.rows(s.data, len(s.data), n, s.steps, *lent)
+        return freeze(out)
+
+
 def most_steps(road: Road) -> int:
     """Return the number of steps that a record of this road holds."""
     head = 18 if road.version == 2 else 16
@@ -323,19 +342,18 @@ def fill_long(
     kinds, numbers = engine.encode_laws(laws)
     engine.check_laws(record, laws)
     w, given = _Whole(record, lanes), (kinds.tobytes(), engine.CELLS, *lend(numbers))
-    rows, past = np.empty_like(record.rows), library.Progress()
-    stretches = []
+    past, stretches = library.Progress(), []
+    lent, _ = lend(scratch := np.empty(engine.BYTES, np.uint8))  # which the engine fills
     for s, own, at in w.stretches():
-        past.state = w.state
-        data, size = ctypes.create_string_buffer(s.data, len(s.data)), len(s.data)
+        past.state, size = w.state, len(s.data)
+        ctypes.memmove(lent, s.data, size)
         out = lend(w.outflow[at])
-        a = library.fill_on(ctypes.addressof(data), size, *given, own, len(own), past, *out)
+        a = library.fill_on(lent, size, *given, own, len(own), past, *out)
         w.take_longest(s, a.longest, "fill_on")
         past.releases, past.entries = a.releases, a.entries
-        stretches.append(Stretch(s.begin, s.steps, data.raw))
-        library.rows(stretches[-1].data, size, w.n, s.steps, *lend(rows[at]))
-    filled = LongRecord(record.road, record.start, rows)
-    filled.__dict__["stretches"] = stretches
+        stretches.append(s._replace(data=scratch[:size].tobytes()))
+    filled = _FilledRecord.__new__(_FilledRecord)
+    filled.__dict__.update(road=record.road, start=record.start, stretches=stretches)
     return run_long(filled, lanes, weights) if weights else w.run(filled)
 
 

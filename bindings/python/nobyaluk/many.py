@@ -1,14 +1,15 @@
-"""Studies that differ in their arrivals alone, many of them by one call of the engine.
+"""Studies that differ in their arrivals or their laws alone, many of them in a few calls.
 
-`nobyaluk.map` and `sweep` take it by themselves for recipes of `Study.scaled` and
-`Study.with_stated_load` of one study, where a record holds it, every ramp goes by a law or by the
-record's releases, and nothing is weighted. The arrivals of some studies at a time are made by numpy
-in one table, and no study of its own is made of them. Each answer is what running or filling gives
-of the study by itself; what can't be made is made by itself, so that its fault has its words.
+`nobyaluk.map` takes it by itself for recipes of `Study.scaled` and `Study.with_stated_load` of one
+study, where a record holds it, every ramp goes by a law or by the record's releases, and nothing is
+weighted; `sweep` does so also for a law's numbers. The arrivals of some studies at a time are made
+by numpy in one table, and no study of its own is made of them. Each answer is what running or
+filling gives of the study by itself; what can't be made is made by itself, so that its fault has
+its words.
 """
 import math
 import threading
-from collections.abc import Callable, Iterator, Sequence
+from collections.abc import Callable, Iterator, Mapping, Sequence
 from fractions import Fraction
 from functools import partial
 from typing import Any, NamedTuple
@@ -17,11 +18,12 @@ import numpy as np
 
 from . import engine, library
 from .arrays import lend, to_bytes, to_unsigned
-from .engine import Record, Refused
+from .engine import Law, Record, Refused
 from .errors import StudyError
 from .study import Study, load_factor, load_name, seed_name, times_factor
 from .totals import Totals, outflows, totals, totals_and_queues
 
+BITS = 1 << 32  # what arrivals and their sums are below
 TABLES = 1 << 20  # bytes of the arrivals that one call is given
 MOST = 512  # studies of one call
 QUEUES: dict[Callable[[Study], Any], bool] = {
@@ -36,7 +38,7 @@ class Member(NamedTuple):
     """A study of a batch: what it is called, and the number that its arrivals are made by."""
 
     name: str
-    number: Any  # a load's Fraction, or a seed
+    number: int
 
 
 def kind_of(x: Any) -> tuple[str, int] | None:
@@ -73,86 +75,117 @@ def run_together(
     base = group[0].func.__self__
     if not fits(base):
         return [alone(x) for x in group]
+    members_of = _loads if group[0].func.__func__ is Study.scaled else _seeds
     try:
-        batch = _Batch(base, queues)
-        make: _Loads | _Seeds = (
-            _Loads(base) if group[0].func.__func__ is Study.scaled else _Seeds(base, group[0])
-        )
+        batch = Batch(base)
+        make, members = members_of(base, group)
     except (StudyError, ValueError, TypeError):
         return [alone(x) for x in group]
-    members = [make.member(x.args[0]) for x in group]
-    found = batch.totals(make, [x for x in members if x is not None])
+    found = iter(batch.totals(make, [x for x in members if x is not None], queues))
     return [alone(x) if member is None else next(found) for x, member in zip(group, members)]
 
 
-class _Loads:
-    """Tables of a study's arrivals times numbers, each rounded to the nearest part, halves up."""
+Members = list[Member | None]  # None for what is run by itself
 
-    def __init__(self, base: Study) -> None:
-        self.name, self.table = base.name, base.record.arrivals
+
+def _loads(base: Study, group: Sequence[partial]) -> tuple["Loads | Seeds", Members]:
+    """Return what makes the arrivals of recipes of loads, and their numbers."""
+    factors = [_factor(x.args[0]) for x in group]
+    make = Loads(base, math.lcm(*(x.denominator for x in factors if x is not None)))
+    members: Members = []
+    for x in factors:
+        if x is None or (top := x.numerator * (make.unit // x.denominator)) > make.limit:
+            members.append(None)
+        else:
+            members.append(Member(load_name(base.name, x), top))
+    return make, members
+
+
+def _factor(load: Any) -> Fraction | None:
+    """Return what a load multiplies by; None where it is none."""
+    try:
+        return load_factor(load)
+    except (StudyError, TypeError, ValueError, OverflowError):
+        return None
+
+
+def _seeds(base: Study, group: Sequence[partial]) -> tuple["Loads | Seeds", Members]:
+    """Return what makes the arrivals of recipes of seeds, and their numbers."""
+    return Seeds(base, *group[0].args[1:]), [_seed(base.name, x.args[0]) for x in group]
+
+
+def _seed(name: str, seed: Any) -> Member | None:
+    """Return a seed and its study's name; None where it is none."""
+    try:
+        return Member(seed_name(name, seed), to_unsigned(seed, 32))
+    except (TypeError, ValueError):
+        return None
+
+
+class Loads:
+    """Tables of a study's arrivals times loads, each rounded to the nearest part, halves up.
+
+    A load is a whole number over the unit, up to a limit where a step would have too many.
+    """
+
+    def __init__(self, base: Study, unit: int) -> None:
+        self.table, self.unit = base.record.arrivals, unit
         self.most = int(self.table.max())
+        self.limit = engine.RATE * unit
+        if self.most:
+            self.limit = min(self.limit, (unit * (2 * engine.RATE + 1) - 1) // (2 * self.most))
+        self.sums = np.full_like(self.table, unit % BITS)  # of the last load, before the division
+        self.last, self.step, self.more = 0, 0, np.zeros_like(self.table)
 
-    def member(self, load: Any) -> Member | None:
-        """Return a load's name and factor; None where it is none, or a step would have too many."""
-        try:
-            factor = load_factor(load)
-        except (StudyError, TypeError, ValueError, OverflowError):
-            return None
-        top, whole = 2 * self.most * factor.numerator, 2 * factor.denominator
-        if top + factor.denominator >= whole * (engine.RATE + 1):
-            return None
-        return Member(load_name(self.name, factor), factor)
+    def fill(self, tops: Sequence[int], out: np.ndarray) -> None:
+        """Make the tables: twice the arrivals times the load and one unit, over two units.
 
-    def fill(self, factors: Sequence[Fraction], out: np.ndarray) -> None:
-        """Make the tables of these factors: by one division of all, or one by one."""
-        whole = math.lcm(*(x.denominator for x in factors))
-        times = [2 * x.numerator * (whole // x.denominator) for x in factors]
-        if self.most * max(times) + whole >= 1 << 32:
-            for table, factor in zip(out, factors):
-                table[:] = times_factor(self.table, factor)
+        The sums grow by the same from table to table, where the loads do; all are of 32 bits.
+        """
+        if 2 * self.most * max(tops) + self.unit >= BITS or 2 * self.unit >= BITS:
+            for table, top in zip(out, tops):
+                table[:] = times_factor(self.table, Fraction(top, self.unit))
             return
-        np.multiply(self.table, np.array(times, np.uint32)[:, None, None], out=out)
-        out += np.uint32(whole)
-        out //= np.uint32(2 * whole)
+        sums, more, last, step = self.sums, self.more, self.last, self.step
+        divisor = np.array(2 * self.unit, np.uint32)  # numpy would make one for each table
+        for table, top in zip(out, tops):
+            if top - last != step:
+                step = top - last
+                more = self.table * np.uint32(2 * step % BITS)
+            last = top
+            np.add(sums, more, sums)
+            np.floor_divide(sums, divisor, table)
+        self.more, self.last, self.step = more, last, step
 
 
-class _Seeds:
+class Seeds:
     """Tables of a study's arrivals under the stated loads of seeds."""
 
-    def __init__(self, base: Study, first: partial) -> None:
-        self.name, self.table = base.name, base.record.arrivals
-        self.cells = list(base.ramps.values())
-        self.peaks = [to_unsigned(x, 32) for x in first.args[1:]]
+    limit = BITS - 1
+
+    def __init__(self, base: Study, peak: int, ramp_peak: int) -> None:
+        self.table, self.places = base.record.arrivals, np.array([0, *base.ramps.values()])
+        self.peaks = [to_unsigned(x, 32) for x in (peak, ramp_peak)]
         if max(self.peaks) > engine.RATE:
             raise ValueError("a peak above its limit is refused by itself")
-
-    def member(self, seed: Any) -> Member | None:
-        """Return a seed and its study's name; None where it is none."""
-        try:
-            return Member(seed_name(self.name, seed), to_unsigned(seed, 32))
-        except (TypeError, ValueError):
-            return None
 
     def fill(self, seeds: Sequence[int], out: np.ndarray) -> None:
         """Make the tables of these seeds: the gate's arrivals, then each ramp's."""
         steps, (peak, ramp_peak) = len(self.table), self.peaks
-        drawn = np.empty((len(seeds), 1 + len(self.cells), steps), np.uint32)
-        at, _ = lend(drawn)
-        for seed in seeds:
+        drawn = np.empty((len(self.places), steps), np.uint32)
+        at, count = lend(drawn)
+        for columns, seed in zip(out.transpose(0, 2, 1), seeds):
             last = library.load(seed, peak, at, steps).last
-            library.load(last, ramp_peak, at + 4 * steps, steps * len(self.cells))
-            at += drawn.strides[0]
-        out[:] = self.table
-        for k, cell in enumerate([0, *self.cells]):
-            out[:, :, cell] = drawn[:, k]
+            library.load(last, ramp_peak, at + 4 * steps, count - steps)
+            columns[self.places] = drawn
 
 
-class _Batch:
+class Batch:
     """A study's record, lanes and laws, as the engine's batch takes them."""
 
-    def __init__(self, base: Study, queues: bool) -> None:
+    def __init__(self, base: Study) -> None:
         record = base.record
-        self.base, self.queues, self.steps, self.n = base, queues, record.steps, record.road.n
+        self.base, self.steps, self.n = base, record.steps, record.road.n
         self.lanes = to_bytes(base.lanes)
         self.laws: tuple[np.ndarray, np.ndarray] | None = None
         if base.laws:
@@ -160,21 +193,19 @@ class _Batch:
             self.laws = engine.encode_laws(base.laws)
         data = engine.record_data(record)
         self.record = np.frombuffer(data, np.uint8).copy()  # the engine puts arrivals into it
-        start = record.start
-        self.started = (
-            start.gate_queue + sum(start.held[: self.n]) + sum(start.queue[: self.n])
-        )  # parts
 
-    def totals(self, make: _Loads | _Seeds, members: Sequence[Member]) -> Iterator[Totals]:
-        """Yield the totals of studies, some of them by each call."""
+    def answers(
+        self, make: Loads | Seeds, numbers: Sequence[int]
+    ) -> Iterator[tuple[np.ndarray, np.ndarray]]:
+        """Yield the entries of studies and their arrivals, some of them by each call."""
         size = self.steps * (self.n + 1)
-        most = max(1, min(MOST, TABLES // (4 * size)))
-        for at in range(0, len(members), most):
-            some = members[at : at + most]
-            tables = _buffer(len(some) * size).reshape(len(some), self.steps, self.n + 1)
-            make.fill([x.number for x in some], tables)
-            answers = self.call(tables)
-            yield from self.told(some, answers, _sums(tables.reshape(len(some), size)))
+        most = max(1, min(MOST, TABLES // (4 * size), len(numbers)))
+        tables = _buffer(most * size).reshape(most, self.steps, self.n + 1)
+        tables[:] = make.table
+        for at in range(0, len(numbers), most):
+            some = tables[: len(numbers) - at]
+            make.fill(numbers[at : at + most], some)
+            yield self.call(some), some
 
     def call(self, tables: np.ndarray) -> np.ndarray:
         """Return the entries of studies with these arrivals."""
@@ -191,15 +222,19 @@ class _Batch:
             engine.raise_if_refused(a, "fill_many", step=0)
         return answers
 
-    def told(
-        self, some: Sequence[Member], answers: np.ndarray, arrived: list[int]
+    def totals(
+        self, make: Loads | Seeds, members: Sequence[Member], queues: bool
     ) -> Iterator[Totals]:
-        """Yield the totals of each entry; present is what was there or came and has not left."""
-        seconds, queues = self.base.seconds, self.queues
+        """Yield the totals of studies; present is what was there or came and has not left."""
+        start, seconds = self.base.record.start, self.base.seconds
+        started = start.gate_queue + sum(start.held[: self.n]) + sum(start.queue[: self.n])
         operation = "run" if self.laws is None else "fill"
-        longest = answers[:, 9 : 9 + self.n].max(axis=1).tolist()
-        for member, entry, ramp_queue, came in zip(some, answers[:, :9].tolist(), longest, arrived):
-            number, step, place, gate, road, ramp, exits, _, waiting = entry
+        found, arrived = [], []
+        for answers, tables in self.answers(make, [x.number for x in members]):
+            found += short_entries(answers, self.n).tolist()
+            arrived += _sums(tables.reshape(len(tables), -1))
+        for member, entry, came in zip(members, found, arrived):
+            number, step, place, gate, road, ramp, exits, waiting, longest = entry
             if number:
                 yield Totals(member.name, refused=Refused(number, step, place, operation))
                 continue
@@ -210,18 +245,76 @@ class _Batch:
                 road,
                 ramp,
                 exits,
-                self.started + came - exits,
+                started + came - exits,
                 None,
                 waiting if queues else None,
-                ramp_queue if queues else None,
+                longest if queues else None,
                 None,
                 seconds,
             )
 
 
+class ManyArrivals:
+    """The studies of a sweep, by their numbers: loads or seeds."""
+
+    def __init__(self, base: Study, make: Loads | Seeds, numbers: range) -> None:
+        self.batch, self.make, self.numbers = Batch(base), make, numbers
+
+    def entries(self, ks: Sequence[int]) -> tuple[np.ndarray, list[int]]:
+        """Return the short entries of studies, and which of them must be made by themselves."""
+        numbers, limit = [self.numbers[k] for k in ks], self.make.limit
+        alone = [at for at, x in enumerate(numbers) if x > limit]
+        for at in alone:
+            numbers[at] = 0
+        answers = self.batch.answers(self.make, numbers)
+        return np.concatenate([short_entries(x, self.batch.n) for x, _ in answers]), alone
+
+
+class ManyLaws:
+    """The studies of a sweep that differ in the numbers of their laws."""
+
+    def __init__(self, base: Study, laws: Callable[[int], Mapping[int, Law]]) -> None:
+        self.batch, self.laws = Batch(base), laws
+
+    def entries(self, ks: Sequence[int]) -> tuple[np.ndarray, list[int]]:
+        """Return the short entries of studies, and which of them must be made by themselves."""
+        laws: list[tuple[np.ndarray, np.ndarray] | None] = []
+        for k in ks:
+            try:
+                laws.append(engine.encode_laws(self.laws(k)))
+            except Exception:  # noqa: BLE001 by itself it has its words
+                laws.append(None)
+        found = [(0,) * SHORT if x is None else self.entry(*x) for x in laws]
+        return np.array(found, np.uint64), [at for at, x in enumerate(laws) if x is None]
+
+    def entry(self, kinds: np.ndarray, numbers: np.ndarray) -> tuple[int, ...]:
+        """Return the short entry of the study with these laws of the same ramps.
+
+        Releases that the study before has left in the record do not matter.
+        """
+        batch = self.batch
+        given = (kinds.tobytes(), engine.CELLS, *lend(numbers), batch.lanes, len(batch.lanes))
+        a = library.fill_longest(*lend(batch.record), *given, *outflows())
+        e = a.ended
+        s = e.state
+        times = s.gate_time, s.road_time, s.ramp_time
+        return (e.number, e.step, e.place, *times, e.exits, a.waiting, max(a.ramps[:]))
+
+
+SHORT = 9  # number, step, place; gate, road, ramp time; exits; the gate's and the ramps' queue
+
+
+def short_entries(answers: np.ndarray, n: int) -> np.ndarray:
+    """Return what a table needs of the entries of studies of n cells, in their own place."""
+    out = answers[:, :SHORT]
+    out[:, 7] = out[:, 8]  # the gate's queue without the step's arrivals
+    np.max(answers[:, SHORT : SHORT + n], axis=1, out=out[:, 8])
+    return out
+
+
 def _sums(tables: np.ndarray) -> list[int]:
     """Return the sum of each table; in 32 bits, which is faster, where no sum passes them."""
-    narrow = int(tables.max()) * tables.shape[1] < 1 << 32
+    narrow = int(tables.max()) * tables.shape[1] < BITS
     return tables.sum(axis=1, dtype=np.uint32 if narrow else np.uint64).tolist()
 
 

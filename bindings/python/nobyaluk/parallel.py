@@ -20,7 +20,7 @@ from .engine import Refused
 from .errors import StudyError
 from .study import Study, load
 from .totals import Totals, totals, totals_and_queues
-from .workers import Batches, Workers, processors
+from .workers import Batches, Lost, Run, Workers, processors
 
 PATROL = 5  # seconds between two looks at a cluster whose answer is waited for
 PAYS = 0.25  # seconds of work left for which processes are started
@@ -82,12 +82,9 @@ def describe_study(x: Study | str | Recipe) -> str:
     )
 
 
-def lost_totals(x: Study | str | Recipe, how: str) -> Totals:
+def lost_totals(x: Study | str | Recipe, fault: str) -> Totals:
     """Return the totals of a study at which processes died."""
-    return Totals(
-        describe_study(x),
-        fault=f"two processes ended at it, the last {how}; it may need more memory than there is",
-    )
+    return Totals(describe_study(x), fault=fault)
 
 
 def wait_for(future: Future, watch: Callable[[], None] | None) -> Any:
@@ -181,20 +178,26 @@ def spread(
     each: Callable[[Study], Any] = totals,
     workers: int | None = None,
 ) -> Iterator[list[Any]]:
-    """Return what `each` gives of so many studies, in groups in their order.
+    """Return what `each` gives of so many studies, in groups in their order, as `spread_run`."""
+    return spread_run(studies, count, partial(run_group, each), lost_totals, workers)
 
-    Here, or by processes as soon as the time that is left pays for them.
 
-    There are at most as many processes as processors and studies.
+def spread_run(
+    items: Iterable[Any], count: int, run: Run, lost: Lost, workers: int | None = None
+) -> Iterator[list[Any]]:
+    """Return what `run` gives of so many items, in groups in their order.
+
+    Here, or by processes as soon as the time that is left pays for them. There are at most as many
+    processes as processors and items; `lost` gives the answer of an item at which they die.
     """
-    most, batches, done = min(workers or processors(), processors(), count), Batches(studies), 0
+    most, batches, done = min(workers or processors(), processors(), count), Batches(items), 0
     while group := batches.next():
         began = time.perf_counter()
-        out = run_group(each, group)
+        out = run(group)
         batches.took(len(out), time.perf_counter() - began)
         done += len(out)
         yield out
         if most > 1 and (count - done) * batches.each > PAYS:
-            with Workers(most, partial(run_group, each), lost_totals) as pool:
+            with Workers(most, run, lost) as pool:
                 yield from pool.map(batches)
             return

@@ -5,7 +5,6 @@ with it. Rows for standard output, a device or a pipe are written there.
 """
 import csv
 import fcntl
-import hashlib
 import io
 import os
 import re
@@ -15,22 +14,23 @@ import threading
 import time
 from collections.abc import Callable, Iterator, Sequence
 from contextlib import contextmanager, suppress
-from dataclasses import dataclass
-from decimal import Decimal, localcontext
-from fractions import Fraction
-from functools import lru_cache
+from functools import cached_property
 from pathlib import Path
 from typing import Any, TextIO
 
 import numpy as np
 
-from . import __version__, engine, output_files, summary
+from . import output_files, parallel, summary
 from .errors import StudyError
 from .formatting import csv_safe
+from .many import ManyArrivals, ManyLaws
 from .study import Study
-from .totals import Totals
+from .sweep_studies import Sweep
+from .totals import Totals, totals_and_queues
 
 PARTS = ("total", "gate", "road", "ramp")
+ROW = "%s,%.4f,%.4f,%.4f,%.4f,%d%s,%d%s,%d%s,\n"  # with numbers, without a weighted total
+THOUSANDTHS = np.array([repr(x / 1000)[1:] for x in range(1000)], object)  # as .0 and .125
 PATIENCE = 3  # seconds that a file may still be held by processes of a sweep that was killed
 
 
@@ -58,88 +58,14 @@ def raise_on_sigterm() -> Iterator[None]:
         signal.signal(signal.SIGTERM, was)
 
 
-@dataclass(frozen=True)
-class Sweep:
-    """What is swept: the columns' names, their numbers, and what makes a study of them.
-
-    All pairs of two columns are studies.
-    """
-
-    names: list[str]
-    axes: list[list[Fraction]]
-    recipe: Callable[..., Any]
-    source: Any = ""  # what else a study is made of, for its sum
-
-    def __len__(self) -> int:
-        return int(np.prod([len(x) for x in self.axes], dtype=object))
-
-    def values(self, k: int) -> tuple[Fraction, ...]:
-        """Return the numbers of study k; the last column's change first."""
-        out = []
-        for axis in reversed(self.axes):
-            out.append(axis[k % len(axis)])
-            k //= len(axis)
-        return tuple(reversed(out))
-
-    def studies(self, begin: int) -> Iterator[Any]:
-        """Return the recipes of the studies from one on."""
-        return (self.recipe(*self.values(k)) for k in range(begin, len(self)))
-
-    def sum(self, s: Study) -> str:
-        """Return a sum of all that the rows depend on."""
-        r = s.record
-        record = (
-            r.data
-            if isinstance(r, engine.Record)
-            else bytes(r.road) + bytes(r.start) + r.rows.tobytes()
-        )
-        plan = s.plan.tobytes() if s.plan is not None else None
-        spans = [(x[0], x[-1], len(x)) for x in self.axes]
-        given = (
-            __version__,
-            self.names,
-            spans,
-            record,
-            s.lanes,
-            sorted(s.laws.items()),
-            plan,
-            s.weights,
-            s.seconds,
-            self.source,
-        )
-        return hashlib.sha256(repr(given).encode()).hexdigest()[:32]
-
-
-@lru_cache(64)
-def _places(denominator: int) -> int | None:
-    """Return how many decimals a fraction of this denominator has; None for more than 100."""
-    return next((k for k in range(101) if 10**k % denominator == 0), None)
-
-
-def format_decimal(x: Fraction) -> str:
-    """Return a number of a span, as it would be written."""
-    places = _places(x.denominator)
-    if places is not None:
-        digits = f"{abs(x.numerator) * (10**places // x.denominator):0{places + 1}d}"
-        sign = "-" if x.numerator < 0 else ""
-        return sign + (f"{digits[:-places]}.{digits[-places:]}" if places else digits)
-    with localcontext() as c:
-        c.prec = 120
-        return f"{(Decimal(x.numerator) / Decimal(x.denominator)).normalize():f}"
-
-
 class SweepRows:
-    """The heading and the rows of a sweep, in vehicle-hours or vehicle-steps.
-
-    It counts how many were refused or failed.
-    """
+    """The heading and the rows of a sweep, in vehicle-hours or vehicle-steps, as lines of CSV."""
 
     def __init__(self, sweep: Sweep, s: Study) -> None:
-        self.sweep, self.weighed, self.refused, self.faults = sweep, s.weights is not None, 0, 0
-        self.first = ""  # the first fault
+        self.sweep, self.weighed = sweep, s.weights is not None
         self.seconds = s.seconds
-        self.factor = summary.per_hour(s.seconds)[0]  # a part-step in the rows' unit
-        unit = summary.per_hour(s.seconds)[1].replace("-", "_")
+        self.factor, unit = summary.per_hour(s.seconds)  # a part-step in the rows' unit
+        unit = unit.replace("-", "_")
         self.heading = [
             *map(csv_safe, sweep.names),
             *(f"{x}_{unit}" for x in PARTS),
@@ -150,22 +76,57 @@ class SweepRows:
             "refused",
         ]
 
-    def row(self, k: int, t: Totals) -> list[Any]:
+    @cached_property
+    def together(self) -> ManyArrivals | ManyLaws | None:
+        """What runs many studies in a few calls; None where each is run alone."""
+        try:
+            return self.sweep.together()
+        except (StudyError, ValueError, TypeError):  # each study says it
+            return None
+
+    def run(self, each: Callable[[Study], Totals], items: Sequence[Any]) -> list[str]:
+        """Return the rows of studies, given by their numbers, or by numbers and studies."""
+        if each is not totals_and_queues or self.together is None:
+            return self.run_alone(each, items)
+        entries, alone = self.together.entries(items)
+        lines = self.lines(items, entries)
+        for at in alone:
+            lines[at : at + 1] = self.run_alone(each, items[at : at + 1])
+        return lines
+
+    def run_alone(self, each: Callable[[Study], Totals], items: Sequence[Any]) -> list[str]:
+        """Return the rows of studies that are made one by one."""
+        pairs = [(x, self.sweep.study(x)) if isinstance(x, int) else x for x in items]
+        found = parallel.run_group(each, [study for _, study in pairs])
+        return [self.line(k, t) for (k, _), t in zip(pairs, found)]
+
+    def lines(self, ks: Sequence[int], entries: np.ndarray) -> list[str]:
+        """Return the rows of short entries."""
+        texts, (gate, road, ramp) = self.sweep.texts(ks), entries[:, 3:6].T * self.factor
+        columns = [gate + road + ramp, gate, road, ramp]
+        for whole, part in zip(*np.divmod(entries[:, [7, 8, 6]].T, 1000)):  # queues, and what left
+            columns += [whole, THOUSANDTHS[part]]
+        out = [ROW % row for row in zip(texts, *[x.tolist() for x in columns])]
+        for at in np.flatnonzero(entries[:, 0]).tolist():
+            why = " ".join(map(str, entries[at, :3].tolist()))
+            out[at] = f"{texts[at]}{',' * (len(self.heading) - len(self.sweep.axes))}{why}\n"
+        return out
+
+    def line(self, k: int, t: Totals) -> str:
         """Return study k's row; the last column is empty, or says why there are no numbers."""
-        values = [format_decimal(x) for x in self.sweep.values(k)]
+        (text,) = self.sweep.texts([k])
         if t.refused or t.fault:
             why = csv_safe(" ".join((t.fault or "").split()))  # one line, as a row is
             if t.refused:
                 why = t.refused.line.removeprefix("refused ")
-            self.count(why)
-            return [*values, *[""] * (len(self.heading) - len(values) - 1), why]
+            numbers: list[Any] = [""] * (len(self.heading) - len(self.sweep.axes) - 1)
+            return f"{text},{csv_line([*numbers, why])}"
         if t.seconds is not self.seconds:  # of one study they are one object
             self.seconds, self.factor = t.seconds, summary.per_hour(t.seconds)[0]
         factor = self.factor
         gate, road, ramp = t.gate * factor, t.road * factor, t.ramp * factor
         weighted = [f"{(t.weighted or 0) * factor:.4f}"] if self.weighed else []
-        return [
-            *values,
+        numbers = [
             f"{gate + road + ramp:.4f}",
             f"{gate:.4f}",
             f"{road:.4f}",
@@ -174,20 +135,23 @@ class SweepRows:
             (t.longest_ramp_queue or 0) / 1000,
             t.exits / 1000,
             *weighted,
-            "",
         ]
+        return f"{text},{csv_line([*numbers, ''])}"
 
-    def count(self, why: str) -> None:
-        """Count what the last column of a row says."""
-        if re.fullmatch(r"\d+ \d+ \d+", why):
-            self.refused += 1
-        elif why:
-            self.faults += 1
-            self.first = self.first or why
+    def lost(self, item: Any, fault: str) -> str:
+        """Return the row of a study at which processes died."""
+        return self.line(item if isinstance(item, int) else item[0], Totals("", fault=fault))
+
+
+def csv_line(row: Sequence[Any]) -> str:
+    """Return one row of CSV."""
+    f = io.StringIO()
+    csv.writer(f, lineterminator="\n").writerow(row)
+    return f.getvalue()
 
 
 class SweepTable:
-    """Where the rows go.
+    """Where the rows go, and how many of them were refused or failed.
 
     `done` of them are there; a with-block ends it, and leaves them where something goes wrong.
     """
@@ -196,6 +160,8 @@ class SweepTable:
         self, path: str, rows: SweepRows, sum_: str, resume: bool = False, force: bool = False
     ) -> None:
         self.path, self.rows, self.done, self.part = path, rows, 0, None
+        self.refused = self.faults = 0
+        self.first = ""  # the first fault
         self.file: TextIO = sys.stdout
         output_files.check_writable(path)
         if path != "-" and os.path.exists(path) and not os.path.isfile(path):
@@ -263,17 +229,15 @@ class SweepTable:
                 " starts anew"
             )
         for row in rows[1:]:
-            self.rows.count(row[-1])
+            self.count(row[-1])
         self.done = max(0, len(rows) - 1)
         self.file.truncate(len(whole.encode() if self.done else mark))
         self.file.seek(0, os.SEEK_END)
 
-    def write(self, rows: Sequence[Sequence[Any]]) -> None:
+    def write(self, text: str) -> None:
         """Write rows at once, so that no row is there by half."""
-        f = io.StringIO()
-        csv.writer(f, lineterminator="\n").writerows(rows)
         try:
-            self.file.write(f.getvalue())
+            self.file.write(text)
             self.file.flush()
         except BrokenPipeError:
             raise
@@ -284,15 +248,21 @@ class SweepTable:
                 f"{self.part} could not be written: {e.strerror or e}"
             ) from None
 
-    def add(self, found: Sequence[Totals]) -> None:
+    def add(self, lines: Sequence[str]) -> None:
         """Write the rows of the next studies; the heading comes with the first."""
-        self.write(
-            [
-                *[self.rows.heading] * (not self.done),
-                *(self.rows.row(self.done + k, t) for k, t in enumerate(found)),
-            ]
-        )
-        self.done += len(found)
+        for line in lines:
+            if not line.endswith(",\n"):  # its last column says something
+                self.count(next(csv.reader([line]))[-1])
+        self.write("".join([*[csv_line(self.rows.heading)] * (not self.done), *lines]))
+        self.done += len(lines)
+
+    def count(self, why: str) -> None:
+        """Count what the last column of a row says."""
+        if re.fullmatch(r"\d+ \d+ \d+", why):
+            self.refused += 1
+        elif why:
+            self.faults += 1
+            self.first = self.first or why
 
     def where(self) -> str:
         """Return what is left after an interruption, and how the sweep goes on.

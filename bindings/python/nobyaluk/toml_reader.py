@@ -4,13 +4,13 @@ Physical numbers become the engine's whole parts, each an exact fraction that is
 the nearest, halves up; `Study.rounding` lists what rounding changed. The proved `write` makes the
 record, so the engine itself checks its limits. `docs/STUDIES.md` has every key.
 """
-from collections.abc import Callable
+from collections.abc import Callable, Iterator
 from dataclasses import dataclass
 from datetime import datetime, time
 from decimal import Decimal
 from fractions import Fraction
 from pathlib import Path
-from typing import Any
+from typing import Any, NamedTuple
 
 import numpy as np
 import tomllib
@@ -201,6 +201,15 @@ def _decimal(text: str) -> Decimal:
 
 
 LoadBefore = Callable[[Path], Any]  # a Study; None if too many go on from one another
+
+
+class MeterTable(NamedTuple):
+    """A table of [meter]: its name, what it has, its law and the cells of its ramps."""
+
+    name: str
+    table: TomlTable
+    law: str
+    cells: list[int]
 
 
 class StudyReader:
@@ -698,7 +707,19 @@ class StudyReader:
         )
 
     def laws(self, road: engine.Road, tabled: list[str], planned: bool) -> dict[int, tuple]:
-        """Return meter laws in the engine's units.
+        """Return meter laws in the engine's units."""
+        laws: dict[int, tuple] = {}
+        for meter in self.meters(tabled, planned):
+            laws.update(self.laws_of(meter, road))
+        return laws
+
+    def laws_of(self, meter: MeterTable, road: engine.Road) -> dict[int, tuple]:
+        """Return the laws of a meter's ramps, by cell."""
+        of = self.law(meter.table, meter.law, road)
+        return {cell: of(cell) for cell in meter.cells}
+
+    def meters(self, tabled: list[str], planned: bool) -> Iterator[MeterTable]:
+        """Yield the tables of [meter], each with its law and the cells of its ramps.
 
         Each ramp has exactly one law or table. With a record and no plan, a ramp without either
         releases what the record has.
@@ -727,7 +748,6 @@ class StudyReader:
                 f"{self.path}: these ramps have no law and no table: {', '.join(left)};"
                 " [meter.NAME] or [meter.all] gives a law, [releases] a table"
             )
-        laws: dict[int, tuple] = {}
         for name in meters.values:
             m = TomlTable(meters.values[name], f"{file}: [meter.{name}]", KEYS["meter"])
             law = m.choice("law", list(LAWS))
@@ -739,10 +759,8 @@ class StudyReader:
                         f" {', '.join(sorted(LAWS[law])) or 'nothing else'}"
                     ),
                 )
-            of = self.law(m, law, road)
-            for ramp in left if name == "all" else [name]:
-                laws[self.ramps[ramp]] = of(self.ramps[ramp])
-        return laws
+            ramps = left if name == "all" else [name]
+            yield MeterTable(name, m, law, [self.ramps[ramp] for ramp in ramps])
 
     def law(self, m: TomlTable, law: str, road: engine.Road) -> Callable[[int], tuple]:
         """Return a function from a ramp's cell to its law, in parts and parts a step.

@@ -14,7 +14,7 @@ import numpy as np
 from . import engine
 from .errors import StudyError, TomlTable, show
 from .study import Study, load_before
-from .toml_reader import StudyReader, StudySource, read_source
+from .toml_reader import MeterTable, StudyReader, StudySource, read_source
 
 LAST = {"meter", "closure", "weights"}  # tables that nothing else of a study depends on
 ROAD = {"gate", "defaults", "cell"}  # tables on which arrivals and plans do not depend
@@ -52,8 +52,7 @@ class Variants:
 
     def __init__(self, path: str | Path, keys: Sequence[str]) -> None:
         self.path, self.source = Path(path), read_source(Path(path))
-        for key in keys:
-            self._find(key)
+        there = [self._find(key) for key in keys]
         self.ways = [key.split(".") for key in keys]
         for i, way in enumerate(self.ways):
             if any(way[: len(other)] == other for other in self.ways[:i]) or any(
@@ -62,6 +61,7 @@ class Variants:
                 raise StudyError(f"{path}: `{keys[i]}` is varied twice")
         self.reader = _First(self.path, self.source, load_before)
         self.base = Study(**self.reader.read())
+        self.road = self.base.record.road
         self.tables = {way[0] for way in self.ways}
         road = (
             self.tables <= LAST | ROAD
@@ -71,9 +71,16 @@ class Variants:
         self.needs_files = not (
             self.tables <= LAST or road
         )  # whether a variant reads the study's other files anew
+        self.only_laws = self.tables == {"meter"} and all(
+            x is not None and way[2] != "law" for x, way in zip(there, self.ways)
+        )  # whether a variant has other numbers in laws that are there, and nothing else
+        self.meters: list[MeterTable] = []  # those that have these laws
+        if self.only_laws:
+            meters = self.reader.meters(self.reader.tabled, self.reader.plan is not None)
+            self.meters = [x for x in meters if x.name in {way[1] for way in self.ways}]
 
-    def _find(self, key: str) -> None:
-        """Raise StudyError where the file has nothing to vary at this key."""
+    def _find(self, key: str) -> Any:
+        """Return what the file has at this key; StudyError where there is nothing to vary."""
         if len(key) > MOST_KEY:
             raise StudyError(f"{self.path}: there is no {show(key)} to vary")
         *way, last = key.split(".")
@@ -89,32 +96,46 @@ class Variants:
             or isinstance(there, (dict, list))
         ):
             raise StudyError(f"{self.path}: `{key}` is no number to vary")
+        return there
 
     def study(self, *values: Fraction) -> Study:
         """Return the study with these numbers at the keys.
 
         A fault where they are out of their limits.
         """
-        top: Any = self.source.values
-        for way, x in zip(self.ways, values, strict=True):
-            top = _with(top, way, x)
-        source = StudySource(top, self.source.origin)
+        source = self._source(values)
         if self.needs_files:
             return Study(**StudyReader(self.path, source, load_before).read())
         if not self.tables <= LAST:
             return Study(**_Again(self.path, source, self.reader).read())
-        r, road = copy.copy(self.reader), self.base.record.road
-        r.source, r.top = source, TomlTable(top, str(self.path))
-        changed: dict[str, Any] = {}
-        if "meter" in self.tables:
-            changed["laws"] = r.laws(road, r.tabled, r.plan is not None)
-        if "closure" in self.tables:
-            changed["lanes"] = r.works(road)
-        if "weights" in self.tables:
-            changed["weights"] = r.weights(road)
         study = copy.copy(self.base)
-        vars(study).update(changed)
+        if self.only_laws:
+            study.laws = self.laws(values)
+            return study
+        r = copy.copy(self.reader)
+        r.source, r.top = source, TomlTable(source.values, str(self.path))
+        if "meter" in self.tables:
+            study.laws = r.laws(self.road, r.tabled, r.plan is not None)
+        if "closure" in self.tables:
+            study.lanes = r.works(self.road)
+        if "weights" in self.tables:
+            study.weights = r.weights(self.road)
         return study
+
+    def laws(self, values: Sequence[Fraction]) -> dict[int, tuple]:
+        """Return the laws with these numbers at the keys, where they are all that differs."""
+        top, laws = self._source(values).values["meter"], self.base.laws.copy()
+        for meter in self.meters:
+            table = TomlTable(top[meter.name], meter.table.where)
+            laws.update(self.reader.laws_of(meter._replace(table=table), self.road))
+        return laws
+
+    def _source(self, values: Sequence[Fraction]) -> StudySource:
+        """Return the tables with these numbers at the keys."""
+        top: Any = self.source.values
+        for way, x in zip(self.ways, values, strict=True):
+            top = _with(top, way, x)
+        return StudySource(top, self.source.origin)
 
 
 def _with(at: Any, way: list[str], x: Fraction) -> Any:

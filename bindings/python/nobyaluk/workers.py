@@ -21,12 +21,14 @@ from typing import Any, NamedTuple
 
 TASK = 0.02  # seconds that a task should take
 MOST = 1024  # studies of a task
+GROWTH = 4  # how many times as many studies as one a task has at most after it
 AHEAD = 64  # tasks whose answers may wait for one before them
 DEATHS = 2  # of processes at one study, until it is given as lost
 SIGNALS = {signal.SIGINT, signal.SIGTERM}
 PATROL = 0.5  # seconds between two looks at the parent
 
 Run = Callable[[list[Any]], list[Any]]
+Lost = Callable[[Any, str], Any]  # the answer of a study at which processes die, and what is said
 
 
 def processors() -> int:
@@ -37,8 +39,11 @@ def processors() -> int:
 class Batches:
     """Studies in tasks of some milliseconds, by what the ones before took."""
 
-    def __init__(self, studies: Iterable[Any], seconds: float = TASK) -> None:
-        self.studies, self.seconds, self.size, self.each = iter(studies), seconds, 1, 0.0
+    def __init__(
+        self, studies: Iterable[Any], seconds: float = TASK, growth: int = GROWTH
+    ) -> None:
+        self.studies, self.seconds, self.growth = iter(studies), seconds, growth
+        self.size, self.each = 1, 0.0
 
     def next(self) -> list[Any]:
         """Return the next task's studies; none at the end."""
@@ -47,11 +52,11 @@ class Batches:
     def took(self, count: int, seconds: float) -> None:
         """Note that so many studies took so many seconds.
 
-        Each later task has at most four times as many as this one.
+        Each later task has at most `growth` times as many as this one.
         """
         self.each = seconds / count
         wanted = int(self.seconds / self.each) if self.each > 0 else MOST
-        self.size = max(1, min(wanted, 4 * max(count, self.size), MOST))
+        self.size = max(1, min(wanted, self.growth * max(count, self.size), MOST))
 
 
 class Piece(NamedTuple):
@@ -131,7 +136,7 @@ class Workers:
     `lost` gives the answer of a study at which processes die.
     """
 
-    def __init__(self, count: int, run: Run, lost: Callable[[Any, str], Any]) -> None:
+    def __init__(self, count: int, run: Run, lost: Lost) -> None:
         self.run, self.lost = run, lost
         self.workers: list[_Worker] = []
         try:
@@ -207,7 +212,11 @@ class Workers:
             if one.deaths < DEATHS:
                 tasks.again.append(one)
             else:
-                tasks.answered(one, [self.lost(one.studies[0], _why(w.process.exitcode))])
+                fault = (
+                    f"two processes ended at it, the last {_why(w.process.exitcode)}; it may need"
+                    " more memory than there is"
+                )
+                tasks.answered(one, [self.lost(one.studies[0], fault)])
 
 
 class _Tasks:

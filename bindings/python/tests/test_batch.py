@@ -170,4 +170,4 @@ def test_a_task_of_a_cluster(examples):
 
     s = load(examples / "studies/rocade-sud-alinea.toml")
     group = [partial(s.scaled, Fraction(k, 10)) for k in (5, 10)]
-    assert [told(t) for t in cluster._packed(pickle.dumps((totals, group)))[1]] == [told(t) for t in alone(totals, group)]
+    assert [told(t) for t in pickle.loads(cluster._packed(pickle.dumps(partial(parallel.run_group, totals)), pickle.dumps(group))[1])] == [told(t) for t in alone(totals, group)]

@@ -6,6 +6,7 @@ from pathlib import Path
 
 from .. import engine
 from ..errors import StudyError, parse_option, parse_whole, show
+from ..spans import Span
 from ..study import Study
 from ..toml_reader import round_half_up
 from .declaration import Argument, argument
@@ -63,7 +64,7 @@ def parse_span(
     whole_numbers: bool = False,
     least: int | None = None,
     most: int | None = None,
-) -> list[Fraction]:
+) -> Span:
     """Return the exact numbers of LOW:HIGH:STEP; with whole numbers the step is optional."""
     try:
         low, high, *rest = (parse_option(x, option) for x in words.split(":"))
@@ -81,7 +82,7 @@ def parse_span(
         raise StudyError(f"{option} is {show(words)}; it is of whole numbers")
     count, unit = int((high - low) / step) + 1, math.lcm(low.denominator, step.denominator)
     first, more = int(low * unit), int(step * unit)
-    values = [Fraction(first + k * more, unit) for k in range(count)]
+    values = Span(range(first, first + count * more, more), unit)
     if least is not None and low < least or most is not None and values[-1] > most:
         top = f" and at most {most}" if most is not None else ""
         raise StudyError(f"{option} is {show(words)}; it is at least {least}{top}")

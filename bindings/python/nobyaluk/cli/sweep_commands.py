@@ -1,11 +1,9 @@
 """The command that runs many studies: sweep."""
 import argparse
 import sys
-from collections.abc import Callable, Iterator
-from fractions import Fraction
+from collections.abc import Iterator
 from functools import partial
 from pathlib import Path
-from typing import Any
 
 from .. import parallel
 from ..cluster import Cluster, NoCluster
@@ -13,8 +11,9 @@ from ..errors import StudyError
 from ..output_files import NotWritten
 from ..progress import Progress
 from ..study import Study
-from ..sweep import Sweep, SweepRows, SweepTable, Terminated, raise_on_sigterm
-from ..totals import Totals, totals_and_queues
+from ..sweep import SweepRows, SweepTable, Terminated, raise_on_sigterm
+from ..sweep_studies import LoadSweep, SeedSweep, Sweep, VariantSweep
+from ..totals import totals_and_queues
 from ..variants import Variants
 from .arguments import (
     MOST_STUDIES,
@@ -97,44 +96,44 @@ def sweep(args: argparse.Namespace) -> int:
         Progress(count, "studies", table.done, bar) as say,
     ):
         try:
-            for found in run_sweep(what.studies(table.done), count - table.done, args):
-                table.add(found)
+            for lines in run_sweep(rows, table.done, args):
+                table.add(lines)
                 say(table.done)
         except (NoCluster, NotWritten) as e:
             raise type(e)("; ".join(filter(None, [str(e), table.where()]))) from None
         except (KeyboardInterrupt, Terminated):
             print(f"nobyaluk: {table.where() or 'interrupted'}", file=sys.stderr)
             raise
-    if rows.refused:
+    if table.refused:
         print(
             (
-                f"nobyaluk: {rows.refused} of {count} were refused;"
+                f"nobyaluk: {table.refused} of {count} were refused;"
                 " the last column has number, step and place"
             ),
             file=sys.stderr,
         )
-    if rows.faults:
-        first = f": {rows.first}" if rows.faults == count else ""
+    if table.faults:
+        first = f": {table.first}" if table.faults == count else ""
         print(
-            f"nobyaluk: {rows.faults} of {count} failed; the last column says why{first}",
+            f"nobyaluk: {table.faults} of {count} failed; the last column says why{first}",
             file=sys.stderr,
         )
-    return 2 if rows.faults == count else 0
+    return 2 if table.faults == count else 0
 
 
-def run_sweep(
-    studies: Iterator[Any], count: int, args: argparse.Namespace
-) -> Iterator[list[Totals]]:
-    """Return the totals of a sweep's studies, in groups.
+def run_sweep(rows: SweepRows, begin: int, args: argparse.Namespace) -> Iterator[list[str]]:
+    """Return the rows of a sweep's studies from one on, in groups.
 
     By a cluster, or here by as many processes as pay.
     """
+    what, run = rows.sweep, partial(rows.run, totals_and_queues)
     if args.scheduler is None:
-        yield from parallel.spread(studies, count, totals_and_queues, args.workers)
+        left = range(begin, len(what))
+        yield from parallel.spread_run(left, len(left), run, rows.lost, args.workers)
         return
     cluster = Cluster(args.scheduler)
     try:
-        yield from cluster.spread(studies, totals_and_queues)
+        yield from cluster.spread(what.items(begin), run, rows.lost)
     finally:
         cluster.close()
 
@@ -142,18 +141,17 @@ def run_sweep(
 def plan_sweep(s: Study, args: argparse.Namespace) -> Sweep:
     """Return what is swept; files are read here, because a cluster may not see them."""
     if args.load is not None:
-        loads = parse_span(args.load, "--load", least=0)
-        return Sweep(["load"], [loads], partial(partial, s.scaled))
+        return LoadSweep(s, parse_span(args.load, "--load", least=0))
     if args.vary is not None:
         return plan_variants(args)
     if args.peak is None:
         raise StudyError("--seeds needs --peak, and --ramp-peak if the road has ramps, in veh/h")
     seeds = parse_span(args.seeds, "--seeds", whole_numbers=True, least=0, most=(1 << 32) - 1)
     peaks = parse_rate(s, args.peak, "--peak"), parse_ramp_peak(s, args.ramp_peak)
-    return Sweep(["seed"], [seeds], lambda x: partial(s.with_stated_load, int(x), *peaks), peaks)
+    return SeedSweep(s, seeds, peaks)
 
 
-def plan_variants(args: argparse.Namespace) -> Sweep:
+def plan_variants(args: argparse.Namespace) -> VariantSweep:
     """Return the sweep of one key of the .toml, or of each pair of two keys' values."""
     pairs = [x.partition("=") for x in args.vary]
     if Path(args.study).suffix != ".toml" or not all(words for _, _, words in pairs):
@@ -167,24 +165,8 @@ def plan_variants(args: argparse.Namespace) -> Sweep:
         )
     keys = [key for key, _, _ in pairs]
     axes = [parse_span(words, "--vary") for _, _, words in pairs]
-    variants = Variants(args.study, keys)
-    read_here = partial(make_variant, variants)
-    recipe = read_here if variants.needs_files else partial(partial, variants.study)
-    what = Sweep(keys, axes, recipe, variants.source.values)
+    what = VariantSweep(Variants(args.study, keys), keys, axes)
     if len(what) > MOST_STUDIES:
         sizes = " x ".join(f"{len(x):,}" for x in axes)
         raise StudyError(f"--vary makes {sizes} studies; a sweep has at most {MOST_STUDIES:,}")
     return what
-
-
-def make_variant(variants: Variants, *values: Fraction) -> Study | Callable[[], Study]:
-    """Return a variant of which files are read, or a recipe that raises why there is none."""
-    try:
-        return variants.study(*values)
-    except Exception as e:  # noqa: B902 the row says it, and the others go on
-        return partial(raise_fault, e)
-
-
-def raise_fault(e: Exception) -> Study:
-    """Raise what was wrong with a variant, in place of making it."""
-    raise e

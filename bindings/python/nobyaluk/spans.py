@@ -1,0 +1,43 @@
+"""The numbers of LOW:HIGH:STEP, exactly and as they are written."""
+from decimal import Decimal, localcontext
+from fractions import Fraction
+
+MOST_PLACES = 100  # decimals that are written out
+
+
+class Span:
+    """Whole numbers, one after the other by equal steps, over one unit.
+
+    A Fraction is made of one only when it is asked for.
+    """
+
+    def __init__(self, tops: range, unit: int) -> None:
+        self.tops, self.unit = tops, unit
+        self.places = next((k for k in range(MOST_PLACES + 1) if 10**k % unit == 0), None)
+        self.scale = 10 ** (self.places or 0) // unit
+
+    def __len__(self) -> int:
+        return len(self.tops)
+
+    def __getitem__(self, k: int) -> Fraction:
+        return Fraction(self.tops[k], self.unit)
+
+    def text(self, k: int) -> str:
+        """Return number k, as it would be written."""
+        places, top = self.places, self.tops[k]
+        if places is None:
+            return _text_of_many_places(self[k])
+        digits = f"{abs(top) * self.scale:0{places + 1}d}"
+        if places:
+            digits = f"{digits[:-places]}.{digits[-places:]}".rstrip("0").rstrip(".")
+        return digits if top >= 0 else f"-{digits}"
+
+
+def _text_of_many_places(x: Fraction) -> str:
+    """Return a number of a unit with too many decimals; its own may be fewer."""
+    alone = Span(range(x.numerator, x.numerator + 1), x.denominator)
+    if alone.places is not None:
+        return alone.text(0)
+    with localcontext() as c:
+        c.prec = 120
+        return f"{(Decimal(x.numerator) / Decimal(x.denominator)).normalize():f}"

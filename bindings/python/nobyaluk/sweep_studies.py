@@ -1,0 +1,152 @@
+"""The studies of a sweep: loads, seeds, or numbers at keys of a study's file."""
+import hashlib
+import math
+from collections.abc import Callable, Iterable, Sequence
+from fractions import Fraction
+from functools import partial
+from typing import Any
+
+from . import __version__, engine, many
+from .many import ManyArrivals, ManyLaws
+from .spans import Span
+from .study import Study
+from .variants import Variants
+
+
+class Sweep:
+    """The columns' names and their numbers; all pairs of two columns are studies."""
+
+    reads_files = False  # whether files are read for each study, which a cluster may not see
+    source: Any = ""  # what else the studies are made of, for their sum
+
+    def __init__(self, names: list[str], axes: list[Span]) -> None:
+        self.names, self.axes = names, axes
+
+    def __len__(self) -> int:
+        return math.prod(len(x) for x in self.axes)
+
+    def positions(self, k: int) -> list[tuple[Span, int]]:
+        """Return where the numbers of study k are; the last column's change first."""
+        out = []
+        for axis in reversed(self.axes):
+            k, at = divmod(k, len(axis))
+            out.append((axis, at))
+        return out[::-1]
+
+    def values(self, k: int) -> list[Fraction]:
+        """Return the numbers of study k."""
+        return [axis[at] for axis, at in self.positions(k)]
+
+    def texts(self, ks: Iterable[int]) -> list[str]:
+        """Return the numbers of studies, as rows of CSV begin with them."""
+        if len(self.axes) == 1:
+            return [self.axes[0].text(k) for k in ks]
+        return [",".join([axis.text(at) for axis, at in self.positions(k)]) for k in ks]
+
+    def study(self, k: int) -> Study | Callable[[], Study]:
+        """Return study k, or a recipe of it."""
+        raise NotImplementedError
+
+    def together(self) -> ManyArrivals | ManyLaws | None:
+        """Return what runs many of the studies in a few calls; None where each is run alone."""
+        return None
+
+    def items(self, begin: int) -> Iterable[Any]:
+        """Return what a cluster is given for each study from one on: its number.
+
+        With the study, where files are read for it.
+        """
+        left = range(begin, len(self))
+        return ((k, self.study(k)) for k in left) if self.reads_files else left
+
+    def sum(self, s: Study) -> str:
+        """Return a sum of all that the rows depend on."""
+        r = s.record
+        record = (
+            r.data
+            if isinstance(r, engine.Record)
+            else bytes(r.road) + bytes(r.start) + r.rows.tobytes()
+        )
+        plan = s.plan.tobytes() if s.plan is not None else None
+        spans = [(x[0], x[-1], len(x)) for x in self.axes]
+        given = (
+            __version__,
+            self.names,
+            spans,
+            record,
+            s.lanes,
+            sorted(s.laws.items()),
+            plan,
+            s.weights,
+            s.seconds,
+            self.source,
+        )
+        return hashlib.sha256(repr(given).encode()).hexdigest()[:32]
+
+
+class LoadSweep(Sweep):
+    """A study with all its arrivals times each load."""
+
+    def __init__(self, base: Study, loads: Span) -> None:
+        super().__init__(["load"], [loads])
+        self.base, self.loads = base, loads
+
+    def study(self, k: int) -> Callable[[], Study]:
+        """Return a recipe of the study with load k."""
+        return partial(self.base.scaled, self.loads[k])
+
+    def together(self) -> ManyArrivals | None:
+        """Return what runs many loads at once, where the engine's batch takes the study."""
+        if not many.fits(self.base):
+            return None
+        make = many.Loads(self.base, self.loads.unit)
+        return ManyArrivals(self.base, make, self.loads.tops)
+
+
+class SeedSweep(Sweep):
+    """A study under the stated load of each seed."""
+
+    def __init__(self, base: Study, seeds: Span, peaks: tuple[int, int]) -> None:
+        super().__init__(["seed"], [seeds])
+        self.base, self.seeds, self.source = base, seeds, peaks
+
+    def study(self, k: int) -> Callable[[], Study]:
+        """Return a recipe of the study of seed k."""
+        return partial(self.base.with_stated_load, self.seeds.tops[k], *self.source)
+
+    def together(self) -> ManyArrivals | None:
+        """Return what runs many seeds at once, where the engine's batch takes the study."""
+        if not many.fits(self.base):
+            return None
+        make = many.Seeds(self.base, *self.source)
+        return ManyArrivals(self.base, make, self.seeds.tops)
+
+
+class VariantSweep(Sweep):
+    """A study's file with other numbers at one key, or at two."""
+
+    def __init__(self, variants: Variants, keys: Sequence[str], axes: list[Span]) -> None:
+        super().__init__(list(keys), axes)
+        self.variants, self.source = variants, variants.source.values
+        self.reads_files = variants.needs_files
+
+    def study(self, k: int) -> Study | Callable[[], Study]:
+        """Return a recipe of variant k; the variant itself, where files are read for it."""
+        if not self.reads_files:
+            return partial(self.variants.study, *self.values(k))
+        try:
+            return self.variants.study(*self.values(k))
+        except Exception as e:  # noqa: B902 the row says it, and the others go on
+            return partial(_raise_fault, e)
+
+    def together(self) -> ManyLaws | None:
+        """Return what fills the record by many laws, where only their numbers differ."""
+        base = self.variants.base
+        if not (self.variants.only_laws and base.laws and many.fits(base)):
+            return None
+        return ManyLaws(base, lambda k: self.variants.laws(self.values(k)))
+
+
+def _raise_fault(e: Exception) -> Study:
+    """Raise what was wrong with a variant, in place of making it."""
+    raise e

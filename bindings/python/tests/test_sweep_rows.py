@@ -1,0 +1,101 @@
+"""A sweep's rows by few calls are those of each study by itself, to the byte."""
+import pickle
+from dataclasses import replace
+from decimal import Decimal
+from fractions import Fraction
+
+import pytest
+from nobyaluk import engine, library, load, many, parallel
+from nobyaluk.cli.arguments import parse_span
+from nobyaluk.spans import Span
+from nobyaluk.sweep import SweepRows
+from nobyaluk.sweep_studies import LoadSweep, SeedSweep, VariantSweep
+from nobyaluk.totals import totals_and_queues
+from nobyaluk.variants import Variants
+
+
+def compare(what, s, together=True):
+    """The rows of a sweep, which are the same by few calls, in two tasks and by itself."""
+    rows, ks = SweepRows(what, s), list(range(len(what)))
+    assert (rows.together is not None) == together
+    found = rows.run(totals_and_queues, ks)
+    assert found == rows.run_alone(totals_and_queues, ks)
+    assert found == [rows.line(k, parallel._one(totals_and_queues, what.study(k))) for k in ks]
+    again = pickle.loads(pickle.dumps(SweepRows(what, s)))  # as a worker of a cluster has them
+    half = len(ks) // 2
+    assert [again.run(totals_and_queues, some) for some in (ks[half:], ks[:half])] == [found[half:], found[:half]]
+    return found
+
+
+@pytest.mark.parametrize("name", ["rocade-sud-alinea", "rocade-sud-demand-capacity", "five-cells-alinea"])
+@pytest.mark.parametrize("words", ["0:1.5:0.0625", "0.333:1.2:0.111", "0.9:1000:83.7", "0.00000000025:0.000000001:0.00000000025", "1:1.00000000001:0.000000000001", "1e-98:9e-98:1.234567890123e-98"])
+def test_loads(examples, name, words):
+    s = load(examples / f"studies/{name}.toml")
+    found = compare(LoadSweep(s, parse_span(words, "--load", least=0)), s)
+    assert ("a step takes at most 1,000" in found[-1]) == (words == "0.9:1000:83.7") and found[0].endswith(",\n")
+
+
+def test_refusals_and_no_seconds(examples):
+    """Of a record whose releases are above the queues of smaller loads, and whose step has no seconds."""
+    s = replace(load(examples / "rocade-sud.rec"), seconds=None)
+    found = compare(LoadSweep(s, Span(range(2, 14), 10)), s)
+    assert [x.endswith(",\n") for x in found] == [k >= 10 for k in range(2, 14)] and found[0].startswith("0.2,,,,,,,,9 ")
+
+
+def test_seeds(examples):
+    s = load(examples / "studies/rocade-sud-alinea.toml")
+    assert len(set(compare(SeedSweep(s, Span(range(0, 400, 7), 1), (20_000, 3_000)), s))) == 58
+    compare(SeedSweep(s, Span(range((1 << 32) - 3, 1 << 32), 1), (engine.RATE, engine.RATE)), s)
+    assert "refused" not in compare(SeedSweep(s, Span(range(3), 1), (engine.RATE + 1, 0)), s, together=False)[0]
+
+
+@pytest.mark.parametrize("file, key, words, together", [
+    ("studies/rocade-sud-alinea.toml", "meter.all.gain", "-0.02:0.3:0.01", True), ("studies/rocade-sud-alinea.toml", "meter.all.target", "0:40:5", True),
+    ("studies/five-cells-alinea.toml", "meter.all.gain_kmh", "0:40:2.5", True), ("studies/rocade-sud-demand-capacity.toml", "meter.all.least", "-100:500:50", True),
+    ("studies/five-cells-alinea.toml", "meter.all.law", "1:2:1", False), ("studies/five-cells-alinea.toml", "meter.all.rate", "1:2:1", False),
+    ("studies/five-cells-alinea.toml", "gate.capacity", "-500:4000:500", False), ("studies/five-cells-alinea.toml", "step", "10:20:5", False),
+    ("exercise/weights.toml", "weights.gate", "0:300:100", False), ("exercise/works.toml", "closure.1.lanes", "0:3:1", False)])
+def test_variants(examples, file, key, words, together):
+    path = examples / file
+    what = VariantSweep(Variants(path, [key]), [key], [parse_span(words, "--vary")])
+    compare(what, load(path), together)
+
+
+def test_a_grid_of_laws(examples):
+    path, keys = examples / "studies/five-cells-alinea.toml", ["meter.all.gain_kmh", "meter.all.target"]
+    what = VariantSweep(Variants(path, keys), keys, [parse_span("10:30:10", "--vary"), parse_span("-10:40:10", "--vary")])
+    found = compare(what, load(path))
+    assert [x.split(",")[:2] for x in found] == [[str(a), str(b)] for a in (10, 20, 30) for b in range(-10, 50, 10)]
+
+
+def test_what_is_run_one_by_one(examples):
+    weighed = load(examples / "exercise/weights.toml")
+    assert compare(LoadSweep(weighed, Span(range(8, 13), 10)), weighed, together=False)[0].count(",") == 9
+    s = load(examples / "studies/five-cells-alinea.toml")
+    odd = replace(s, laws={**s.laws, 1: ("fixed", 1.0)})  # cell 1 has no ramp
+    assert "cell 1 has no ramp" in compare(LoadSweep(odd, Span(range(8, 13), 10)), odd, together=False)[0]
+
+
+def test_few_calls(examples, monkeypatch):
+    """No study is made: of 60 loads there are two calls of the engine, and of 60 gains 60, of one record."""
+    calls = []
+    for name in ("fill_many", "fill_longest"):
+        call = getattr(library, name)
+        monkeypatch.setattr(library, name, lambda *words, call=call, name=name: (calls.append((name, words[0])), call(*words))[1])
+    monkeypatch.setattr(many, "TABLES", 1 << 20)
+    path = examples / "studies/rocade-sud-alinea.toml"
+    s = load(path)
+    SweepRows(LoadSweep(s, Span(range(60), 50)), s).run(totals_and_queues, range(60))
+    assert [name for name, _ in calls] == ["fill_many"] * -(-60 // ((1 << 20) // (4 * s.record.arrivals.size)))
+    calls.clear()
+    key = "meter.all.gain"
+    SweepRows(VariantSweep(Variants(path, [key]), [key], [Span(range(60), 500)]), s).run(totals_and_queues, range(60))
+    assert len(calls) == 60 and len(set(calls)) == 1
+
+
+@pytest.mark.parametrize("unit", [1, 2, 4, 5, 8, 10, 40, 1000, 10**30, 2**90, 10**100, 2**101])
+def test_numbers_as_they_are_written(unit):
+    span = Span(range(-30, 31, 5), unit)
+    for k in range(len(span)):
+        assert Fraction(span.text(k)) == span[k] == Fraction(-30 + 5 * k, unit)
+        assert "e" not in span.text(k) and (span.text(k) == "0" or Decimal(span.text(k)) != 0) and not ("." in span.text(k) and span.text(k)[-1] in "0.")
