@@ -3,6 +3,7 @@ pub mod JoinedLimits
 pub mod JoinedTests
 pub mod Theorems
 pub mod JoinedParts
+pub mod RoadParts
 pub mod JoinedCut
 pub mod JoinedBytes
 pub mod JoiningLaws

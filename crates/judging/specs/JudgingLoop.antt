@@ -9,17 +9,12 @@ use Rattle.model.specs.Refusals.{FaultAnswer}
 use Rattle.model.specs.declared.Road.{Road}
 use Rattle.model.specs.declared.State.{State}
 use Rattle.model.specs.Road.{mostCells}
-use Rattle.model.specs.Schedules.{Study, roadAt, places, tableSize, scheduleAfter, proposedAt, scheduledAt}
+use Rattle.model.specs.Schedules.{Study, roadAt, places, scheduleAfter, proposedAt, scheduledAt}
 use Rattle.theory.specs.StepLaws.{number-of}
 use Rattle.theory.specs.RunsLaws.{StudyOk, StepOf, step-road, step-input, step-sized, step-left}
-use Rattle.model.specs.Reading.{ReadAnswer, readingOf, studyBy}
-use Rattle.model.specs.Judging.{judgeSays, judgeEnd, judgingOf}
-use Rattle.model.specs.Running.{EndAnswer, ended, noState, openingOf}
+use Rattle.model.specs.Judging.{judgeSays, judgeEnd}
+use Rattle.model.specs.Running.{EndAnswer, ended}
 use Rattle.theory.specs.SchedulesLaws.{judge-reached, ends-all, ends-at}
-use Rattle.model.specs.Demand.{Taken, AcceptsExactly}
-use Rattle.theory.specs.Opening.{opened-taken, opened-reads}
-use Rattle.theory.specs.RunEnds.{judges-unopened, judges-length, judges-ends}
-use Rattle.theory.specs.JudgingExact.{accepts-exactly}
 use Rattle.judging.specs.JudgedStep.{Judges, JudgedStep}
 
 -- the schedule obeys in the first k steps, and u is its own state after them
@@ -84,31 +79,3 @@ module _ {a : Study} {zs : List ℕ} where
         state = rw (j .moved z, t .road, t .obeyed .state, t .numbers, t .outflows, add-one k);
         faultless = faultless-more (t .obeyed .faultless) (t .left) (number-of says) z;
       }
-
--- the answer, and that it accepts exactly the schedules that obey
-abbrev pub Promise : List ℕ → List ℕ → List ℕ → EndAnswer → Type 0
-Promise bytes lanes zs e = (e ≡ judgingOf bytes lanes zs) × AcceptsExactly bytes lanes zs e
-
-promise : {bytes lanes zs : List ℕ} {e : EndAnswer} → e ≡ judgingOf bytes lanes zs → Promise bytes lanes zs e
-promise {bytes} {lanes} {zs} ee = (ee, accepts-exactly bytes lanes zs ee)
-
--- how judging ends, from what opening gave
-module _ (bytes lanes zs : List ℕ) {x : ReadAnswer} (ex : x ≡ openingOf bytes lanes) where
-  pub answer-unopened : {e : EndAnswer} → (x .number ≡ 0 → ⊥) → e ≡ noState (x .number) (x .place) → Promise bytes lanes zs e
-  answer-unopened h ee = promise (rw ex at ee ∙ sym (judges-unopened bytes lanes (rw ex at h) zs))
-
-  -- without a refusal
-  module _ (h : x .number ≡ 0) where
-    taken : Taken bytes lanes
-    taken = opened-taken bytes lanes ex h
-
-    reads : x ≡ readingOf bytes
-    reads = opened-reads bytes lanes ex h
-
-    pub answer-length : {e : EndAnswer} → (length zs ≡ tableSize (studyBy bytes lanes (x .road) (x .state) (x .steps)) → ⊥) → e ≡ noState 12 0
-        → Promise bytes lanes zs e
-    answer-length n ee = promise (ee ∙ sym (judges-length bytes lanes taken zs (rw reads at n)))
-
-    pub answer-rows : {e : EndAnswer} → length zs ≡ tableSize (studyBy bytes lanes (x .road) (x .state) (x .steps))
-        → e ≡ judgeEnd (studyBy bytes lanes (x .road) (x .state) (x .steps)) zs → Promise bytes lanes zs e
-    answer-rows l ee = promise (rw reads at ee ∙ sym (judges-ends bytes lanes taken zs (rw reads at l)))

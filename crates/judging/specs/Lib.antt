@@ -4,4 +4,4 @@ pub mod JudgingLoop
 pub mod WrittenStates
 pub mod PutPlaces
 pub mod OwnRows
-pub mod PromiseOn
+pub mod JudgingEnds

@@ -5,14 +5,12 @@ use mathlib.Core.Path.{_≡_, refl, sym, ap, _∙_}
 use mathlib.Core.Bool.{Bool, true, false, cond}
 use native.Mathlib.Numerals.{add-one}
 use native.Mathlib.Omega.{arith}
-use lib.Dec.{eqb}
 use lib.ListN.{length, take, drop}
 use lib.Seq.{drop-drop}
-use borrow.Author.Tests.{eq-eqb, ne-eqb, le-leb, lt-leb}
 use Rattle.model.specs.Schedules.{Study, places, tableSize, scheduledAt}
 use Rattle.model.specs.Judging.{judgeSays, judgeEnd}
-use Rattle.model.specs.Running.{firstStep, EndAnswer, ended, noState, stepsMade, openingOf}
-use Rattle.model.specs.Judging.{heldTable, queueTable, placesOf, heldRow, queueRow, historyOf, heldAfter, queueAfter}
+use Rattle.model.specs.Running.{firstStep, EndAnswer, ended}
+use Rattle.model.specs.Judging.{heldTable, queueTable, placesOf, heldRow, queueRow}
 use Rattle.numbers.specs.FirstLaws.{faultless-stop, faultless-end}
 use Rattle.numbers.specs.RowsLaws.{length-list}
 use Rattle.model.specs.Numbers.{placed, frontOf}
@@ -22,9 +20,6 @@ use Rattle.model.specs.Refusals.{FaultAnswer}
 use Rattle.model.specs.declared.Road.{Road}
 use Rattle.model.specs.declared.State.{State}
 use Rattle.theory.specs.StepLaws.{number-of}
-use Rattle.model.specs.Reading.{ReadAnswer, readingOf, studyBy, studyOf}
-use Rattle.theory.specs.SchedulesLaws.{end-made}
-use Rattle.theory.specs.Opening.{opened-reads}
 use Rattle.theory.specs.Readable.{Readable}
 use Rattle.judging.specs.JudgedStep.{JudgedStep}
 use Rattle.judging.specs.JudgingLoop.{ObeyedSteps, JudgeTurn, obeyed-none, obeyed-end, obeyed-more, says, ends-fault}
@@ -139,88 +134,3 @@ module _ {a : Study} {zs : List ℕ} {writes : Bool} {held₀ queue₀ : List �
                 written-more (queueRow a zs) (places a) (queue-wide a zs) (h .queues) (λ on. row-ends-by a k (length queue₀) (long on .1) (t .left))
                 (ap (λ (x : State). placesOf 0 (x .queue) (a .road .n)) s) eq;
           }
-
--- the answer and the lists afterwards
-abbrev pub Answered : List ℕ → List ℕ → List ℕ → List ℕ → List ℕ → EndAnswer → List ℕ → List ℕ → Type 0
-Answered bytes lanes zs held₀ queue₀ e held queue =
-    (e ≡ historyOf bytes lanes zs held₀ queue₀)
-    × ((held ≡ heldAfter bytes lanes zs held₀ queue₀) × (queue ≡ queueAfter bytes lanes zs held₀ queue₀))
-
-module _ (bytes lanes zs held₀ queue₀ : List ℕ) where
-  -- an answer that makes this many steps leaves these lists
-  made : {e : EndAnswer} {k : ℕ} → e ≡ historyOf bytes lanes zs held₀ queue₀ → stepsMade (studyOf bytes lanes) e ≡ k → {held queue : List ℕ}
-      → held ≡ heldTable (studyOf bytes lanes) zs held₀ k → queue ≡ queueTable (studyOf bytes lanes) zs queue₀ k
-      → Answered bytes lanes zs held₀ queue₀ e held queue
-  unfolding heldAfter queueAfter
-  made {e} {k} ee ek eh eq =
-      let m : k ≡ stepsMade (studyOf bytes lanes) (historyOf bytes lanes zs held₀ queue₀) = sym ek ∙ ap (stepsMade (studyOf bytes lanes)) ee in
-      (ee, (eh ∙ ap (heldTable (studyOf bytes lanes) zs held₀) m, eq ∙ ap (queueTable (studyOf bytes lanes) zs queue₀) m))
-
-  -- none where no step is named
-  none : {e : EndAnswer} → e ≡ historyOf bytes lanes zs held₀ queue₀ → stepsMade (studyOf bytes lanes) e ≡ 0
-      → Answered bytes lanes zs held₀ queue₀ e held₀ queue₀
-  none ee ek =
-      made ee ek
-      (sym (front-none (heldRow (studyOf bytes lanes) zs) (places (studyOf bytes lanes)) held₀))
-      (sym (front-none (queueRow (studyOf bytes lanes) zs) (places (studyOf bytes lanes)) queue₀))
-
-  module _ {x : ReadAnswer} (ex : x ≡ openingOf bytes lanes) where
-    pub history-unopened : {e : EndAnswer} → (x .number ≡ 0 → ⊥) → e ≡ noState (x .number) (x .place) → Answered bytes lanes zs held₀ queue₀ e held₀ queue₀
-    unfolding historyOf
-    history-unopened h ee =
-        let n : openingOf bytes lanes .number ≡ 0 → ⊥ = rw ex at h in
-        let o = ne-eqb (openingOf bytes lanes .number) 0 n in
-        none (rw (ee, ex, o)) (rw (ee, ne-eqb (x .number) 0 h) refl)
-
-    module _ (h : x .number ≡ 0) where
-      reads : x ≡ readingOf bytes
-      reads = opened-reads bytes lanes ex h
-
-      opens : eqb (openingOf bytes lanes .number) 0 ≡ true
-      opens = eq-eqb (openingOf bytes lanes .number) 0 (rw (← ex) h)
-
-      abbrev Of : Study
-      Of = studyBy bytes lanes (x .road) (x .state) (x .steps)
-
-      same : Of ≡ studyOf bytes lanes
-      same = ap (λ (z : ReadAnswer). studyBy bytes lanes (z .road) (z .state) (z .steps)) reads
-
-      pub history-length : {e : EndAnswer} → (length zs ≡ tableSize Of → ⊥) → e ≡ noState 12 0 → Answered bytes lanes zs held₀ queue₀ e held₀ queue₀
-      unfolding historyOf
-      history-length n ee =
-          let m : length zs ≡ tableSize (studyOf bytes lanes) → ⊥ = rw reads at n in
-          none (rw (ee, opens, ne-eqb (length zs) (tableSize (studyOf bytes lanes)) m)) (rw ee refl)
-
-      module _ (right : length zs ≡ tableSize Of) where
-        right-there : eqb (length zs) (tableSize (studyOf bytes lanes)) ≡ true
-        right-there = eq-eqb (length zs) (tableSize (studyOf bytes lanes)) (rw reads at right)
-
-        pub history-short-held : {e : EndAnswer} → length held₀ < tableSize Of → e ≡ noState 11 0 → Answered bytes lanes zs held₀ queue₀ e held₀ queue₀
-        unfolding historyOf
-        history-short-held l ee =
-            let m : length held₀ < tableSize (studyOf bytes lanes) = rw reads at l in
-            none (rw (ee, opens, right-there, lt-leb (tableSize (studyOf bytes lanes)) (length held₀) m)) (rw ee refl)
-
-        module _ (long : tableSize Of ≤ length held₀) where
-          held-there : tableSize (studyOf bytes lanes) ≤ length held₀
-          held-there = rw reads at long
-
-          pub history-short-queue : {e : EndAnswer} → length queue₀ < tableSize Of → e ≡ noState 11 0 → Answered bytes lanes zs held₀ queue₀ e held₀ queue₀
-          unfolding historyOf
-          history-short-queue l ee =
-              let m : length queue₀ < tableSize (studyOf bytes lanes) = rw reads at l in
-              none
-              (rw (ee, opens, right-there, le-leb (tableSize (studyOf bytes lanes)) (length held₀) held-there, lt-leb (tableSize (studyOf bytes lanes)) (length queue₀) m))
-              (rw ee refl)
-
-          pub history-rows : tableSize Of ≤ length queue₀ → {e : EndAnswer} {held queue : List ℕ} → e ≡ judgeEnd Of zs
-              → held ≡ heldEnd Of zs held₀ → queue ≡ queueEnd Of zs queue₀ → Answered bytes lanes zs held₀ queue₀ e held queue
-          unfolding historyOf
-          history-rows roomy {e} ee eh eq =
-              let m : tableSize (studyOf bytes lanes) ≤ length queue₀ = rw reads at roomy in
-              let there : e ≡ judgeEnd (studyOf bytes lanes) zs = rw reads at ee in
-              made
-              (rw (opens, right-there, le-leb (tableSize (studyOf bytes lanes)) (length held₀) held-there, le-leb (tableSize (studyOf bytes lanes)) (length queue₀) m) there)
-              (ap (stepsMade (studyOf bytes lanes)) there ∙ end-made (studyOf bytes lanes) (judgeSays (studyOf bytes lanes) zs) (scheduledAt (studyOf bytes lanes) zs))
-              (rw reads at eh)
-              (rw reads at eq)

@@ -3,6 +3,7 @@
 mod verdict;
 
 use model::Ended;
+use model::Reading;
 use model::Refusal;
 use model::Road;
 use model::State;
@@ -16,7 +17,7 @@ ghost use Rattle.model.specs.Road.{mostCells};
 ghost use Rattle.model.specs.Refusals.{refusalNumber, fault};
 ghost use Rattle.model.specs.declared.Road.{Road};
 ghost use Rattle.outflows.specs.Columns.{roadOf, stateOf};
-ghost use Rattle.model.specs.Reading.{studyBy};
+ghost use Rattle.model.specs.Reading.{studyBy, readAnswer};
 ghost use Rattle.model.specs.Listing.{mostOutflows};
 ghost use Rattle.model.specs.Running.{endAnswer};
 ghost use Rattle.model.specs.Judging.{judgeEnd, judgingOf};
@@ -25,6 +26,8 @@ ghost use Rattle.judging.specs.JudgedStep.{Judges, JudgedStep};
 ghost use Rattle.model.specs.Judging.{placesOf, historyOf, heldAfter, queueAfter};
 ghost use Rattle.judging.specs.WrittenStates.{heldEnd, queueEnd, Judgeable};
 ghost use Rattle.model.specs.GoingOn.{judgingOn, historyOn, heldOn, queueOn};
+ghost use Rattle.opening.specs.OpenedStudy.{Opens};
+ghost use Rattle.judging.specs.JudgingEnds.{JudgedBy};
 
 // What judging finds of a step, and the ledger after it: the one before it where there is a fault.
 struct Judged {
@@ -174,12 +177,20 @@ fn judge_rows(
     Ended::complete(r, l.state(cells, ramps, cumulative))
 }
 
-// Judges a proposed schedule under a table of lanes: the refusals of reading, 17, 18, 12, then 9 or 10 and 13 or 14 step by step.
-pub fn judge(bytes: &[u8], table: &[u8], schedule: &[u32]) -> Ended
-    ensures answer { λ e. ⌜ endAnswer e ≡ judgingOf (now (bytes .entry)) (now (table .entry)) (now (schedule .entry)) ⌝ }
-    ensures accepts { λ e. ⌜ AcceptsExactly (now (bytes .entry)) (now (table .entry)) (now (schedule .entry)) (endAnswer e) ⌝ }
+// Judges a schedule over a record that was opened: opening's refusal, 12, and 11 where it `writes`, then as `judge_rows`.
+fn judge_opened(
+    a: Reading,
+    bytes: &[u8],
+    table: &[u8],
+    schedule: &[u32],
+    writes: bool,
+    held: &mut [u32],
+    queue: &mut [u32],
+) -> Ended
+    requires { ⌜ Opens (now bytes) (now table) (readAnswer a) ⌝ }
+    ensures { λ e. ⌜ JudgedBy writes (now (schedule .entry)) (now (held .entry)) (now (queue .entry)) (now (bytes .entry)) (now (table .entry)) (readAnswer a)
+        (endAnswer e) (now (held .exit)) (now (queue .exit)) ⌝ }
 {
-    let a = opening::opened(bytes, table);
     let refusal = a.refusal;
     if refusal.number() != 0 {
         return Ended::without_state(refusal, a.place);
@@ -187,11 +198,13 @@ pub fn judge(bytes: &[u8], table: &[u8], schedule: &[u32]) -> Ended
     let road = a.road;
     let state = a.state;
     let steps = a.steps;
-    if schedule.len() != steps * (road.n + 1) {
+    let size = steps * (road.n + 1);
+    if schedule.len() != size {
         return Ended::without_state(Refusal::ScheduleLength, 0);
     }
-    let mut held = [0u32; 0];
-    let mut queue = [0u32; 0];
+    if writes & ((held.len() < size) | (queue.len() < size)) {
+        return Ended::without_state(Refusal::ListLength, 0);
+    }
     judge_rows(
         bytes,
         table,
@@ -199,10 +212,21 @@ pub fn judge(bytes: &[u8], table: &[u8], schedule: &[u32]) -> Ended
         state,
         steps,
         schedule,
-        false,
-        &mut held,
-        &mut queue,
+        writes,
+        held,
+        queue,
     )
+}
+
+// Judges a proposed schedule under a table of lanes: the refusals of reading, 17, 18, 12, then 9 or 10 and 13 or 14 step by step.
+pub fn judge(bytes: &[u8], table: &[u8], schedule: &[u32]) -> Ended
+    ensures answer { λ e. ⌜ endAnswer e ≡ judgingOf (now (bytes .entry)) (now (table .entry)) (now (schedule .entry)) ⌝ }
+    ensures accepts { λ e. ⌜ AcceptsExactly (now (bytes .entry)) (now (table .entry)) (now (schedule .entry)) (endAnswer e) ⌝ }
+{
+    let a = opening::opened(bytes, table);
+    let mut held = [0u32; 0];
+    let mut queue = [0u32; 0];
+    judge_opened(a, bytes, table, schedule, false, &mut held, &mut queue)
 }
 
 // Judges a schedule that goes on from a state over the rows of a further record: the refusals of reading, 17, 18, 7, 8, 12, then as judging, with the
@@ -211,29 +235,9 @@ pub fn judge_on(bytes: &[u8], table: &[u8], from: State, schedule: &[u32]) -> En
     ensures { λ e. ⌜ endAnswer e ≡ judgingOn (now (bytes .entry)) (now (table .entry)) from (now (schedule .entry)) ⌝ }
 {
     let a = opening::started(bytes, table, from);
-    let refusal = a.refusal;
-    if refusal.number() != 0 {
-        return Ended::without_state(refusal, a.place);
-    }
-    let road = a.road;
-    let state = a.state;
-    let steps = a.steps;
-    if schedule.len() != steps * (road.n + 1) {
-        return Ended::without_state(Refusal::ScheduleLength, 0);
-    }
     let mut held = [0u32; 0];
     let mut queue = [0u32; 0];
-    judge_rows(
-        bytes,
-        table,
-        road,
-        state,
-        steps,
-        schedule,
-        false,
-        &mut held,
-        &mut queue,
-    )
+    judge_opened(a, bytes, table, schedule, false, &mut held, &mut queue)
 }
 
 // Judges a schedule under a table of lanes and writes its states: the refusals of reading, 17, 18, 12, 11, then as judging.
@@ -249,34 +253,7 @@ pub fn history(
     ensures queue { λ e. ⌜ now (queue .exit) ≡ queueAfter (now (bytes .entry)) (now (table .entry)) (now (schedule .entry)) (now (held .entry)) (now (queue .entry)) ⌝ }
 {
     let a = opening::opened(bytes, table);
-    let refusal = a.refusal;
-    if refusal.number() != 0 {
-        return Ended::without_state(refusal, a.place);
-    }
-    let road = a.road;
-    let state = a.state;
-    let steps = a.steps;
-    let size = steps * (road.n + 1);
-    if schedule.len() != size {
-        return Ended::without_state(Refusal::ScheduleLength, 0);
-    }
-    if held.len() < size {
-        return Ended::without_state(Refusal::ListLength, 0);
-    }
-    if queue.len() < size {
-        return Ended::without_state(Refusal::ListLength, 0);
-    }
-    judge_rows(
-        bytes,
-        table,
-        road,
-        state,
-        steps,
-        schedule,
-        true,
-        held,
-        queue,
-    )
+    judge_opened(a, bytes, table, schedule, true, held, queue)
 }
 
 // The same of a schedule that goes on from a state: the refusals of reading, 17, 18, 7, 8, 12, 11, then as judging.
@@ -293,32 +270,5 @@ pub fn history_on(
     ensures queue { λ e. ⌜ now (queue .exit) ≡ queueOn (now (bytes .entry)) (now (table .entry)) from (now (schedule .entry)) (now (held .entry)) (now (queue .entry)) ⌝ }
 {
     let a = opening::started(bytes, table, from);
-    let refusal = a.refusal;
-    if refusal.number() != 0 {
-        return Ended::without_state(refusal, a.place);
-    }
-    let road = a.road;
-    let state = a.state;
-    let steps = a.steps;
-    let size = steps * (road.n + 1);
-    if schedule.len() != size {
-        return Ended::without_state(Refusal::ScheduleLength, 0);
-    }
-    if held.len() < size {
-        return Ended::without_state(Refusal::ListLength, 0);
-    }
-    if queue.len() < size {
-        return Ended::without_state(Refusal::ListLength, 0);
-    }
-    judge_rows(
-        bytes,
-        table,
-        road,
-        state,
-        steps,
-        schedule,
-        true,
-        held,
-        queue,
-    )
+    judge_opened(a, bytes, table, schedule, true, held, queue)
 }

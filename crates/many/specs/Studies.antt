@@ -1,15 +1,13 @@
 -- The loops over studies: what they require, and that after k studies the record, the list and the entries are those of the definitions. Assumes nothing.
 use mathlib.Core.Path.{_≡_, refl, sym, ap, _∙_}
 use mathlib.Core.List.{List, _++_}
-use Prim.Native.Nat.{ℕ, zero, suc, _+_, _-_, _*_, _≤_, _<_}
+use Prim.Native.Nat.{ℕ, suc, _+_, _-_, _*_, _≤_, _<_}
 use native.Mathlib.Nat.{mul-le-mul}
 use native.Mathlib.Numerals.{add-one}
 use native.Mathlib.Omega.{arith}
 use lib.ListN.{length, take, drop}
 use Rattle.model.specs.Numbers.{rowAt, frontOf}
-use Rattle.numbers.specs.RowsLaws.{length-fill}
-use Rattle.numbers.specs.Zeros.{length-zeros}
-use Rattle.numbers.specs.TablesLaws.{row-ends, row-length, mul-more, part-row, part-length, length-front, front-more, front-none}
+use Rattle.numbers.specs.TablesLaws.{row-ends, mul-more, part-row, part-length, length-front, front-more, front-none}
 use Rattle.model.specs.Record.{versionOf}
 use Rattle.fields.specs.FieldsLaws.{HoldsRow}
 use Rattle.model.specs.Reading.{readingOf}
@@ -17,7 +15,7 @@ use Rattle.reading.specs.Cases.{AcceptedRecord}
 use Rattle.reading.specs.Within.{read-within, read-row}
 use Rattle.model.specs.Running.{EndAnswer}
 use Rattle.model.specs.Longest.{Queues}
-use Rattle.model.specs.Many.{withArrivals, arrivalsSize, entrySize, answerEntry}
+use Rattle.model.specs.Many.{arrivalsSize, studyCount, entrySize, answerEntry}
 use Rattle.many.specs.Arrivals.{holds-on}
 use Rattle.many.specs.Putting.{TableFits}
 
@@ -28,6 +26,7 @@ pub record Studies (bytes arrivals : List ℕ) (n T count : ℕ) (answers : List
   pub steps : T ≡ readingOf bytes .steps
   pub whole : length arrivals ≡ count * arrivalsSize n T
   pub room : count * entrySize ≤ length answers
+  pub counted : count ≡ studyCount bytes arrivals
 
 -- the size of a table of arrivals fits a machine number
 pub table-small : {bytes arrivals : List ℕ} {n T count : ℕ} {answers : List ℕ} → Studies bytes arrivals n T count answers

@@ -1,29 +1,37 @@
 -- The refusals of many studies as a whole, and the lent lists after each case. Assumes nothing.
 use mathlib.Core.Path.{_≡_, refl, sym, ap, _∙_}
-use mathlib.Core.Bool.{Bool}
 use mathlib.Core.List.{List}
 use Prim.Native.Nat.{ℕ, _+_, _*_, _/_, _%_, _≤_, _<_}
 use native.Mathlib.Nat.{div-add-mod', mul-le-mul}
 use native.Mathlib.Omega.{arith}
 use lib.ListN.{length}
 use borrow.Author.Tests.{eq-eqb, ne-eqb, le-leb, lt-leb}
-use Rattle.model.specs.Numbers.{unless, frontOf}
+use Rattle.model.specs.Numbers.{frontOf}
 use Rattle.model.specs.declared.Law.{Law}
 use Rattle.model.specs.Refusals.{FaultAnswer, fault}
 use Rattle.model.specs.Reading.{ReadAnswer, readingOf}
 use Rattle.reading.specs.Within.{read-within}
-use Rattle.model.specs.Many.{arrivalsSize, recordArrivals, studyCount, entrySize, manyFault, unlessMany, runEntry, runAnswers, listAfterRuns, runLists, recordAfterRuns, runRecord}
+use Rattle.model.specs.Many.{arrivalsSize, studyCount, entrySize, manyFault, runEntry, runAnswers, listAfterRuns, runLists, recordAfterRuns, runRecord}
 use Rattle.model.specs.Many.{fillEntry, fillAnswers, listAfterFillings, fillLists, recordAfterFillings, fillRecord}
 use Rattle.many.specs.Studies.{Studies}
+
+-- what the code finds of the whole: its refusal, and without one what the loops require
+pub record Found (bytes arrivals answers : List ℕ) (q : FaultAnswer) (n T count : ℕ) : Type 0 where
+  pub refusal : q ≡ manyFault bytes arrivals answers
+  pub asked : q .number ≡ 0 → Studies bytes arrivals n T count answers
 
 -- from reading's answer
 module _ (bytes arrivals answers : List ℕ) {x : ReadAnswer} (e : x ≡ readingOf bytes) where
   abbrev size : ℕ
   size = arrivalsSize (x .road .n) (x .steps)
 
-  pub many-unread : (x .number ≡ 0 → ⊥) → fault (x .number) (x .place) ≡ manyFault bytes arrivals answers
+  refuses : (number place : ℕ) {q : FaultAnswer} {n T count : ℕ} → (number ≡ 0 → ⊥) → fault number place ≡ manyFault bytes arrivals answers
+      → q ≡ fault number place → Found bytes arrivals answers q n T count
+  refuses number place h is eq = record { refusal = eq ∙ is; asked = λ z. absurd (h (ap (λ (f : FaultAnswer). f .number) (sym eq) ∙ z)) }
+
+  pub found-unread : {q : FaultAnswer} {n T count : ℕ} → (x .number ≡ 0 → ⊥) → q ≡ fault (x .number) (x .place) → Found bytes arrivals answers q n T count
   unfolding manyFault
-  many-unread h = rw (← e, ne-eqb (x .number) 0 h)
+  found-unread h = refuses (x .number) (x .place) h (rw (← e, ne-eqb (x .number) 0 h))
 
   module _ (z : x .number ≡ 0) where
     -- a table has at least one number, and its size fits a machine number
@@ -33,37 +41,37 @@ module _ (bytes arrivals answers : List ℕ) {x : ReadAnswer} (e : x ≡ reading
         let k : x .road .n + 1 ≤ 65 = omega (arith, w .road .cells) in
         (omega (arith, mul-le-mul (w .someSteps) (w .road .some)), (k, omega (arith, mul-le-mul (w .steps) k)))
 
-    pub many-tables : (length arrivals % arrivalsSize (x .road .n) (x .steps) ≡ 0 → ⊥) → fault 27 1 ≡ manyFault bytes arrivals answers
+    pub found-tables : {q : FaultAnswer} {n T count : ℕ} → (length arrivals % arrivalsSize (x .road .n) (x .steps) ≡ 0 → ⊥) → q ≡ fault 27 1
+        → Found bytes arrivals answers q n T count
     unfolding manyFault
-    many-tables h = rw (← e, eq-eqb (x .number) 0 z, ne-eqb (length arrivals % size) 0 h) refl
+    found-tables h = refuses 27 1 (λ i. omega arith) (rw (← e, eq-eqb (x .number) 0 z, ne-eqb (length arrivals % size) 0 h) refl)
 
     module _ (m : length arrivals % arrivalsSize (x .road .n) (x .steps) ≡ 0) where
-      pub many-room : length answers / entrySize < length arrivals / arrivalsSize (x .road .n) (x .steps) → fault 27 2 ≡ manyFault bytes arrivals answers
+      pub found-room : {q : FaultAnswer} {n T count : ℕ} → length answers / entrySize < length arrivals / arrivalsSize (x .road .n) (x .steps) → q ≡ fault 27 2
+          → Found bytes arrivals answers q n T count
       unfolding manyFault
-      many-room l =
+      found-room l =
           let f : length answers < length arrivals / size * entrySize = omega arith in
-          rw (← e, eq-eqb (x .number) 0 z, eq-eqb (length arrivals % size) 0 m, lt-leb (length arrivals / size * entrySize) (length answers) f) refl
+          refuses 27 2 (λ i. omega arith)
+          (rw (← e, eq-eqb (x .number) 0 z, eq-eqb (length arrivals % size) 0 m, lt-leb (length arrivals / size * entrySize) (length answers) f) refl)
 
-      module _ (l : length arrivals / arrivalsSize (x .road .n) (x .steps) ≤ length answers / entrySize) where
-        room : length arrivals / size * entrySize ≤ length answers
-        room = omega arith
-
-        pub many-none : fault 0 0 ≡ manyFault bytes arrivals answers
-        unfolding manyFault
-        many-none = rw (← e, eq-eqb (x .number) 0 z, eq-eqb (length arrivals % size) 0 m, le-leb (length arrivals / size * entrySize) (length answers) room)
-
-        -- the loops may begin
-        pub studies-begin : Studies bytes arrivals (x .road .n) (x .steps) (length arrivals / arrivalsSize (x .road .n) (x .steps)) answers
-        studies-begin = record {
-          reads = ap (λ (y : ReadAnswer). y .number) (sym e) ∙ z;
-          cells = ap (λ (y : ReadAnswer). y .road .n) e;
-          steps = ap (λ (y : ReadAnswer). y .steps) e;
-          whole = omega (arith, div-add-mod' (length arrivals) size);
-          room = room;
-        }
-
-        pub many-count : length arrivals / arrivalsSize (x .road .n) (x .steps) ≡ studyCount bytes arrivals
-        many-count = ap (λ (y : ReadAnswer). length arrivals / arrivalsSize (y .road .n) (y .steps)) e
+      -- the loops may begin
+      pub found-none : {q : FaultAnswer} → length arrivals / arrivalsSize (x .road .n) (x .steps) ≤ length answers / entrySize → q ≡ fault 0 0
+          → Found bytes arrivals answers q (x .road .n) (x .steps) (length arrivals / arrivalsSize (x .road .n) (x .steps))
+      unfolding manyFault
+      found-none l eq =
+          let room : length arrivals / size * entrySize ≤ length answers = omega arith in
+          record {
+            refusal = eq ∙ rw (← e, eq-eqb (x .number) 0 z, eq-eqb (length arrivals % size) 0 m, le-leb (length arrivals / size * entrySize) (length answers) room);
+            asked = λ _. record {
+              reads = ap (λ (y : ReadAnswer). y .number) (sym e) ∙ z;
+              cells = ap (λ (y : ReadAnswer). y .road .n) e;
+              steps = ap (λ (y : ReadAnswer). y .steps) e;
+              whole = omega (arith, div-add-mod' (length arrivals) size);
+              room = room;
+              counted = ap (λ (y : ReadAnswer). length arrivals / arrivalsSize (y .road .n) (y .steps)) e;
+            };
+          }
 
 -- the answer and the lists afterwards: a refusal of the whole leaves all unchanged
 module _ (bytes lanes arrivals list answers : List ℕ) {q : FaultAnswer} (e : q ≡ manyFault bytes arrivals answers) where

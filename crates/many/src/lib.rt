@@ -9,13 +9,14 @@ ghost use mathlib.Core.Path.{_≡_};
 ghost use Prim.Native.Nat.{_+_};
 ghost use lib.ListN.{length};
 ghost use Rattle.model.specs.Numbers.{at, frontOf};
-ghost use Rattle.model.specs.Refusals.{faultAnswer};
+ghost use Rattle.model.specs.Refusals.{refusalNumber, fault, faultAnswer};
 ghost use Rattle.model.specs.Running.{endAnswer};
 ghost use Rattle.model.specs.Longest.{longestQueues};
 ghost use Rattle.model.specs.Many.{putArrivals, withArrivals, entrySize, answerEntry, manyFault, runEntry, runAnswers, listAfterRuns, runLists, recordAfterRuns, runRecord};
 ghost use Rattle.model.specs.Many.{fillEntry, fillAnswers, listAfterFillings, fillLists, recordAfterFillings, fillRecord};
 ghost use Rattle.many.specs.Putting.{RowFits, TableFits};
 ghost use Rattle.many.specs.Studies.{Studies};
+ghost use Rattle.many.specs.Whole.{Found};
 
 // How many numbers an entry has, and how many come before those of the ramps.
 const ENTRY: usize = 73;
@@ -163,6 +164,60 @@ fn fill_studies(
     }
 }
 
+// The studies of a record and its tables of arrivals: what is refused of them as a whole, or the cells, the steps and how many studies there are.
+struct Whole {
+    fault: Fault,
+    n: usize,
+    steps: usize,
+    count: usize,
+}
+
+fn refused(refusal: Refusal, place: usize) -> Whole
+    ensures { λ a. ⌜ faultAnswer (a .fault) ≡ fault (refusalNumber refusal) place ⌝ }
+{
+    let fault = Fault {
+        refusal: refusal,
+        place: place,
+    };
+    Whole {
+        fault: fault,
+        n: 0,
+        steps: 0,
+        count: 0,
+    }
+}
+
+// The refusals of reading, then 27: tables that are not whole, then no room for an entry a study.
+fn studies(bytes: &[u8], arrivals: &[u32], answers: &[u64]) -> Whole
+    ensures { λ a. ⌜ Found (now (bytes .entry)) (now (arrivals .entry)) (now (answers .entry)) (faultAnswer (a .fault)) (a .n) (a .steps) (a .count) ⌝ }
+{
+    let a = reading::read(bytes);
+    let refusal = a.refusal;
+    if refusal.number() != 0 {
+        return refused(refusal, a.place);
+    }
+    let n = a.road.n;
+    let steps = a.steps;
+    let size = steps * (n + 1);
+    if arrivals.len() % size != 0 {
+        return refused(Refusal::ManyLengths, 1);
+    }
+    let count = arrivals.len() / size;
+    if answers.len() / ENTRY < count {
+        return refused(Refusal::ManyLengths, 2);
+    }
+    let fault = Fault {
+        refusal: Refusal::None,
+        place: 0,
+    };
+    Whole {
+        fault: fault,
+        n: n,
+        steps: steps,
+        count: count,
+    }
+}
+
 // Runs a record with each of many tables of arrivals, one after the other: the refusals of reading, then 27; an entry of answers per study.
 pub fn run_many(
     bytes: &mut [u8],
@@ -178,35 +233,14 @@ pub fn run_many(
     ensures answers { λ r. ⌜ now (answers .exit)
         ≡ runAnswers (now (bytes .entry)) (now (table .entry)) (now (arrivals .entry)) (now (out .entry)) (now (answers .entry)) ⌝ }
 {
-    let a = reading::read(bytes);
-    let refusal = a.refusal;
+    let a = studies(bytes, arrivals, answers);
+    let fault = a.fault;
+    let refusal = fault.refusal;
     if refusal.number() != 0 {
-        return Fault {
-            refusal: refusal,
-            place: a.place,
-        };
+        return fault;
     }
-    let n = a.road.n;
-    let steps = a.steps;
-    let size = steps * (n + 1);
-    if arrivals.len() % size != 0 {
-        return Fault {
-            refusal: Refusal::ManyLengths,
-            place: 1,
-        };
-    }
-    let count = arrivals.len() / size;
-    if answers.len() / ENTRY < count {
-        return Fault {
-            refusal: Refusal::ManyLengths,
-            place: 2,
-        };
-    }
-    run_studies(bytes, table, arrivals, n, steps, count, out, answers);
-    Fault {
-        refusal: Refusal::None,
-        place: 0,
-    }
+    run_studies(bytes, table, arrivals, a.n, a.steps, a.count, out, answers);
+    fault
 }
 
 // Fills a record with each of many tables of arrivals in the same way: the refusals of reading, then 27; an entry of answers per study.
@@ -226,33 +260,22 @@ pub fn fill_many(
     ensures answers { λ r. ⌜ now (answers .exit)
         ≡ fillAnswers laws (now (bytes .entry)) (now (table .entry)) (now (arrivals .entry)) (now (out .entry)) (now (answers .entry)) ⌝ }
 {
-    let a = reading::read(bytes);
-    let refusal = a.refusal;
+    let a = studies(bytes, arrivals, answers);
+    let fault = a.fault;
+    let refusal = fault.refusal;
     if refusal.number() != 0 {
-        return Fault {
-            refusal: refusal,
-            place: a.place,
-        };
+        return fault;
     }
-    let n = a.road.n;
-    let steps = a.steps;
-    let size = steps * (n + 1);
-    if arrivals.len() % size != 0 {
-        return Fault {
-            refusal: Refusal::ManyLengths,
-            place: 1,
-        };
-    }
-    let count = arrivals.len() / size;
-    if answers.len() / ENTRY < count {
-        return Fault {
-            refusal: Refusal::ManyLengths,
-            place: 2,
-        };
-    }
-    fill_studies(bytes, laws, table, arrivals, n, steps, count, out, answers);
-    Fault {
-        refusal: Refusal::None,
-        place: 0,
-    }
+    fill_studies(
+        bytes,
+        laws,
+        table,
+        arrivals,
+        a.n,
+        a.steps,
+        a.count,
+        out,
+        answers,
+    );
+    fault
 }

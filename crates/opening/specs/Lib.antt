@@ -1,3 +1,4 @@
 pub mod RefusedCell
 pub mod OpeningEnds
 pub mod StartingEnds
+pub mod OpenedStudy

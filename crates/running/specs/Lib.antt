@@ -2,5 +2,4 @@ pub mod Steps
 pub mod LentList
 pub mod WeightedTotal
 pub mod Promise
-pub mod PromiseOn
 pub mod Arrays

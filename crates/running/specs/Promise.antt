@@ -1,105 +1,159 @@
--- What running promises, from what its code finds. Assumes nothing.
+-- What running promises over a record that was opened, from its own start or from a state. Assumes nothing.
 use mathlib.Core.Path.{_≡_, refl, sym, ap, _∙_}
-use mathlib.Core.Bool.{Bool, true, false, cond}
+use mathlib.Core.Bool.{Bool, true, cond}
 use mathlib.Core.List.{List}
 use Prim.Native.Nat.{ℕ, _≤_, _<_}
+use native.Mathlib.Omega.{arith}
+use lib.Dec.{leb}
 use lib.ListN.{length}
-use Rattle.model.specs.Schedules.{tableSize}
-use Rattle.model.specs.Reading.{ReadAnswer, readingOf, studyBy}
-use Rattle.model.specs.Running.{EndAnswer, noState, openingOf, runEnd, runningOf, listAfter}
-use Rattle.theory.specs.SchedulesLaws.{runTable}
-use Rattle.theory.specs.Opening.{opened-taken, opened-reads}
-use Rattle.theory.specs.RunEnds.{runs-unopened, writes-unopened, runs-short, writes-short, runs-long, writes-long}
+use borrow.Author.Tests.{le-leb, lt-leb, ne-eqb}
+use Rattle.model.specs.Numbers.{unless}
+use Rattle.model.specs.declared.State.{State}
+use Rattle.model.specs.Schedules.{Study, tableSize, engineAfter}
+use Rattle.model.specs.Reading.{ReadAnswer}
+use Rattle.model.specs.Running.{EndAnswer, noState, stepsMade, openingOf, runSays, firstStep, runEnd, runningOf, tableOf, listAfter}
 use Rattle.model.specs.Demand.{Taken, Promised, WeightedDemand}
+use Rattle.model.specs.Weights.{weightedTotal, weightedTotalOfRun}
+use Rattle.model.specs.Longest.{Queues, longestOf, longestRun}
+use Rattle.model.specs.GoingOn.{runningOn, listOn, weightedTotalOn, longestOn}
+use Rattle.theory.specs.SchedulesLaws.{runTable, end-made}
+use Rattle.theory.specs.TableLaws.{table-none}
+use Rattle.theory.specs.WeightsLaws.{weighted-total-none}
 use Rattle.theory.specs.DemandWhole.{promised}
-use Rattle.model.specs.Weights.{weightedTotalOfRun}
-use Rattle.theory.specs.DemandByWeights.{weighted-demand, weighted-unopened, weighted-short, weighted-long}
-use Rattle.model.specs.Longest.{Queues, longestRun}
+use Rattle.theory.specs.DemandByWeights.{weighted-demand}
+use Rattle.theory.specs.StartingState.{startingOf}
 use Rattle.counts.specs.Longest.{noQueues}
-use Rattle.counts.specs.LongestRun.{longestEnd, longest-unopened, longest-short, longest-long}
-use Rattle.running.specs.WeightedTotal.{weightedTotalEnd}
+use Rattle.counts.specs.LongestLaws.{longest-none}
+use Rattle.counts.specs.LongestRun.{longestEnd}
+use Rattle.opening.specs.OpenedStudy.{openedStudy, endBy, stepsBy, ends-unopened, ends-opened, opened-ends, opened-made, started-ends, started-made}
+use Rattle.running.specs.WeightedTotal.{weightedTotalEnd, totalled-none}
+
+-- the end over a study: 11, then step by step
+abbrev pub ranFrom : List ℕ → Study → EndAnswer
+ranFrom list a = unless (leb (tableSize a) (length list)) (noState 11 0) (runEnd a)
+
+-- the weighted total and the longest queues of a run over k steps
+abbrev pub weightedOver : (ℕ → ℕ) → (ℕ → ℕ) → Study → ℕ → ℕ
+weightedOver w u a = weightedTotal w u (a .road .n) (engineAfter a)
+
+abbrev pub longestOver : Study → ℕ → Queues
+longestOver a = longestOf (a .road .n) (engineAfter a)
+
+-- x is what opening gave
+module _ (weighs longs : Bool) (w u : ℕ → ℕ) (list bytes lanes : List ℕ) (x : ReadAnswer) where
+  abbrev a : Study
+  a = openedStudy bytes lanes x
+
+  -- the answer, the list at exit, the weighted total and the longest queues, where these are wanted
+  abbrev pub RanBy : EndAnswer → List ℕ → ℕ → Queues → Type 0
+  RanBy e out t q =
+      (e ≡ endBy (ranFrom list) bytes lanes x)
+      × ((out ≡ tableOf (openedStudy bytes lanes x) list (stepsBy (ranFrom list) bytes lanes x))
+      × ((t ≡ cond weighs (weightedOver w u (openedStudy bytes lanes x) (stepsBy (ranFrom list) bytes lanes x)) 0)
+      × (longs ≡ true → q ≡ longestOver (openedStudy bytes lanes x) (stepsBy (ranFrom list) bytes lanes x))))
+
+  by-steps : {e : EndAnswer} {out : List ℕ} {t : ℕ} {q : Queues} (k : ℕ) → e ≡ endBy (ranFrom list) bytes lanes x → stepsMade (openedStudy bytes lanes x) e ≡ k
+      → out ≡ tableOf (openedStudy bytes lanes x) list k → t ≡ cond weighs (weightedOver w u (openedStudy bytes lanes x) k) 0
+      → (longs ≡ true → q ≡ longestOver (openedStudy bytes lanes x) k) → RanBy e out t q
+  by-steps k ee ek eo et eq =
+      let m : k ≡ stepsBy (ranFrom list) bytes lanes x = sym ek ∙ ap (stepsMade a) ee in
+      (ee, (eo ∙ ap (tableOf a list) m, (et ∙ ap (λ (j : ℕ). cond weighs (weightedOver w u a j) 0) m, λ on. eq on ∙ ap (longestOver a) m)))
+
+  -- a refusal that names no state: no step is made
+  none : {e : EndAnswer} {t : ℕ} {q : Queues} (number place : ℕ) → (number ≡ 0 → ⊥) → e ≡ noState number place → e ≡ endBy (ranFrom list) bytes lanes x
+      → (q ≡ noQueues) × (t ≡ 0) → RanBy e list t q
+  none number place n ee er nothing =
+      by-steps 0 er (ap (stepsMade a) ee ∙ rw (ne-eqb number 0 n) refl) (sym (table-none a list)) (nothing .1 ∙ totalled-none weighs w u a .sum)
+      (λ on. nothing .0 ∙ sym (longest-none (a .road .n) (engineAfter a)))
+
+  pub ran-unopened : {e : EndAnswer} {t : ℕ} {q : Queues} → (x .number ≡ 0 → ⊥) → e ≡ noState (x .number) (x .place) → (q ≡ noQueues) × (t ≡ 0)
+      → RanBy e list t q
+  ran-unopened n ee nothing = none (x .number) (x .place) n ee (ends-unopened (ranFrom list) bytes lanes x n ee) nothing
+
+  module _ (z : x .number ≡ 0) where
+    pub ran-short : {e : EndAnswer} {t : ℕ} {q : Queues} → length list < tableSize (openedStudy bytes lanes x) → e ≡ noState 11 0 → (q ≡ noQueues) × (t ≡ 0)
+        → RanBy e list t q
+    ran-short l ee nothing =
+        none 11 0 (λ i. omega arith) ee (ends-opened (ranFrom list) bytes lanes x z (ee ∙ rw (lt-leb (tableSize a) (length list) l) refl)) nothing
+
+    pub ran-long : {e : EndAnswer} {out : List ℕ} {t : ℕ} {q : Queues} → tableSize (openedStudy bytes lanes x) ≤ length list
+        → (e ≡ runEnd (openedStudy bytes lanes x)) × ((out ≡ runTable (openedStudy bytes lanes x) list)
+        × ((t ≡ weightedTotalEnd weighs w u (openedStudy bytes lanes x)) × (longs ≡ true → q ≡ longestEnd (openedStudy bytes lanes x))))
+        → RanBy e out t q
+    ran-long l r =
+        by-steps (firstStep (runSays a) (a .steps))
+        (ends-opened (ranFrom list) bytes lanes x z (r .0 ∙ rw (le-leb (tableSize a) (length list) l) refl))
+        (ap (stepsMade a) (r .0) ∙ end-made a (runSays a) (engineAfter a)) (r .1 .0) (r .1 .1 .0) (r .1 .1 .1)
+
+-- before the first step every study has the same list, weighted total and longest queues
+same-list : (list : List ℕ) (a b : Study) → tableOf a list 0 ≡ tableOf b list 0
+same-list list a b = table-none a list ∙ sym (table-none b list)
+
+same-total : (w u : ℕ → ℕ) (a b : Study) → weightedOver w u a 0 ≡ weightedOver w u b 0
+same-total w u a b = weighted-total-none w u (a .road .n) (engineAfter a) ∙ sym (weighted-total-none w u (b .road .n) (engineAfter b))
+
+same-queues : (a b : Study) → longestOver a 0 ≡ longestOver b 0
+same-queues a b = longest-none (a .road .n) (engineAfter a) ∙ sym (longest-none (b .road .n) (engineAfter b))
 
 -- the answer, the list at exit and what they are worth
 abbrev pub Promise : List ℕ → List ℕ → List ℕ → EndAnswer → List ℕ → Type 0
 Promise bytes lanes list e out =
     (e ≡ runningOf bytes lanes list) × ((out ≡ listAfter bytes lanes list) × (Taken bytes lanes → Promised bytes lanes out e))
 
-promise : (bytes lanes list : List ℕ) (e : EndAnswer) (out : List ℕ) → e ≡ runningOf bytes lanes list → out ≡ listAfter bytes lanes list
-    → Promise bytes lanes list e out
-promise bytes lanes list e out ee eo = (ee, (eo, λ t. rw (ee, eo) (promised bytes lanes t list)))
-
 -- of one record, table and list every run gives the same answer and leaves the same list, with weights and without
 pub same-run : (bytes lanes list : List ℕ) (e f : EndAnswer) (out left : List ℕ) → Promise bytes lanes list e out → Promise bytes lanes list f left
     → (e ≡ f) × (out ≡ left)
 same-run bytes lanes list e f out left p q = (p .0 ∙ sym (q .0), p .1 .0 ∙ sym (q .1 .0))
 
--- a promise of three parts, with the promises of the weighted total and of the longest queues
-pub with-tallies : {A B C D E : Type 0} → A × (B × C) → D → E → A × (B × (C × (D × E)))
-with-tallies p h q = (p .0, (p .1 .0, (p .1 .1, (h, q))))
-
--- no step was done
-none : (weighs : Bool) {t : ℕ} → t ≡ 0 → 0 ≡ cond weighs t 0
-none true e = sym e
-none false e = refl
-
--- x is what opening gave
+-- from the record's own start
 module _ (bytes lanes list : List ℕ) {x : ReadAnswer} (ex : x ≡ openingOf bytes lanes) where
-  pub promise-unopened : {e : EndAnswer} → (x .number ≡ 0 → ⊥) → e ≡ noState (x .number) (x .place) → Promise bytes lanes list e list
-  promise-unopened {e} h ee =
-      let n : openingOf bytes lanes .number ≡ 0 → ⊥ = rw ex at h in
-      promise bytes lanes list e list (rw ex at ee ∙ sym (runs-unopened bytes lanes n list)) (sym (writes-unopened bytes lanes n list))
+  opened-run : {e : EndAnswer} → e ≡ endBy (ranFrom list) bytes lanes x → e ≡ runningOf bytes lanes list
+  unfolding runningOf
+  opened-run ee = ee ∙ opened-ends bytes lanes ex (ranFrom list)
 
-  -- and its weighted total, where weights are wanted
-  pub total-unopened : (weighs : Bool) (w u : ℕ → ℕ) {t : ℕ} → (x .number ≡ 0 → ⊥) → t ≡ 0 → t ≡ cond weighs (weightedTotalOfRun w u bytes lanes list) 0
-  total-unopened weighs w u h e = e ∙ none weighs (weighted-unopened w u bytes lanes list (rw ex at h))
+  opened-list : {out : List ℕ} → out ≡ tableOf (openedStudy bytes lanes x) list (stepsBy (ranFrom list) bytes lanes x) → out ≡ listAfter bytes lanes list
+  unfolding runningOf listAfter
+  opened-list eo = eo ∙ opened-made bytes lanes ex (ranFrom list) (λ a. tableOf a list) (λ a. same-list list a _)
 
-  -- and its longest queues
-  pub longs-unopened : {A : Type 0} {q : Queues} → (x .number ≡ 0 → ⊥) → q ≡ noQueues → A → q ≡ longestRun bytes lanes list
-  longs-unopened h e asked = e ∙ sym (longest-unopened bytes lanes list (rw ex at h))
+  pub run-promise : {e : EndAnswer} {out : List ℕ} → e ≡ endBy (ranFrom list) bytes lanes x
+      → out ≡ tableOf (openedStudy bytes lanes x) list (stepsBy (ranFrom list) bytes lanes x) → Promise bytes lanes list e out
+  run-promise {e} {out} ee eo =
+      let run : e ≡ runningOf bytes lanes list = opened-run ee in
+      let left : out ≡ listAfter bytes lanes list = opened-list eo in
+      (run, (left, λ t. rw (run, left) (promised bytes lanes t list)))
 
-  -- without a refusal
-  module _ (h : x .number ≡ 0) where
-    taken : Taken bytes lanes
-    taken = opened-taken bytes lanes ex h
+  opened-weighted : (w u : ℕ → ℕ) {t : ℕ} → t ≡ weightedOver w u (openedStudy bytes lanes x) (stepsBy (ranFrom list) bytes lanes x)
+      → t ≡ weightedTotalOfRun w u bytes lanes list
+  unfolding runningOf weightedTotalOfRun
+  opened-weighted w u et = et ∙ opened-made bytes lanes ex (ranFrom list) (weightedOver w u) (λ a. same-total w u a _)
 
-    reads : x ≡ readingOf bytes
-    reads = opened-reads bytes lanes ex h
+  -- a weighted run's whole promise
+  pub run-weighted-promise : (w u : ℕ → ℕ) {e : EndAnswer} {out : List ℕ} {t : ℕ} → Promise bytes lanes list e out
+      → t ≡ weightedOver w u (openedStudy bytes lanes x) (stepsBy (ranFrom list) bytes lanes x)
+      → (e ≡ runningOf bytes lanes list) × ((out ≡ listAfter bytes lanes list) × ((t ≡ weightedTotalOfRun w u bytes lanes list)
+      × ((Taken bytes lanes → Promised bytes lanes out e) × (Taken bytes lanes → WeightedDemand bytes lanes w u out e t))))
+  run-weighted-promise w u {t = t} p et =
+      let total : t ≡ weightedTotalOfRun w u bytes lanes list = opened-weighted w u et in
+      (p .0, (p .1 .0, (total, (p .1 .1, λ taken. rw (p .0, p .1 .0, total) (weighted-demand bytes lanes taken list w u)))))
 
-    pub promise-short : {e : EndAnswer} → length list < tableSize (studyBy bytes lanes (x .road) (x .state) (x .steps)) → e ≡ noState 11 0
-        → Promise bytes lanes list e list
-    promise-short {e} l ee =
-        let m = rw reads at l in
-        promise bytes lanes list e list (ee ∙ sym (runs-short bytes lanes taken list m)) (sym (writes-short bytes lanes taken list m))
+  -- the longest queues of a run
+  pub run-longest-promise : {q : Queues} → q ≡ longestOver (openedStudy bytes lanes x) (stepsBy (ranFrom list) bytes lanes x) → q ≡ longestRun bytes lanes list
+  unfolding runningOf longestRun
+  run-longest-promise eq = eq ∙ opened-made bytes lanes ex (ranFrom list) longestOver (λ a. same-queues a _)
 
-    pub promise-long : {e : EndAnswer} {out : List ℕ} → tableSize (studyBy bytes lanes (x .road) (x .state) (x .steps)) ≤ length list
-        → e ≡ runEnd (studyBy bytes lanes (x .road) (x .state) (x .steps))
-        → out ≡ runTable (studyBy bytes lanes (x .road) (x .state) (x .steps)) list
-        → Promise bytes lanes list e out
-    promise-long {e} {out} l ee eo =
-        let m = rw reads at l in
-        promise bytes lanes list e out (rw reads at ee ∙ sym (runs-long bytes lanes taken list m)) (rw reads at eo ∙ sym (writes-long bytes lanes taken list m))
-
-    pub longs-short : {A : Type 0} {q : Queues} → length list < tableSize (studyBy bytes lanes (x .road) (x .state) (x .steps)) → q ≡ noQueues → A
-        → q ≡ longestRun bytes lanes list
-    longs-short l e asked = e ∙ sym (longest-short bytes lanes list taken (rw reads at l))
-
-    pub longs-long : {A : Type 0} {q : Queues} → tableSize (studyBy bytes lanes (x .road) (x .state) (x .steps)) ≤ length list
-        → (A → q ≡ longestEnd (studyBy bytes lanes (x .road) (x .state) (x .steps))) → A → q ≡ longestRun bytes lanes list
-    longs-long l e asked = rw reads at (e asked) ∙ sym (longest-long bytes lanes list taken (rw reads at l))
-
-    module _ (weighs : Bool) (w u : ℕ → ℕ) {t : ℕ} where
-      pub total-short : length list < tableSize (studyBy bytes lanes (x .road) (x .state) (x .steps)) → t ≡ 0
-          → t ≡ cond weighs (weightedTotalOfRun w u bytes lanes list) 0
-      total-short l e = e ∙ none weighs (weighted-short w u bytes lanes list taken (rw reads at l))
-
-      pub total-long : tableSize (studyBy bytes lanes (x .road) (x .state) (x .steps)) ≤ length list
-          → t ≡ weightedTotalEnd weighs w u (studyBy bytes lanes (x .road) (x .state) (x .steps)) → t ≡ cond weighs (weightedTotalOfRun w u bytes lanes list) 0
-      total-long l e = rw reads at e ∙ ap (λ (k : ℕ). cond weighs k 0) (sym (weighted-long w u bytes lanes list taken (rw reads at l)))
-
--- a weighted run's whole promise
-pub all-weighted : (bytes lanes list : List ℕ) (w u : ℕ → ℕ) {e : EndAnswer} {out : List ℕ} {t : ℕ} → e ≡ runningOf bytes lanes list
-    → out ≡ listAfter bytes lanes list → (Taken bytes lanes → Promised bytes lanes out e) → t ≡ weightedTotalOfRun w u bytes lanes list
-    → (e ≡ runningOf bytes lanes list) × ((out ≡ listAfter bytes lanes list) × ((t ≡ weightedTotalOfRun w u bytes lanes list)
-    × ((Taken bytes lanes → Promised bytes lanes out e) × (Taken bytes lanes → WeightedDemand bytes lanes w u out e t))))
-all-weighted bytes lanes list w u ee eo promise et =
-    (ee, (eo, (et, (promise, λ taken. rw (ee, eo, et) (weighted-demand bytes lanes taken list w u)))))
+-- from a state
+pub run-on-promise : (w u : ℕ → ℕ) (bytes lanes : List ℕ) (s : State) (list : List ℕ) {x : ReadAnswer} → x ≡ startingOf bytes lanes s
+    → {e : EndAnswer} {out : List ℕ} {t : ℕ} {q : Queues} → RanBy true true w u list bytes lanes x e out t q
+    → (e ≡ runningOn bytes lanes s list)
+    × ((out ≡ listOn bytes lanes s list) × ((t ≡ weightedTotalOn w u bytes lanes s list) × (q ≡ longestOn bytes lanes s list)))
+unfolding runningOn listOn weightedTotalOn longestOn
+run-on-promise w u bytes lanes s list ex r = (
+  r .0 ∙ started-ends bytes lanes s ex (ranFrom list),
+  (
+    r .1 .0 ∙ started-made bytes lanes s ex (ranFrom list) (λ a. tableOf a list) (λ a. same-list list a _),
+    (
+      r .1 .1 .0 ∙ started-made bytes lanes s ex (ranFrom list) (weightedOver w u) (λ a. same-total w u a _),
+      r .1 .1 .1 refl ∙ started-made bytes lanes s ex (ranFrom list) longestOver (λ a. same-queues a _),
+    ),
+  ),
+)

@@ -2,6 +2,7 @@
 use counts::AtGate;
 use model::Ended;
 use model::Longest;
+use model::Reading;
 use model::Refusal;
 use model::Road;
 use model::State;
@@ -10,13 +11,13 @@ use model::Weighed;
 use model::Weights;
 use outflows::Ledger;
 ghost use mathlib.Core.Path.{_≡_};
-ghost use mathlib.Core.Bool.{true, cond};
+ghost use mathlib.Core.Bool.{true};
 ghost use Rattle.model.specs.Numbers.{at};
 ghost use Rattle.model.specs.Road.{withoutState};
 ghost use Rattle.counts.specs.Longest.{noQueues};
 ghost use Rattle.model.specs.Longest.{queuesOf, longestQueues, longestRun};
 ghost use Rattle.counts.specs.LongestRun.{longestEnd};
-ghost use Rattle.model.specs.Reading.{studyBy};
+ghost use Rattle.model.specs.Reading.{studyBy, readAnswer};
 ghost use Rattle.model.specs.Running.{endAnswer, runEnd, runningOf, listAfter};
 ghost use Rattle.theory.specs.SchedulesLaws.{runTable};
 ghost use Rattle.model.specs.Demand.{Taken, Promised, WeightedDemand};
@@ -24,6 +25,8 @@ ghost use Rattle.model.specs.Weights.{weightedTotalOfRun};
 ghost use Rattle.model.specs.GoingOn.{runningOn, listOn, weightedTotalOn, longestOn};
 ghost use Rattle.running.specs.LentList.{Runnable};
 ghost use Rattle.running.specs.WeightedTotal.{weightedTotalEnd};
+ghost use Rattle.opening.specs.OpenedStudy.{Opens};
+ghost use Rattle.running.specs.Promise.{RanBy};
 
 // A run's end with its longest queues and its weighted total.
 fn tallied(ended: Ended, gate: AtGate, ramps: [u32; 64], weighted: u64) -> Tallied
@@ -148,8 +151,9 @@ fn unbegun(refusal: Refusal, place: usize) -> Tallied
     }
 }
 
-// Runs a record under a table of lanes, with weights and with its longest queues where they are wanted.
+// Runs a record that was opened, with weights and with its longest queues where they are wanted: opening's refusal, 11, then as `run_rows`.
 fn run_opened(
+    a: Reading,
     bytes: &[u8],
     table: &[u8],
     weights: Weights,
@@ -157,15 +161,10 @@ fn run_opened(
     longs: bool,
     out: &mut [u32],
 ) -> Tallied
-    ensures answer { λ e. ⌜ endAnswer (e .longest .ended) ≡ runningOf (now (bytes .entry)) (now (table .entry)) (now (out .entry)) ⌝ }
-    ensures list { λ e. ⌜ now (out .exit) ≡ listAfter (now (bytes .entry)) (now (table .entry)) (now (out .entry)) ⌝ }
-    ensures demand { λ e. ⌜ (Taken (now (bytes .entry)) (now (table .entry))
-        → Promised (now (bytes .entry)) (now (table .entry)) (now (out .exit)) (endAnswer (e .longest .ended))) ⌝ }
-    ensures weighted { λ e. ⌜ e .weighted
-        ≡ cond weighs (weightedTotalOfRun (at (weights .places)) (at (weights .ramps)) (now (bytes .entry)) (now (table .entry)) (now (out .entry))) 0 ⌝ }
-    ensures longest { λ e. ⌜ (longs ≡ true → longestQueues (e .longest) ≡ longestRun (now (bytes .entry)) (now (table .entry)) (now (out .entry))) ⌝ }
+    requires { ⌜ Opens (now bytes) (now table) (readAnswer a) ⌝ }
+    ensures { λ e. ⌜ RanBy weighs longs (at (weights .places)) (at (weights .ramps)) (now (out .entry)) (now (bytes .entry)) (now (table .entry)) (readAnswer a)
+        (endAnswer (e .longest .ended)) (now (out .exit)) (e .weighted) (longestQueues (e .longest)) ⌝ }
 {
-    let a = opening::opened(bytes, table);
     let refusal = a.refusal;
     if refusal.number() != 0 {
         return unbegun(refusal, a.place);
@@ -199,17 +198,7 @@ pub fn run_on(bytes: &[u8], table: &[u8], weights: Weights, from: State, out: &m
     ensures longest { λ e. ⌜ longestQueues (e .longest) ≡ longestOn (now (bytes .entry)) (now (table .entry)) from (now (out .entry)) ⌝ }
 {
     let a = opening::started(bytes, table, from);
-    let refusal = a.refusal;
-    if refusal.number() != 0 {
-        return unbegun(refusal, a.place);
-    }
-    let road = a.road;
-    let state = a.state;
-    let steps = a.steps;
-    if out.len() < steps * (road.n + 1) {
-        return unbegun(Refusal::ListLength, 0);
-    }
-    run_rows(bytes, table, road, state, steps, weights, true, true, out)
+    run_opened(a, bytes, table, weights, true, true, out)
 }
 
 // Runs a record under a table of lanes: the refusals of reading, 17, 18, 11, then 9 or 10 with its step and cell.
@@ -222,7 +211,8 @@ pub fn run(bytes: &[u8], table: &[u8], out: &mut [u32]) -> Ended
         places: [0; 65],
         ramps: [0; 64],
     };
-    let tallied = run_opened(bytes, table, weights, false, false, out);
+    let a = opening::opened(bytes, table);
+    let tallied = run_opened(a, bytes, table, weights, false, false, out);
     tallied.longest.ended
 }
 
@@ -236,7 +226,8 @@ pub fn run_weighted(bytes: &[u8], table: &[u8], weights: Weights, out: &mut [u32
     ensures weights { λ e. ⌜ (Taken (now (bytes .entry)) (now (table .entry))
         → WeightedDemand (now (bytes .entry)) (now (table .entry)) (at (weights .places)) (at (weights .ramps)) (now (out .exit)) (endAnswer (e .ended)) (e .weighted)) ⌝ }
 {
-    let tallied = run_opened(bytes, table, weights, true, false, out);
+    let a = opening::opened(bytes, table);
+    let tallied = run_opened(a, bytes, table, weights, true, false, out);
     let longest = tallied.longest;
     let ended = longest.ended;
     Weighed {
@@ -257,6 +248,7 @@ pub fn run_longest(bytes: &[u8], table: &[u8], out: &mut [u32]) -> Longest
         places: [0; 65],
         ramps: [0; 64],
     };
-    let tallied = run_opened(bytes, table, weights, false, true, out);
+    let a = opening::opened(bytes, table);
+    let tallied = run_opened(a, bytes, table, weights, false, true, out);
     tallied.longest
 }

@@ -1,88 +1,22 @@
--- `judging::judge_on` meets its contract. Each return, by the tests on the way to it. Assumes nothing.
-use mathlib.Core.Path.{_≡_, refl, sym, ap, _∙_}
-use Rattle.numbers.specs.Tests.{never}
-use Prim.Native.Nat.{_≤_}
-use lib.ListN.{length}
-use Rattle.model.specs.Refusals.{refusalNumber}
-use Rattle.model.specs.Road.{mostCells}
-use Rattle.model.specs.Reading.{studyBy, readAnswer, readingOf}
-use Rattle.model.specs.Running.{endAnswer}
-use Rattle.theory.specs.RulesLaws.{Sized}
-use Rattle.theory.specs.StartingState.{found-readable}
-use Rattle.theory.specs.Readable.{Readable}
-use Rattle.judging.specs.PromiseOn.{judges-unstarted, judges-length, judges-rows}
+-- `judging::judge_on` meets its contract. Assumes nothing.
+use Rattle.judging.specs.JudgingEnds.{judge-on-promise}
 use Rattle.judging.proofs.judge_on.Statement.{statement}
 use Rattle.judging.proofs.judge_on.Tie as tie
 use borrow.Author.Needs.{needs}
-use native.Mathlib.Omega.{arith}
 
--- places of the code: the arguments from the opening, the opening from its test, and that test from the list's
+-- places of the code: the arguments from the opening, and the opening from the judging
 abbrev A : tie.After-started → tie.Start
 A c = c .before .before .before .before
 
-abbrev to-started : tie.Else1 → tie.After-started
-to-started c = c .before .before
-
-abbrev to-passed : tie.After-struct-known → tie.Else1
-to-passed c = c .before .before .before
-
--- the state's arrays have an entry for each cell
-sized : (c : tie.Start) → let r = readingOf (c .args .bytes .now) .road in r .n ≤ mostCells → Sized r (c .args .from)
-sized c n =
-    let h : length (c .args .from .held) ≡ mostCells = search needs in
-    let q : length (c .args .from .queue) ≡ mostCells = search needs in
-    let f : length (c .args .from .cumulative) ≡ mostCells = search needs in
-    record { held = omega arith; queue = omega arith; cumulative = omega arith }
-
--- a record that was opened with the state
-starts : (c : tie.Else1) → refusalNumber (to-started c .started .result .refusal) ≡ 0
-starts c = sym (c .before .number .ensures) ∙ c .if1 .left
-
-held : (c : tie.Else1) →
-    let o = to-started c in
-    let x = readAnswer (o .started .result) in
-    let a = A o .args in
-    Readable (a .bytes .now) (studyBy (a .bytes .now) (a .table .now) (x .road) (x .state) (x .steps))
-held c =
-    let o = to-started c in
-    let a = A o .args in
-    found-readable (a .bytes .now) (a .table .now) (a .from) (o .started .ensures) (starts c) (sized (A o))
+abbrev to-started : tie.After-judge-opened → tie.After-started
+to-started c = c .before .before .before
 
 returns : tie.Need-returns
 returns c =
-    let t = c .before in
-    let o = t .before .before in
-    let a = A o .args in
-    judges-unstarted (a .bytes .now) (a .table .now) (a .from) (a .schedule .now) (o .started .ensures) (λ z. t .if1 .taken (t .before .number .ensures ∙ z))
-    (ap endAnswer (c .without-state .ensures))
-
-add-if2 : tie.Need-add-if2
-add-if2 c = omega (arith, held (to-passed c) .ok .road .cells)
-
-mul-if2 : tie.Need-mul-if2
-mul-if2 c = omega (arith, held (to-passed c) .outflows)
-
-returns-2 : tie.Need-returns-2
-returns-2 c =
-    let k = to-passed (c .before .before) in
-    let a = A (to-started k) .args in
-    judges-length (a .bytes .now) (a .table .now) (a .from) (a .schedule .now) (to-started k .started .ensures) (starts k) (search needs)
-    (ap endAnswer (c .without-state2 .ensures))
-
-judge-rows-requires : tie.Need-judge-rows-requires
-judge-rows-requires c κs =
-    record { readable = held (to-passed (c .before .before .before)); right = omega arith; long = λ e. absurd (never e refl) }
-
-returns-3 : tie.Need-returns-3
-returns-3 c =
     let j = c .before .before in
-    let k = to-passed (j .before .before .before .before) in
-    let a = A (to-started k) .args in
-    judges-rows (a .bytes .now) (a .table .now) (a .from) (a .schedule .now) (to-started k .started .ensures) (starts k) (search needs) (j .judge-rows .ensures .0)
+    let o = to-started j in
+    let a = A o .args in
+    judge-on-promise (a .bytes .now) (a .table .now) (a .from) (a .schedule .now) (o .started .ensures .0) (j .judge-opened .ensures .0)
 
 pub judge-on-spec : {M : Type 1} → statement M
-judge-on-spec =
-    tie.close
-    (tie.spec
-    (λ c κs. search needs) (λ c κs. search needs) (λ c κs. search needs) returns add-if2 mul-if2 (λ c κs. search needs) returns-2
-    (λ c. search needs) (λ c. search needs) judge-rows-requires returns-3)
+judge-on-spec = tie.close (tie.spec (λ c κs. search needs) (λ c. search needs) (λ c. search needs) (λ c κs. search needs) returns)

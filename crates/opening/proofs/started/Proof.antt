@@ -1,11 +1,15 @@
 -- `opening::started` meets its contract. Each return follows from the tests before it. Assumes nothing.
-use mathlib.Core.Path.{_≡_, refl, sym, ap, _∙_}
+use mathlib.Core.Path.{_≡_, refl, sym, _∙_}
+use Prim.Native.Nat.{_≤_}
 use native.Mathlib.Omega.{arith}
+use lib.ListN.{length}
+use Rattle.model.specs.Road.{mostCells}
 use Rattle.model.specs.Refusals.{refusalNumber}
-use Rattle.model.specs.Reading.{readAnswer, studyBy}
+use Rattle.model.specs.Reading.{readAnswer, readingOf}
 use Rattle.limits.specs.LimitsLaws.{state-facts}
 use Rattle.theory.specs.Readable.{Readable}
-use Rattle.theory.specs.Opening.{opened-readable}
+use Rattle.theory.specs.RulesLaws.{Sized}
+use Rattle.opening.specs.OpenedStudy.{openedStudy}
 use Rattle.opening.specs.StartingEnds.{started-unopened, started-refused, started-whole}
 use Rattle.opening.proofs.started.Statement.{statement}
 use Rattle.opening.proofs.started.Tie as tie
@@ -29,16 +33,23 @@ opens : (c : tie.Else1) → refusalNumber (to-opened c .opened .result .refusal)
 opens c = sym (c .before .number .ensures) ∙ c .if1 .left
 
 held : (c : tie.Else1) →
-    let x = readAnswer (to-opened c .opened .result) in
     let a = A (to-opened c) .args in
-    Readable (a .bytes .now) (studyBy (a .bytes .now) (a .table .now) (x .road) (x .state) (x .steps))
-held c = let a = A (to-opened c) .args in opened-readable (a .bytes .now) (a .table .now) (to-opened c .opened .ensures) (opens c)
+    Readable (a .bytes .now) (openedStudy (a .bytes .now) (a .table .now) (readAnswer (to-opened c .opened .result)))
+held c = to-opened c .opened .ensures .1 (opens c)
+
+-- the state's arrays have an entry for each cell
+sized : (c : tie.Start) → let r = readingOf (c .args .bytes .now) .road in r .n ≤ mostCells → Sized r (c .args .from)
+sized c n =
+    let h : length (c .args .from .held) ≡ mostCells = search needs in
+    let q : length (c .args .from .queue) ≡ mostCells = search needs in
+    let f : length (c .args .from .cumulative) ≡ mostCells = search needs in
+    record { held = omega arith; queue = omega arith; cumulative = omega arith }
 
 returns : tie.Need-returns
 returns c =
     let o = c .before .before in
     let a = A o .args in
-    started-unopened (a .bytes .now) (a .table .now) (a .from) (o .opened .ensures) (λ z. c .if1 .taken (c .before .number .ensures ∙ z))
+    started-unopened (a .bytes .now) (a .table .now) (a .from) (sized (A o)) (o .opened .ensures .0) (λ z. c .if1 .taken (c .before .number .ensures ∙ z))
 
 state-within-requires : tie.Need-state-within-requires
 state-within-requires c κs = held (c .before) .ok .road .cells
@@ -56,7 +67,7 @@ returns-2 c =
     let p = to-passed w in
     let o = to-opened p in
     let a = A o .args in
-    started-refused (a .bytes .now) (a .table .now) (a .from) (o .opened .ensures) (opens p) (w .state-within .ensures) (f .start-refusal .ensures)
+    started-refused (a .bytes .now) (a .table .now) (a .from) (sized (A o)) (o .opened .ensures .0) (opens p) (w .state-within .ensures) (f .start-refusal .ensures)
     (λ z. t .if2 .taken (t .before .number2 .ensures ∙ z)) (c .refused .ensures)
 
 returns-3 : tie.Need-returns-3
@@ -66,7 +77,7 @@ returns-3 c =
     let p = to-passed w in
     let o = to-opened p in
     let a = A o .args in
-    started-whole (a .bytes .now) (a .table .now) (a .from) (o .opened .ensures) (opens p) (w .state-within .ensures) (f .start-refusal .ensures)
+    started-whole (a .bytes .now) (a .table .now) (a .from) (sized (A o)) (o .opened .ensures .0) (opens p) (w .state-within .ensures) (f .start-refusal .ensures)
     (sym (c .before .number2 .ensures) ∙ c .if2 .left) refl
 
 pub started-spec : {M : Type 1} → statement M
