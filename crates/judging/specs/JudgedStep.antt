@@ -4,7 +4,7 @@ use mathlib.Core.List.{List}
 use Prim.Native.Nat.{ℕ, _+_, _<_}
 use lib.ListN.{length}
 use Rattle.model.specs.Refusals.{FaultAnswer}
-use Rattle.model.specs.Road.{mostCells, mostSteps}
+use Rattle.model.specs.Road.{mostSteps}
 use Rattle.model.specs.declared.Road.{Road}
 use Rattle.model.specs.declared.State.{State}
 use Rattle.limits.specs.LimitsLaws.{InputOk}
@@ -18,16 +18,15 @@ use Rattle.stepping.specs.StepNeeds.{Movable}
 use Rattle.judging.specs.ProposedRow.{Proposed}
 
 -- it requires that on some road with these columns all is within the limits, that steps are left, and that the rows are whole
-pub record Judges (n gate : ℕ) (speed wave share jam capacity : List ℕ) (s : State) (row room y : List ℕ) : Type 0 where
+pub record Judges (n gate : ℕ) (speed wave share jam capacity : List ℕ) (s : State) (row y : List ℕ) : Type 0 where
   pub road : Road
   pub input : InputOk (roadOf road n gate speed wave share jam capacity) s row
   pub sized : Sized (roadOf road n gate speed wave share jam capacity) s
   pub left : s .done < mostSteps
   pub places : length y ≡ n + 1
-  pub rooms : length room ≡ mostCells
 
-module _ {n gate : ℕ} {speed wave share jam capacity : List ℕ} {s : State} {row room y : List ℕ}
-    (h : Judges n gate speed wave share jam capacity s row room y) where
+module _ {n gate : ℕ} {speed wave share jam capacity : List ℕ} {s : State} {row y : List ℕ}
+    (h : Judges n gate speed wave share jam capacity s row y) where
   pub proposed : Proposed n row y
   proposed = record { cells = h .input .road .cells; numbers = h .input .row .numbers; places = h .places }
 

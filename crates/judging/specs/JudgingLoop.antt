@@ -8,7 +8,6 @@ use Rattle.numbers.specs.FirstLaws.{Faultless, faultless-none, faultless-more}
 use Rattle.model.specs.Refusals.{FaultAnswer}
 use Rattle.model.specs.declared.Road.{Road}
 use Rattle.model.specs.declared.State.{State}
-use Rattle.model.specs.Road.{mostCells}
 use Rattle.model.specs.Schedules.{Study, roadAt, places, scheduleAfter, proposedAt, scheduledAt}
 use Rattle.theory.specs.StepLaws.{number-of}
 use Rattle.theory.specs.RunsLaws.{StudyOk, StepOf, step-road, step-input, step-sized, step-left}
@@ -52,15 +51,13 @@ module _ {a : Study} {zs : List ℕ} where
     }
 
     -- it may be judged and made
-    pub judges : {room : List ℕ} → length room ≡ mostCells
-        → Judges (q .n) (q .«gate_capacity») (q .speed) (q .wave) (q .share) (q .jam) (q .capacity) u row room y
-    judges e = record {
+    pub judges : Judges (q .n) (q .«gate_capacity») (q .speed) (q .wave) (q .share) (q .jam) (q .capacity) u row y
+    judges = record {
       road = q;
       input = step-input this-step;
       sized = step-sized this-step;
       left = step-left this-step;
       places = t .size ∙ ap (λ (n : ℕ). n + 1) (sym (step-road this-step .n));
-      rooms = e;
     }
 
     module _ {f : FaultAnswer} {v : State} (j : JudgedStep q u row y f v) where

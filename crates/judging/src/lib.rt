@@ -50,17 +50,16 @@ fn judge_step<'a>(
     queue: &mut [u32; 64],
     cumulative: &mut [u32; 64],
     row: &[u32],
-    room: &mut [u32; 64],
     y: &[u32],
 ) -> Judged
     requires { ⌜ Judges n «gate_capacity» (now speed) (now wave) (now share) (now jam) (now capacity)
-        (stateOf l (now held) (now queue) (now cumulative)) (now row) (now room) (now y) ⌝ }
-    ensures step { λ j. ⌜ ((r : Road) → JudgedStep
+        (stateOf l (now held) (now queue) (now cumulative)) (now row) (now y) ⌝ }
+    ensures { λ j. ⌜ ((r : Road) → JudgedStep
         (roadOf r n «gate_capacity» (now (speed .entry)) (now (wave .entry)) (now (share .entry)) (now (jam .entry)) (now (capacity .entry)))
         (stateOf l (now (held .entry)) (now (queue .entry)) (now (cumulative .entry))) (now (row .entry)) (now (y .entry))
         (fault (refusalNumber (j .refusal)) (j .place)) (stateOf (j .ledger) (now (held .exit)) (now (queue .exit)) (now (cumulative .exit)))) ⌝ }
-    ensures length { λ j. ⌜ length (now (room .exit)) ≡ mostCells ⌝ }
 {
+    let mut room = [0u32; 64];
     let q = verdict::verdict(
         n,
         gate_capacity,
@@ -75,7 +74,7 @@ fn judge_step<'a>(
         queue,
         cumulative,
         row,
-        room,
+        &mut room,
         y,
     );
     let refusal = q.refusal;
@@ -133,14 +132,12 @@ fn judge_rows(
         → now (queue .exit) ≡ queueEnd (studyBy (now (bytes .entry)) (now (table .entry)) r s steps) (now (schedule .entry)) (now (queue .entry))) ⌝ }
 {
     let n = r.n;
-    let numbers = 1 + 2 * n;
     let mut capacity = r.capacity;
     let mut cells = s.held;
     let mut ramps = s.queue;
     let mut cumulative = s.cumulative;
     let mut l = Ledger::of(s);
     let mut row = [0u32; 129];
-    let mut room = [0u32; 64];
     let mut k = 0;
     while k < steps {
         if table.len() != 0 {
@@ -148,7 +145,6 @@ fn judge_rows(
         }
         fields::read_row(bytes, n, k, &mut row);
         let from = k * (n + 1);
-        let end = from + (n + 1);
         let j = judge_step(
             n,
             r.gate_capacity,
@@ -161,9 +157,8 @@ fn judge_rows(
             &mut cells,
             &mut ramps,
             &mut cumulative,
-            &row[..numbers],
-            &mut room,
-            &schedule[from..end],
+            &row[..1 + 2 * n],
+            &schedule[from..from + (n + 1)],
         );
         l = j.ledger;
         let refusal = j.refusal;

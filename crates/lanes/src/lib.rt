@@ -14,14 +14,17 @@ fn count(lanes: u8) -> u64
     u8::count_ones(lanes) as u64
 }
 
-// What the open lanes leave of a cell's capacity; 0 where no lane is built.
+// What the open lanes leave of a cell's capacity; 0 where no lane is built. With all lanes open nothing is counted or divided.
 pub fn open_capacity(capacity: u32, built: u8, usable: u8) -> u32
     ensures { λ c. ⌜ c ≡ openCapacity capacity built usable ⌝ }
 {
-    let all = count(built);
-    if all == 0 {
+    if built == 0 {
         return 0;
     }
+    if usable == built {
+        return capacity;
+    }
+    let all = count(built);
     let left = capacity as u64 * count(usable) / all;
     if (u32::MAX as u64) < left {
         return u32::MAX;

@@ -1,6 +1,6 @@
 -- `judging::judge_rows` meets its contract. The invariant: no fault in the k steps passed, the columns are of the schedule's own state
--- after them, the lists hold the states so far where they are written, the road is the record's but for its capacities, and the arrays for a
--- row and for rooms are long enough. Assumes nothing.
+-- after them, the lists hold the states so far where they are written, the road is the record's but for its capacities, and the array for a
+-- row is long enough. Assumes nothing.
 use mathlib.Core.Path.{_≡_, refl, sym, ap, subst, _∙_}
 use mathlib.Core.Logic.{inl, inr}
 use mathlib.Core.Bool.{true}
@@ -30,13 +30,13 @@ use borrow.Author.Needs.{needs}
 use native.Mathlib.Omega.{arith}
 
 abbrev Inv-loop : tie.InvT-loop
-Inv-loop bytes table steps schedule writes held₀ queue₀ r _ _ _ cells₀ ramps₀ cumulative₀ l₀ _ _ _ held queue capacity cells ramps cumulative l row room k =
+Inv-loop bytes table steps schedule writes held₀ queue₀ r _ _ cells₀ ramps₀ cumulative₀ l₀ _ _ held queue capacity cells ramps cumulative l row k =
     let a = studyBy bytes table r (stateOf l₀ cells₀ ramps₀ cumulative₀) steps in
     JudgedTo a schedule writes held₀ queue₀ held queue (stateOf l cells ramps cumulative) k
-    × (OnRoad a (withCapacity r capacity) × ((rowNumbers (r .n) ≤ length row) × (length room ≡ 64)))
+    × (OnRoad a (withCapacity r capacity) × (rowNumbers (r .n) ≤ length row))
 
 abbrev μ-loop : tie.MeasureT-loop
-μ-loop bytes table steps schedule writes held₀ queue₀ r _ _ _ cells₀ ramps₀ cumulative₀ l₀ _ _ _ held queue capacity cells ramps cumulative l row room k =
+μ-loop bytes table steps schedule writes held₀ queue₀ r _ _ cells₀ ramps₀ cumulative₀ l₀ _ _ held queue capacity cells ramps cumulative l row k =
     steps - k
 
 -- places of the code: the arguments from the ledger, the turn's start from its row, the row from the step, the step from its test and from the states written
@@ -53,7 +53,7 @@ abbrev to-row : tie.After-cumulative2 Inv-loop μ-loop → tie.After-read-row In
 to-row c = let h = c .before .before .before .before .before in h .before .before .before .before
 
 abbrev Read : tie.After-judge-step Inv-loop μ-loop → tie.After-read-row Inv-loop μ-loop
-Read c = to-row (c .before .before .before .before)
+Read c = to-row (c .before .before .before)
 
 abbrev Step : tie.After-number Inv-loop μ-loop → tie.After-judge-step Inv-loop μ-loop
 Step c = c .before .before
@@ -190,7 +190,7 @@ judged : (c : tie.After-judge-step Inv-loop μ-loop) →
     let r = Read c in
     let j = c .judge-step .result in
     JudgedStep (On (Joined r)) (Now (In r .before)) (Row r) (Outflows (In r)) (fault (refusalNumber (j .refusal)) (j .place)) (Moved c)
-judged c = c .judge-step .ensures .0 (On (Joined (Read c)))
+judged c = c .judge-step .ensures (On (Joined (Read c)))
 
 passes : (c : tie.Else2 Inv-loop μ-loop) → refusalNumber (Step (c .before) .judge-step .result .refusal) ≡ 0
 passes c = sym (c .before .number .ensures) ∙ c .if2 .left
@@ -198,7 +198,7 @@ passes c = sym (c .before .number .ensures) ∙ c .if2 .left
 loop-holds : tie.Need-loop-holds Inv-loop μ-loop
 loop-holds c =
     let cells = begun c .readable .ok .road .cells in
-    (judged-none, (on-road, (omega (arith, length-replicate {A = ℕ} 129 0, cells), length-replicate {A = ℕ} 64 0)))
+    (judged-none, (on-road, omega (arith, length-replicate {A = ℕ} 129 0, cells)))
 
 step-capacities-requires : tie.Need-step-capacities-requires Inv-loop μ-loop
 step-capacities-requires c κs =
@@ -216,7 +216,7 @@ step-capacities-requires c κs =
 read-row-requires : tie.Need-read-row-requires Inv-loop μ-loop
 read-row-requires c κs =
     let i = c .before .before in
-    (begun (i .before .before) .readable .row (i .before .loop .k) (i .loop-test .taken), i .before .loop .inv .1 .1 .0)
+    (begun (i .before .before) .readable .row (i .before .loop .k) (i .loop-test .taken), i .before .loop .inv .1 .1)
 
 add-from : tie.Need-add-from Inv-loop μ-loop
 add-from c = search needs
@@ -224,11 +224,8 @@ add-from c = search needs
 mul-from : tie.Need-mul-from Inv-loop μ-loop
 mul-from c = omega (arith, small (In c))
 
-add-end : tie.Need-add-end Inv-loop μ-loop
-add-end c = search needs
-
-add-end-2 : tie.Need-add-end-2 Inv-loop μ-loop
-add-end-2 c = omega (arith, small (In c))
+cells-few : (c : tie.After-cumulative2 Inv-loop μ-loop) → A (In (to-row c) .before .before) .args .t3 .n ≤ 64
+cells-few c = begun (In (to-row c) .before .before) .readable .ok .road .cells
 
 array-share-prefix-row : tie.Need-array-share-prefix-row Inv-loop μ-loop
 array-share-prefix-row c = omega (arith, holds (to-row c))
@@ -237,13 +234,13 @@ slice-aggregate-judge-step : tie.Need-slice-aggregate-judge-step Inv-loop μ-loo
 slice-aggregate-judge-step c = sym (numbers (to-row (c .before)))
 
 mul-judge-step : tie.Need-mul-judge-step Inv-loop μ-loop
-mul-judge-step c = omega (arith, small (In (to-row (c .before .before))))
+mul-judge-step c = omega (arith, small (In (to-row (c .before))))
 
 part-judge-step-end : tie.Need-part-judge-step-end Inv-loop μ-loop
-part-judge-step-end c = omega (arith, fits (In (to-row (c .before .before))))
+part-judge-step-end c = omega (arith, fits (In (to-row (c .before))))
 
 judge-step-requires : tie.Need-judge-step-requires Inv-loop μ-loop
-judge-step-requires c κs = let r = to-row (c .before .before .before) in judges (turn r) (In r .before .loop .inv .1 .1 .1)
+judge-step-requires c κs = judges (turn (to-row (c .before .before)))
 
 same-length : tie.Need-same-length Inv-loop μ-loop
 same-length c = let r = Read (Step (c .before .before .before)) in In r .before .loop .inv .0 .helds .same
@@ -282,7 +279,7 @@ loop-again c =
     let r = Read s in
     let l = In r .before in (
       judged-more (l .loop .inv .0) (turn r) (judged s) (passes p) (begun (l .before) .long) (Held (w .before) .put-places .ensures) (w .put-places2 .ensures),
-      (turned-on (turned (Joined r)), (omega (arith, holds r), s .judge-step .ensures .1)),
+      (turned-on (turned (Joined r)), omega (arith, holds r)),
     )
 
 same-length-3 : tie.Need-same-length-3 Inv-loop μ-loop
@@ -301,8 +298,9 @@ pub judge-rows-spec : {M : Type 1} → statement M
 judge-rows-spec =
     tie.close
     (tie.spec
-    Inv-loop μ-loop (λ c. search needs) (λ c. search needs) (λ c κs. search needs) loop-holds step-capacities-requires read-row-requires add-from
-    mul-from add-end add-end-2 array-share-prefix-row slice-aggregate-judge-step mul-judge-step (λ c. search needs) (λ c. search needs)
+    Inv-loop μ-loop (λ c κs. search needs) loop-holds step-capacities-requires read-row-requires add-from mul-from (λ c. omega (arith, cells-few c))
+    (λ c. omega (arith, cells-few c)) array-share-prefix-row slice-aggregate-judge-step (λ c. omega (arith, cells-few (c .before)))
+    (λ c. omega (arith, small (In (to-row (c .before))))) mul-judge-step (λ c. search needs) (λ c. search needs)
     part-judge-step-end judge-step-requires (λ c κs. search needs) (λ c κs. search needs) (λ c κs. search needs) same-length same-length-2 returns
     put-places-requires put-places-requires-2 add-k loop-less loop-again (λ c κs. search needs) (λ c κs. search needs) same-length-3 same-length-4
     returns-2)

@@ -1,5 +1,7 @@
 -- `judging::judge_step` meets its contract: without a fault the row may be moved by. Assumes nothing.
 use mathlib.Core.Path.{_≡_, refl, sym, _∙_}
+use Prim.Native.Nat.{ℕ}
+use lib.ListN.{length-replicate}
 use Rattle.model.specs.declared.Road.{Road}
 use Rattle.model.specs.declared.State.{State}
 use Rattle.model.specs.Refusals.{refusalNumber, faultAnswer}
@@ -11,7 +13,7 @@ use Rattle.judging.proofs.judge_step.Tie as tie
 use borrow.Author.Needs.{needs}
 
 -- the arguments, from the verdict's arguments, and the verdict from the move's
-abbrev A : tie.After-verdict-arg4 → tie.Start
+abbrev A : tie.After-room → tie.Start
 A c = c .before .before .before .before .before .before
 
 abbrev Passed : tie.After-advance-arg3 → tie.Else1
@@ -36,15 +38,13 @@ passes : (c : tie.Else1) → refusalNumber (c .before .before .verdict .result .
 passes c = sym (c .before .number .ensures) ∙ c .if1 .left
 
 verdict-requires : tie.Need-verdict-requires
-verdict-requires c κs = (proposed (A c .pre), A c .pre .rooms)
+verdict-requires c κs = (proposed (A c .pre), length-replicate {A = ℕ} 64 0)
 
 returns : tie.Need-returns
-returns c =
+returns c r =
     let m = c .before in
-    let v = m .before in (
-      λ r. record { found = found v r; moved = λ z. absurd (c .if1 .taken (m .number .ensures ∙ z)); kept = λ n. refl },
-      v .verdict .ensures .1,
-    )
+    let v = m .before in
+    record { found = found v r; moved = λ z. absurd (c .if1 .taken (m .number .ensures ∙ z)); kept = λ n. refl }
 
 advance-requires : tie.Need-advance-requires
 advance-requires c κs =
@@ -54,12 +54,10 @@ advance-requires c κs =
     record { road = On (A (v .before)) (k .road); movable = movable k (found v (k .road)) (passes p); left = k .left }
 
 returns-2 : tie.Need-returns-2
-returns-2 c =
+returns-2 c r =
     let p = Passed (c .before) in
-    let v = p .before .before in (
-      λ r. record { found = found v r; moved = λ z. c .advance .ensures (On (A (v .before)) r); kept = λ n. absurd (n (passes p)) },
-      v .verdict .ensures .1,
-    )
+    let v = p .before .before in
+    record { found = found v r; moved = λ z. c .advance .ensures (On (A (v .before)) r); kept = λ n. absurd (n (passes p)) }
 
 pub judge-step-spec : {M : Type 1} → statement M
 judge-step-spec = tie.close (tie.spec verdict-requires (λ c κs. search needs) returns advance-requires returns-2)
