@@ -1,4 +1,4 @@
--- Present and exits look at as many cells as a road may have, and no more. Assumes nothing.
+-- Present and exits depend on at most 64 cells. Assumes nothing.
 use mathlib.Core.Path.{_≡_, sym, ap, _∙_}
 use mathlib.Core.Logic.{⊎-elim}
 use mathlib.Core.List.{List}
@@ -15,7 +15,7 @@ use Rattle.model.specs.declared.State.{State}
 use Rattle.model.specs.Road.{mostCells}
 use Rattle.model.specs.Move.{exitAt, exitsOf}
 
--- a part as the code takes it: the first n entries of an array, or all of them where n is more
+-- the code's slice: the first n entries of an array, or all of them if n is more
 pub record Part (l : List ℕ) (n k : ℕ) : Type 0 where
   pub long : length l ≡ mostCells
   pub cells : k ≡ min n mostCells
@@ -29,7 +29,7 @@ part-is {l} {n} {k} p = ⊎-elim
     (λ (a : mostCells < n). take-all k l (omega (arith, p)) ∙ sym (take-all n l (omega (arith, p))))
     (order n mostCells)
 
--- the sum of such a part, in the definition's terms, fits
+-- the sum of such a slice equals the definition's, and fits a machine number
 pub record PartSum (l : List ℕ) (n sum : ℕ) : Type 0 where
   pub is : sum ≡ sumOf (take n l)
   pub fits : sum < 2 ^ 38
@@ -46,7 +46,7 @@ exits-cells : (r : Road) (s : State) → length (s .cumulative) ≡ mostCells �
 unfolding exitsOf
 exits-cells r s h = sum-list-min (exitAt r s) mostCells (r .n) (λ i l. exit-past r s i (omega arith))
 
--- what holds when the loop over the cells has added the exits of the first i of them
+-- the loop over the cells has added the exits of the first i of them
 pub record Exited (r : Road) (s : State) (n sum i : ℕ) : Type 0 where
   pub within : i ≤ n
   pub cells : n ≡ min (r .n) mostCells

@@ -1,4 +1,4 @@
--- Laws of the longest queues: they are the greatest over the steps done, and what one step more makes of them. Assumes nothing.
+-- Laws of the longest queues: they are the greatest over the steps done, and how one more step changes them. Assumes nothing.
 use mathlib.Core.Path.{_≡_, refl, sym, ap, _∙_}
 use mathlib.Core.Logic.{⊎-elim}
 use mathlib.Core.List.{List}
@@ -22,13 +22,13 @@ use Rattle.passes.specs.Supplies.{FilledTo}
 use Rattle.model.specs.Longest.{maximumOf, stayedOf, Queues, queuesOf, longestOf}
 use Rattle.counts.specs.Longest.{noQueues}
 
--- m is one of the first k values of f: that at `step`
+-- m is one of the first k values of f, the one at `step`
 pub record OneOf (f : ℕ → ℕ) (k m : ℕ) : Type 0 where
   pub step : ℕ
   pub within : step < k
   pub value : m ≡ f step
 
--- m is the greatest of the first k values of f: no value is above it, it is one of them, and it is 0 where there is none
+-- m is the greatest of the first k values of f: no value is above it, it is one of them, and it is 0 if there is none
 pub record Greatest (f : ℕ → ℕ) (k m : ℕ) : Type 0 where
   pub above : (j : ℕ) → j < k → f j ≤ m
   pub reached : 0 < k → OneOf f k m
@@ -82,13 +82,13 @@ module _ (n : ℕ) (after : ℕ → State) (k : ℕ) where
     unfolding longestOf
     longest-past i l = fill-past (λ i. maximumOf (λ j. at (after (suc j) .queue) i) k) n zeros i l ∙ zeros-at i
 
--- what was at the gate and stayed is the queue after the step without its arrivals
+-- the queue after a step is what stayed at the gate plus the step's arrivals
 pub stayed-arrivals : (r : Road) (s : State) (row y : List ℕ) → Obeys r s row y
     → nextOf r s row y .«gate_queue» ≡ stayedOf s (nextOf r s row y) + gateArrivals row
 unfolding countedOf movedTo
 stayed-arrivals r s row y ok = omega (arith, ok .demand 0 (omega arith), demand-at-gate r s)
 
--- entries given anew
+-- entries that are filled again
 fill-over : (f g : ℕ → ℕ) (n : ℕ) (l : List ℕ) → n ≤ length l → fillOf g n (fillOf f n l) ≡ fillOf g n l
 fill-over f g n l m =
     let kept = length-fill f n l in
@@ -97,16 +97,16 @@ fill-over f g n l m =
     (λ (h : i < n). fill-at g n (fillOf f n l) i h (omega (arith, kept)) ∙ sym (fill-at g n l i h m))
     (order n i))
 
--- the entry that a pass comes to is still the one that it began with
+-- the entry that a pass reaches is still unchanged
 pub entry-kept : {f : ℕ → ℕ} {n : ℕ} {l x : List ℕ} {i : ℕ} → FilledTo f n l x i → at x i ≡ at l i
 entry-kept {f} {l = l} {i = i} h = ap (λ (y : List ℕ). at y i) (h .filled) ∙ fill-past f i l i (le-refl i)
 
--- the longest queues so far with those after one step more: what stayed at the gate, its queue and the ramps'
+-- the longest queues after one more step: raised by what stayed at the gate, by its queue and by the ramps' queues
 abbrev pub raisedBy : ℕ → Queues → ℕ → ℕ → List ℕ → Queues
 raisedBy n q stayed gate queue =
     queuesOf (max (q .gate) gate) (max (q .waiting) stayed) (fillOf (λ i. max (at (q .ramps) i) (at queue i)) n (q .ramps))
 
--- as the code finds them
+-- the code's longest queues
 pub raised-is : (n : ℕ) (q : Queues) (stayed gate : ℕ) (queue : List ℕ) {g w : ℕ} {ramps : List ℕ} → g ≡ max (q .gate) gate
     → w ≡ max (q .waiting) stayed → ramps ≡ fillOf (λ i. max (at (q .ramps) i) (at queue i)) n (q .ramps)
     → queuesOf g w ramps ≡ raisedBy n q stayed gate queue

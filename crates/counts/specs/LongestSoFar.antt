@@ -1,4 +1,4 @@
--- What a loop over steps knows of the longest queues. Assumes nothing.
+-- The invariant of a loop over steps about the longest queues. Assumes nothing.
 use mathlib.Core.Path.{_≡_, sym, ap, _∙_}
 use mathlib.Core.Bool.{Bool, true}
 use Prim.Native.Nat.{ℕ, suc, _+_, _≤_}
@@ -9,7 +9,7 @@ use Rattle.model.specs.Longest.{Queues, stayedOf, longestOf}
 use Rattle.counts.specs.Longest.{noQueues}
 use Rattle.counts.specs.LongestLaws.{raisedBy, longest-none, longest-more}
 
--- when k steps are made, where the longest queues are wanted; `after` gives the states
+-- the longest queues after k steps, if they are wanted; `after` gives the states
 pub record Raised (longs : Bool) (n : ℕ) (after : ℕ → State) (q : Queues) (k : ℕ) : Type 0 where
   pub queues : longs ≡ true → q ≡ longestOf n after k
 
@@ -18,7 +18,7 @@ module _ (longs : Bool) (n : ℕ) (after : ℕ → State) where
   raised-none = record { queues = λ _. sym (longest-none n after) }
 
   module _ {q : Queues} {k : ℕ} (h : Raised longs n after q k) where
-    -- one step more, from u to v
+    -- one more step, from u to v
     pub raised-more : {u v : State} {p : Queues} → n ≤ mostCells → u ≡ after k → v ≡ after (k + 1)
         → (longs ≡ true → p ≡ raisedBy n q (stayedOf u v) (v .«gate_queue») (v .queue)) → Raised longs n after p (k + 1)
     raised-more {u} {v} {p} few eu ev e = record { queues = more }

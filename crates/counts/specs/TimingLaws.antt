@@ -1,4 +1,4 @@
--- Laws of vehicle-seconds: the quotient of a product by its whole vehicles and the rest. Assumes nothing.
+-- Laws of vehicle-seconds: a product divided by 1,000, in whole vehicles and a rest. Assumes nothing.
 use mathlib.Core.Path.{_≡_, refl, ap, _∙_}
 use mathlib.Core.List.{[], _∷_}
 use Prim.Native.Nat.{ℕ, _+_, _-_, _*_, _/_, _%_, _^_, min, _≤_, _<_}
@@ -7,18 +7,18 @@ use native.Mathlib.Omega.{arith}
 use Rattle.model.specs.Road.{mostLong}
 use Rattle.model.specs.Words.{vehicleSeconds}
 
--- 33,098 part-steps of 20 seconds are 661.96 vehicle-seconds, rounded down to 661; of 900 seconds 29,788.2; 999 of a second are none
+-- 33,098 part-steps of 20 seconds are 661.96 vehicle-seconds, rounded down to 661; of 900 seconds 29,788.2; 999 part-steps of 1 second give 0
 pub on-paper : vehicleSeconds 33098 20 ∷ vehicleSeconds 33098 900 ∷ vehicleSeconds 999 1 ∷ [] ≡ 661 ∷ 29788 ∷ 0 ∷ []
 unfolding vehicleSeconds
 on-paper = refl
 
--- 2 ^ 64 − 1 of 1,001 seconds pass 64 bits
+-- 2 ^ 64 − 1 part-steps of 1,001 seconds exceed 64 bits
 pub at-most : min (vehicleSeconds mostLong 1001) mostLong ≡ mostLong
 unfolding vehicleSeconds
 at-most = refl
 
 module _ (total seconds : ℕ) where
-  -- a product, by whole vehicles and the rest
+  -- the product, in whole vehicles and a rest
   by-parts : total * seconds ≡ 1000 * (total / 1000 * seconds) + total % 1000 * seconds
   by-parts =
       let e : total ≡ 1000 * (total / 1000) + total % 1000 = omega arith in
@@ -37,7 +37,7 @@ module _ (total seconds : ℕ) where
   no-seconds e = rw e (omega arith)
 
   module _ {rest : ℕ} (r : rest ≡ total % 1000 * seconds / 1000) (some : 0 < seconds) where
-    -- more whole vehicles than the rest leaves room for
+    -- more whole vehicles than fit with the rest
     pub far : (mostLong - rest) / seconds < total / 1000 → mostLong ≡ min (vehicleSeconds total seconds) mostLong
     unfolding vehicleSeconds
     far l =

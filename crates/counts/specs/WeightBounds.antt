@@ -1,4 +1,4 @@
--- How large weighted counts are, so that sums of them fit a machine number. Assumes nothing.
+-- Bounds of weighted counts, so that their sums fit a machine number. Assumes nothing.
 use Prim.Native.Nat.{ℕ, _*_}
 use Rattle.model.specs.Road.{mostSteps}
 
@@ -6,10 +6,10 @@ use Rattle.model.specs.Road.{mostSteps}
 abbrev pub mostProduct : ℕ
 mostProduct = 1095216660225
 
--- present of 64 cells: the gate, 64 held counts and 64 queues
+-- weighted present of 64 cells: the gate, 64 held counts and 64 queues
 abbrev pub mostWeightedPresent : ℕ
 mostWeightedPresent = 129 * mostProduct
 
--- over as many steps as there may be
+-- the same over 1,440 steps
 abbrev pub mostWeightedTotal : ℕ
 mostWeightedTotal = mostSteps * mostWeightedPresent

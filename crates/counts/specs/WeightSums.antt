@@ -14,14 +14,14 @@ use Rattle.model.specs.Road.{mostCells}
 use Rattle.model.specs.Weights.{weightedSum, weightedPresent}
 use Rattle.counts.specs.WeightBounds.{mostProduct}
 
--- a byte times a number of 32 bits
+-- a byte times a 32-bit number
 pub weighted-count-small : (weight count : ℕ) → weight < 2 ^ 8 → count < 2 ^ 32 → weight * count ≤ mostProduct
 weighted-count-small weight count h l =
     let a : weight ≤ 255 = omega arith in
     let b : count ≤ 4294967295 = omega arith in
     omega (arith, mul-le-mul a b)
 
--- when the first i values of f are added
+-- the first i values of f are added
 pub record SummedProducts (f : ℕ → ℕ) (n sum i : ℕ) : Type 0 where
   pub within : i ≤ n
   pub values : sum ≡ sumOf (listOf f i)
@@ -44,11 +44,11 @@ module _ {f : ℕ → ℕ} {n : ℕ} where
         let e : i ≡ n = omega (arith, h .within) in
         (h .values ∙ ap (λ (k : ℕ). sumOf (listOf f k)) e, omega (arith, h .small, e))
 
--- a product with an entry past the array
+-- a product with an entry past the array is 0
 zero-past : (weight : ℕ → ℕ) (counts : List ℕ) → length counts ≡ mostCells → (i : ℕ) → mostCells ≤ i → weight i * at counts i ≡ 0
 zero-past weight counts h i l = let e : at counts i ≡ 0 = List·getD-eq-default counts 0 (omega arith) in rw e (omega arith)
 
--- as many cells as the arrays have are all that a state has
+-- n above 64 gives the same as 64
 pub weighted-min : (w u : ℕ → ℕ) (n : ℕ) (s : State) → length (s .held) ≡ mostCells → length (s .queue) ≡ mostCells
     → weightedPresent w u (min n mostCells) s ≡ weightedPresent w u n s
 unfolding weightedPresent
@@ -77,7 +77,7 @@ weighted-is places ramps n {counts = counts} {queues = queues} eg er ep s h =
     sum-list-same _ _ n (λ i l. let e : 0 + i ≡ i = omega arith in rw e refl) in
     rw (h .atGate, h .onRoad, h .atRamps) (omega (arith, eg, er, ep, road-is, ramp-is))
 
--- a total with one step more, and without weights
+-- a weighted total with one more step, and without weights
 module _ (total : ℕ) {weighs : Bool} where
   pub added-more : {x y : ℕ} → weighs ≡ true → x ≡ y → total + x ≡ total + cond weighs y 0
   added-more e h = rw (e, h) refl

@@ -1,4 +1,4 @@
-// Present, exits and present with weights, of a state; the total in vehicle-seconds; and the longest queues of a run.
+// Present, exits and present with weights of a state; the total in vehicle-seconds; and the longest queues of a run.
 use model::Ended;
 use model::Longest;
 use model::Refusal;
@@ -27,7 +27,7 @@ ghost use Rattle.counts.specs.LongestLaws.{raisedBy};
 // A vehicle's parts.
 const PARTS: u64 = 1000;
 
-// Part-steps of so many seconds in vehicle-seconds, rounded down: whole vehicles and the rest apart, so that no product wraps.
+// Part-steps of so many seconds in vehicle-seconds, rounded down: whole vehicles and the rest are multiplied separately, so that no product wraps.
 fn in_seconds(total: u64, seconds: u16) -> u64
     ensures { λ r. ⌜ r ≡ min (vehicleSeconds total seconds) mostLong ⌝ }
 {
@@ -43,21 +43,21 @@ fn in_seconds(total: u64, seconds: u16) -> u64
     vehicles * wide + rest
 }
 
-// The total that `total` gives × seconds ÷ 1,000, rounded down; where that passes 64 bits, the greatest number of 64 bits.
+// The total of `total` × seconds ÷ 1,000, rounded down, at most the greatest number of 64 bits.
 pub fn vehicle_seconds(seconds: u16, state: State) -> u64
     ensures { λ r. ⌜ r ≡ vehicleSecondsOf seconds state ⌝ }
 {
     in_seconds(state.total(), seconds)
 }
 
-// The entries of an array that belong to cells: 64 at most.
+// How many entries of an array belong to cells: at most 64.
 pub fn cells(n: usize) -> usize
     ensures { λ r. ⌜ r ≡ min n mostCells ⌝ }
 {
     if n <= Road::CELLS { n } else { Road::CELLS }
 }
 
-// The counts of all cells together; n above 64 counts as 64.
+// The sum of the counts of all cells; n above 64 counts as 64.
 fn of_cells(counts: [u32; 64], n: usize) -> u64
     ensures { λ p. ⌜ (p ≡ sumOf (take n counts)) × (p < 2 ^ 38) ⌝ }
 {
@@ -90,7 +90,7 @@ pub fn present(r: Road, s: State) -> u64
     wide(s.gate_queue) + held + queues
 }
 
-// What has left a cell and did not go on; none where the share is above the whole.
+// The exits of a cell: F less the onward total; 0 if the share is above 1,000.
 fn exit(share: u16, cumulative: u32) -> u64
     ensures { λ r. ⌜ (r ≡ cumulative - onwardOf share cumulative) × (r ≤ 4294967295) ⌝ }
 {
@@ -99,7 +99,7 @@ fn exit(share: u16, cumulative: u32) -> u64
     if onward < out { out - onward } else { 0 }
 }
 
-// The sum over cells of F less the onward total; n above 64 counts as 64.
+// The sum over the cells of F less the onward total; n above 64 counts as 64.
 pub fn exits(r: Road, s: State) -> u64
     ensures { λ x. ⌜ x ≡ exitsOf r s ⌝ }
 {
@@ -169,7 +169,7 @@ pub fn weighted(r: Road, s: State, weights: Weights) -> u64
     )
 }
 
-// A weighted total with the present of one more step, on lent columns, where weights are wanted.
+// A weighted total with the weighted present of one more step, on lent columns; unchanged if no weights are wanted.
 pub fn added<'a, 'b>(
     total: u64,
     weighs: bool,
@@ -221,7 +221,7 @@ fn raise_ramps(n: usize, queue: &[u32; 64], ramps: &mut [u32; 64])
     }
 }
 
-// The longest queues with those after one step more, on a lent column; `before` and `after` are the ledgers of the states next to the step.
+// The longest queues after one more step, on a lent column; `before` and `after` are the ledgers of the states around the step.
 pub fn raised(
     known: AtGate,
     before: Ledger,
@@ -242,7 +242,7 @@ pub fn raised(
     }
 }
 
-// An end with its longest queues.
+// An answer with its longest queues.
 pub fn longest(ended: Ended, gate: AtGate, ramps: [u32; 64]) -> Longest
     ensures { λ e. ⌜ (e .ended ≡ ended) × (longestQueues e ≡ queuesOf (gate .gate) (gate .waiting) ramps) ⌝ }
 {
@@ -254,7 +254,7 @@ pub fn longest(ended: Ended, gate: AtGate, ramps: [u32; 64]) -> Longest
     }
 }
 
-// A refusal that names no state, with no step done.
+// A refusal that names no state, without a step done.
 pub fn unbegun(refusal: Refusal, place: usize) -> Longest
     ensures { λ e. ⌜ (e .ended ≡ withoutState refusal place) × (longestQueues e ≡ noQueues) ⌝ }
 {

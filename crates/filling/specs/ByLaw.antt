@@ -20,7 +20,7 @@ use Rattle.ramps.specs.RampsLaws.{granted, filled-release, filled-most, last-re
 use Rattle.model.specs.Filling.{meteredAfter, meteredFrom, grantedIn, filledStudy}
 use Rattle.filling.specs.FillingLaws.{filledRows, filled-road, filled-run}
 
--- the last release at the cell at i before step t, and what entered it from upstream in the last step; before the first step both are 0
+-- the last release at the cell at i before step t, and what entered the cell from upstream in the last step; before the first step both are 0
 unfoldable pub lastRelease : Study → ℕ → ℕ → ℕ
 lastRelease a zero i = 0
 lastRelease a (suc t) i = releaseAt (a .rows t) i
@@ -29,7 +29,7 @@ unfoldable pub lastEntry : Study → ℕ → ℕ → ℕ
 lastEntry a zero i = 0
 lastEntry a (suc t) i = enteringAt (roadAt a t) (engineAfter a t) (outflowsAt a t) i
 
--- the release of the cell at i in step t of the engine's run: the greatest whole number not above the wish of its law, up to the cap;
+-- the release of the cell at i in step t of the engine's run: the greatest whole number not above the wish of its law, at most the cap;
 -- 0 without a ramp
 pub record ByLaw (laws : List Law) (a : Study) (t i : ℕ) : Type 0 where
   pub ramp : (at (a .road .ramp) i ≡ 0 → ⊥) → releaseAt (a .rows t) i
@@ -43,7 +43,7 @@ module _ (laws : List Law) (a : Study) (ok : StudyOk a) where
   abbrev m : ℕ → MeterState
   m = meteredAfter laws a
 
-  -- the arrays carried have an entry for each cell
+  -- the arrays that are carried have an entry for each cell
   releases-sized : (t : ℕ) → length (m t .releases) ≡ mostCells
   unfolding meteredFrom meteredOf
   releases-sized zero = length-zeros
@@ -91,7 +91,7 @@ module _ (laws : List Law) (a : Study) (ok : StudyOk a) where
         released : releaseAt (filledRows laws a t) i ≡ grantedIn laws a t i
         released = filled-release laws (roadAt a t) (m t) (a .rows t) (numbers t h) i (in-step t)
 
--- a study that shares its steps with another is by the same laws
+-- the same laws hold for a study with the same steps
 module _ {a b : Study} (i : ℕ) where
   same-release : (t : ℕ) → SharedSteps a b t → lastRelease a t i ≡ lastRelease b t i
   unfolding lastRelease

@@ -1,4 +1,4 @@
--- How filling ends, case by case. Assumes nothing.
+-- The answers of filling, case by case. Assumes nothing.
 use mathlib.Core.Path.{_≡_, refl, ap}
 use mathlib.Core.Bool.{Bool}
 use mathlib.Core.Logic.{⊎-elim}
@@ -20,7 +20,7 @@ module _ (laws : List Law) (bytes lanes list : List ℕ) where
   abbrev a : Study
   a = studyOf bytes lanes
 
-  -- the end of all steps
+  -- the answer after all steps
   abbrev finished : EndAnswer
   finished = ended 0 0 0 (a .road) (meteredAfter laws a (a .steps) .state)
 
@@ -35,7 +35,7 @@ module _ (laws : List Law) (bytes lanes list : List ℕ) where
   unfolding recordAfter filledList
   refusal number place d e = record { answers = e; bytes-are = rw (e, ne-eqb number 0 d) refl; list-is = rw (e, ne-eqb number 0 d) refl }
 
-  -- those of reading
+  -- the refusals of reading
   pub fills-refused : (readingOf bytes .number ≡ 0 → ⊥) → Leaves (noState (readingOf bytes .number) (readingOf bytes .place)) bytes list
   unfolding fillingOf
   fills-refused h = refusal (readingOf bytes .number) (readingOf bytes .place) h (rw (ne-eqb (readingOf bytes .number) 0 h) refl)
@@ -63,7 +63,7 @@ module _ (laws : List Law) (bytes lanes list : List ℕ) where
             (rw (eq-eqb (readingOf bytes .number) 0 reads, eq-eqb (lawPlace laws a) 0 finite, eq-eqb (lanesFault a .number) 0 opens)
             (ap (λ (b : Bool). unless b (noState 11 0) finished) (lt-leb (tableSize a) (length list) l)))
 
-        -- all steps
+        -- all steps are made
         pub fills-all : tableSize a ≤ length list → Leaves finished (filledBytes laws bytes lanes) (tableOf (filledStudy laws a) list (a .steps))
         unfolding fillingOf recordAfter filledList
         fills-all l =
@@ -76,7 +76,7 @@ module _ (laws : List Law) (bytes lanes list : List ℕ) where
             ) in
             record { answers = e; bytes-are = rw e; list-is = rw e }
 
-  -- which of the five it is
+  -- which of the five cases applies
   pub data Case : Type 0 where
     refused : (readingOf bytes .number ≡ 0 → ⊥) → Case
     law : readingOf bytes .number ≡ 0 → (lawPlace laws a ≡ 0 → ⊥) → Case

@@ -1,4 +1,4 @@
--- What filling promises, from what its code finds. Assumes nothing.
+-- What filling promises, from the results of its code. Assumes nothing.
 use mathlib.Core.Path.{_≡_, refl, sym, ap, _∙_}
 use mathlib.Core.List.{List}
 use Prim.Native.Nat.{ℕ, _≤_, _<_}
@@ -20,13 +20,13 @@ use Rattle.counts.specs.Longest.{noQueues}
 use Rattle.filling.specs.LongestFill.{longestFilled, longest-refused, longest-all}
 use Rattle.filling.specs.Theorems.{only-releases, filled-promised}
 
--- the answer, the record and the list at exit, and what they are worth
+-- the answer, the record and the list afterwards, and what is promised about them
 abbrev pub Promise : List Law → List ℕ → List ℕ → List ℕ → EndAnswer → List ℕ → List ℕ → Type 0
 Promise laws bytes lanes list e after out =
     (e ≡ fillingOf laws bytes lanes list) × ((after ≡ recordAfter laws bytes lanes list) × ((out ≡ filledList laws bytes lanes list)
     × ((Taken bytes lanes → Promised after lanes out e) × OnlyReleases bytes after)))
 
--- with the promise of the longest queues
+-- the same with the promise of the longest queues
 abbrev pub LongestPromise : List Law → List ℕ → List ℕ → List ℕ → EndAnswer → List ℕ → List ℕ → Type 0 → Type 0
 LongestPromise laws bytes lanes list e after out longest =
     (e ≡ fillingOf laws bytes lanes list) × ((after ≡ recordAfter laws bytes lanes list) × ((out ≡ filledList laws bytes lanes list)
@@ -35,7 +35,7 @@ LongestPromise laws bytes lanes list e after out longest =
 pub with-longest : {A B C D E F : Type 0} → A × (B × (C × (D × E))) → F → A × (B × (C × (D × (E × F))))
 with-longest p q = (p .0, (p .1 .0, (p .1 .1 .0, (p .1 .1 .1 .0, (p .1 .1 .1 .1, q)))))
 
--- a refusal, which does no step
+-- after a refusal no step is done
 pub refused-longest : (laws : List Law) (bytes lanes list : List ℕ) (number place : ℕ) {A : Type 0} {e : EndAnswer} {after out : List ℕ} {q : Queues}
     → (number ≡ 0 → ⊥) → e ≡ noState number place → Promise laws bytes lanes list e after out → q ≡ noQueues
     → LongestPromise laws bytes lanes list e after out (A → q ≡ longestFill laws bytes lanes list)
@@ -73,7 +73,7 @@ module _ (laws : List Law) (bytes lanes list : List ℕ) {x : ReadAnswer} (ex : 
         let q : place ≡ lawPlace laws (studyOf bytes lanes) = ep ∙ ap (lawPlace laws) same in
         promise (fills-law laws bytes lanes list reads (λ z. d (q ∙ z))) (ee ∙ ap (noState 16) q) refl refl
 
-    -- no law is at fault, and f is what the code says of the table
+    -- no law has a fault, and f is the code's fault of the table
     module _ {place : ℕ} (ep : place ≡ lawFaultOf laws (x .road .ramp) (x .road .n)) (none : place ≡ 0) {f : FaultAnswer}
         (ef : f ≡ tableFault lanes (x .road .n) (x .steps)) where
       finite : lawPlace laws (studyOf bytes lanes) ≡ 0

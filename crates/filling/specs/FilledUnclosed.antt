@@ -1,5 +1,5 @@
--- Without closures nothing changes: with the empty table a record is filled as over one road, and with a table that opens all built lanes as with the
--- empty one. Assumes nothing.
+-- Without closures nothing changes: with the empty table a record is filled as on one road, and with a table that opens all built lanes as with
+-- the empty table. Assumes nothing.
 use mathlib.Core.Path.{_≡_, refl, sym, _∙_}
 use mathlib.Core.List.{List, []}
 use Prim.Native.Nat.{ℕ, zero, suc, _≤_, _<_}
@@ -23,7 +23,7 @@ use Rattle.theory.specs.NoClosures.{AllOpen, empty-one, open-passes, open-one}
 use Rattle.model.specs.Filling.{meteredAfter, meteredFrom, grantedIn, filledStudy, lawPlace, filledBytes, fillingOf, recordAfter, filledList}
 use Rattle.filling.specs.FillingLaws.{filled-road}
 
--- what the wishes of step k go by, and the release of the cell at i in it, on one road
+-- what the wishes of step k are computed from, and the release of the cell at i in it, on one road
 unfoldable pub plainMetered : List Law → Study → ℕ → MeterState
 plainMetered laws a zero = meterStart (a .start)
 plainMetered laws a (suc k) = meteredOf laws (a .road) (plainMetered laws a k) (a .rows k)
@@ -31,7 +31,7 @@ plainMetered laws a (suc k) = meteredOf laws (a .road) (plainMetered laws a k) (
 abbrev pub plainGranted : List Law → Study → ℕ → ℕ → ℕ
 plainGranted laws a k i = grantedAt laws (a .road) (plainMetered laws a k) (a .rows k) i
 
--- filling of a record without closures: the refusals of reading, 16, 11, then all T steps
+-- filling a record without closures: the refusals of reading, 16, 11, then all T steps
 unfoldable pub plainFilling : List Law → List ℕ → List ℕ → EndAnswer
 plainFilling laws bytes list =
     unless (eqb (readingOf bytes .number) 0) (noState (readingOf bytes .number) (readingOf bytes .place))
@@ -49,14 +49,14 @@ module _ (laws : List Law) (a : Study) (one : (k : ℕ) → k < a .steps → roa
   pub granted-plain : (k i : ℕ) → k < a .steps → grantedIn laws a k i ≡ plainGranted laws a k i
   granted-plain k i l = rw (metered-plain k (omega arith), one k l) refl
 
--- releases put alike in each step
+-- the same releases put in each step give the same record
 table-same : (s : List ℕ) (n : ℕ) (f g : ℕ → ℕ → ℕ) (k : ℕ) → ((t i : ℕ) → t < k → f t i ≡ g t i) → putTable s n f k ≡ putTable s n g k
 unfolding putTable
 table-same s n f g zero h = refl
 table-same s n f g (suc k) h =
     rw (table-same s n f g k (λ t i l. h t i (omega arith))) (put-same (putTable s n g k) n k (f k) (g k) n (λ i l. h k i (le-refl (suc k))))
 
--- the empty table: one road
+-- with the empty table there is one road
 module _ (laws : List Law) (bytes : List ℕ) where
   pub empty-fills : (list : List ℕ) → fillingOf laws bytes [] list ≡ plainFilling laws bytes list
   unfolding fillingOf plainFilling tableFault
@@ -80,7 +80,7 @@ module _ (laws : List Law) (bytes table : List ℕ) (reads : readingOf bytes .nu
   same-road : (k : ℕ) → k < readingOf bytes .steps → roadAt (studyOf bytes table) k ≡ roadAt (studyOf bytes []) k
   same-road k l = open-one bytes table reads h k l ∙ sym (empty-one bytes k l)
 
-  -- and so is what the wishes go by
+  -- so is what the wishes are computed from
   same-metered : (k : ℕ) → k ≤ readingOf bytes .steps → meteredAfter laws (studyOf bytes table) k ≡ meteredAfter laws (studyOf bytes []) k
   unfolding meteredFrom
   same-metered zero l = refl
@@ -97,7 +97,7 @@ module _ (laws : List Law) (bytes table : List ℕ) (reads : readingOf bytes .nu
   unfolding fillingOf tableFault
   open-fills list = rw (number-of (open-passes bytes table reads h), same-metered (readingOf bytes .steps) (le-refl _)) refl
 
-  -- record and list afterwards
+  -- the record and the list afterwards
   pub open-filled : filledBytes laws bytes table ≡ filledBytes laws bytes []
   unfolding filledBytes
   open-filled =

@@ -1,5 +1,5 @@
--- Filling goes by road, start, arrivals and lanes alone: a record filled in either version gets the same releases, whatever releases it held before,
--- and filling twice gives what filling once does. Assumes nothing.
+-- Filling depends only on road, start, arrivals and lanes: a record filled in either version gets the same releases, whatever releases it held
+-- before, and filling twice gives what filling once does. Assumes nothing.
 use mathlib.Core.Path.{_≡_, refl, sym, ap, _∙_}
 use mathlib.Core.Logic.{⊎-elim}
 use mathlib.Core.List.{List}
@@ -38,7 +38,7 @@ use Rattle.filling.specs.Rerun.{filled-rows}
 use Rattle.filling.specs.Cases.{Leaves, fills-refused, fills-law, fills-closed, fills-short, fills-all, Case, case-of}
 use Rattle.filling.specs.Theorems.{only-releases}
 
--- two studies that differ in the road's version and seconds and in their releases alone
+-- two studies that differ only in the road's version and seconds and in their releases
 pub record SameArrivals (a b : Study) : Type 0 where
   pub road : b .road ≡ stamped (b .road .version) (b .road .seconds) (a .road)
   pub start : b .start ≡ a .start
@@ -48,14 +48,14 @@ pub record SameArrivals (a b : Study) : Type 0 where
   pub gate : (k : ℕ) → k < a .steps → gateArrivals (b .rows k) ≡ gateArrivals (a .rows k)
   pub arrivals : (k i : ℕ) → k < a .steps → arrivalsAt (b .rows k) i ≡ arrivalsAt (a .rows k) i
 
--- two records filled by the same laws, under the same table: they are answered alike, the same list is left, and where they are filled their rows are the same
+-- two records filled by the same laws under the same table: the answers are alike, the lists are the same, and so are their rows if they are filled
 pub record FilledAlike (laws : List Law) (s t lanes list : List ℕ) : Type 0 where
   pub answer : EndsAlike (fillingOf laws s lanes list) (fillingOf laws t lanes list)
   pub written : filledList laws t lanes list ≡ filledList laws s lanes list
   pub rows : fillingOf laws s lanes list .number ≡ 0 → (k : ℕ) → k < studyOf s lanes .steps
       → recordRow (recordAfter laws t lanes list) (studyOf t lanes .road .n) k ≡ recordRow (recordAfter laws s lanes list) (studyOf s lanes .road .n) k
 
--- rows with the same arrivals and the same releases given
+-- rows with the same arrivals and the same given releases are equal
 released-alike : (f g : ℕ → ℕ) (n : ℕ) (row other : List ℕ) → length row ≡ 1 + 2 * n → length other ≡ length row → at other 0 ≡ at row 0
     → ((i : ℕ) → at other (2 * i + 1) ≡ at row (2 * i + 1)) → ((i : ℕ) → i < n → g i ≡ f i) → releasedRow g n other ≡ releasedRow f n row
 released-alike f g n row other size same gate arrivals given =
@@ -92,7 +92,7 @@ module _ (laws : List Law) (version seconds : ℕ) (r : Road) (m : MeterState) (
   unfolding filledRow
   filled-alike = released-alike (grantedAt laws r m row) (grantedAt laws q m other) (r .n) row other size same gate arrivals (λ i l. granted-alike i)
 
-  -- a step by the same row
+  -- a step with the same row
   next-alike : (full given : List ℕ) → nextMetered q m full given ≡ nextMetered r m full given
   next-alike full given =
       let y = outflowsOf r (m .state) full in
@@ -127,7 +127,7 @@ module _ (laws : List Law) {a b : Study} (ok : StudyOk a) (h : SameArrivals a b)
   numbers : (k : ℕ) → k < a .steps → length (a .rows k) ≡ 1 + 2 * roadAt a k .n
   numbers k l = omega (arith, ok .row k l .numbers, ok .roads k .n)
 
-  -- in every step the same state, last releases and entries
+  -- each step has the same state, last releases and entries
   pub metered-same : (k : ℕ) → k ≤ a .steps → meteredAfter laws b k ≡ meteredAfter laws a k
   unfolding meteredFrom
   metered-same zero l = ap meterStart (h .start)
@@ -137,7 +137,7 @@ module _ (laws : List Law) {a b : Study} (ok : StudyOk a) (h : SameArrivals a b)
       ∙ metered-alike laws version seconds (roadAt a k) (meteredAfter laws a k) (a .rows k) (b .rows k) (numbers k l) (h .size k l) (h .gate k l)
       (λ i. h .arrivals k i l)
 
-  -- and so the same rows, filled
+  -- so the filled rows are the same
   pub rows-same : (k : ℕ) → k < a .steps → filledRows laws b k ≡ filledRows laws a k
   rows-same k l =
       ap (λ (m : MeterState). filledRow laws (roadAt b k) m (b .rows k)) (metered-same k (omega arith))
@@ -163,7 +163,7 @@ module _ (laws : List Law) {a b : Study} (ok : StudyOk a) (h : SameArrivals a b)
   same-last : meteredAfter laws b (b .steps) .state ≡ meteredAfter laws a (a .steps) .state
   same-last = ap (λ (k : ℕ). meteredAfter laws b k .state) (h .steps) ∙ ap (λ (m : MeterState). m .state) (metered-same (a .steps) (le-refl (a .steps)))
 
--- two records that are taken
+-- two records without a refusal
 pub filled-alike-by : (laws : List Law) (s t lanes list : List ℕ) → Taken s lanes → Taken t lanes → SameArrivals (studyOf s lanes) (studyOf t lanes)
     → FilledAlike laws s t lanes list
 filled-alike-by laws s t lanes list first other h = go (case-of laws s lanes list)
@@ -211,7 +211,7 @@ restamped-alike laws s t lanes list first other h =
       arrivals = λ k i l. ap (λ (row : List ℕ). arrivalsAt row i) (h .rows k l);
     })
 
--- a record that differs from one that is taken in its releases alone is taken too
+-- a record that differs from one without a refusal only in its releases has no refusal either
 only-taken : {s t lanes : List ℕ} → Taken s lanes → OnlyReleases s t → Taken t lanes
 only-taken {t = t} {lanes = lanes} first h = record {
   reads = ap (λ (x : ReadAnswer). x .number) (h .reads) ∙ first .reads;
@@ -233,7 +233,7 @@ releases-alike laws s t lanes list first h =
       arrivals = λ k i l. ap (λ (p : ℕ). arrivalsAt (recordRow t p k) i) e ∙ h .arrivals k i l;
     })
 
--- where filling is not refused, record and table are taken
+-- if filling is not refused, no refusal of the record or the table applies
 pub filled-taken-by : (laws : List Law) (bytes lanes list : List ℕ) → fillingOf laws bytes lanes list .number ≡ 0 → Taken bytes lanes
 filled-taken-by laws bytes lanes list z = go (case-of laws bytes lanes list)
   where

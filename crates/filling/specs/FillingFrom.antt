@@ -1,4 +1,4 @@
--- Laws of filling, from any start: the engine's run over the filled rows goes through the same states without a fault. Assumes nothing.
+-- Laws of filling from any start: the engine's run of the filled rows has the same states and no fault. Assumes nothing.
 use mathlib.Core.Path.{_≡_, refl}
 use mathlib.Core.List.{List}
 use Prim.Native.Nat.{ℕ, zero, suc, _^_, _≤_, _<_}
@@ -16,14 +16,14 @@ use Rattle.model.specs.Filling.{MeterState, meteredOf}
 use Rattle.ramps.specs.RampsLaws.{granted-small, filled-fits, filled-row}
 use Rattle.model.specs.Filling.{meteredFrom, grantedFrom, rowsFrom, filledFrom}
 
--- m is what the wishes of step 0 go by
+-- the wishes of step 0 are computed from m
 module _ (laws : List Law) (a : Study) (m : MeterState) (starts : a .start ≡ m .state) where
-  -- the road of a step stays
+  -- the road of a step is unchanged
   pub filled-road : (k : ℕ) → roadAt (filledFrom laws a m) k ≡ roadAt a k
   unfolding roadAt
   filled-road k = refl
 
-  -- the engine's run over the filled rows goes through the states of filling
+  -- the engine's run of the filled rows has the states of filling
   pub filled-run : (k : ℕ) → engineAfter (filledFrom laws a m) k ≡ meteredFrom laws a m k .state
   unfolding engineAfter meteredFrom meteredOf
   filled-run zero = starts

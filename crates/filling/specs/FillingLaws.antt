@@ -1,4 +1,4 @@
--- Laws of filling from a record's start: those of `FillingFrom`, where the last releases and entries are 0. Assumes nothing.
+-- Laws of filling from a record's start: those of `FillingFrom`, with last releases and entries 0. Assumes nothing.
 use mathlib.Core.Path.{_≡_, refl}
 use mathlib.Core.List.{List}
 use Prim.Native.Nat.{ℕ, _^_, _≤_, _<_}

@@ -1,4 +1,4 @@
--- What the loop over the steps carries, and how it ends. Assumes nothing.
+-- The invariant of the loop over the steps, and its end. Assumes nothing.
 use mathlib.Core.Path.{_≡_, refl, sym, ap, _∙_}
 use mathlib.Core.List.{List, _++_}
 use Prim.Native.Nat.{ℕ, _+_, _-_, _*_, _≤_, _<_}
@@ -33,13 +33,13 @@ use Rattle.model.specs.Filling.{meteredFrom, grantedFrom, rowsFrom, filledFrom}
 use Rattle.filling.specs.FillingFrom.{filled-road, filled-run, releases-small, filled-ok, filled-released, filled-reached}
 use Rattle.filling.specs.Turn.{Arrays, ArraysOk, kept-on, FillAsks, FilledRow}
 
--- what filling step by step requires: a record that reads, whose rows are the study's, and a list long enough
+-- what filling step by step requires: a record that reads, whose rows are the study's, and a list that is long enough
 pub record Fillable (bytes : List ℕ) (a : Study) (list : List ℕ) : Type 0 where
   pub readable : Readable bytes a
   pub rows : (k : ℕ) → a .rows k ≡ recordRow bytes (a .road .n) k
   pub long : tableSize a ≤ length list
 
--- when k steps are filled: their releases are in the bytes and their outflows in the list, u is the state after them, and the next row goes to `to`
+-- k steps are filled: their releases are in the bytes and their outflows in the list, u is the state after them, and the next row goes to `to`
 pub record FilledSteps (laws : List Law) (bytes : List ℕ) (a : Study) (m₀ : MeterState) (list now out : List ℕ) (u : State) (ramps : ℕ) (w : Arrays)
     (k to : ℕ) : Type 0 where
   pub within : k ≤ a .steps
@@ -49,7 +49,7 @@ pub record FilledSteps (laws : List Law) (bytes : List ℕ) (a : Study) (m₀ : 
   pub place : to ≡ k * places a
   pub written : out ≡ tableOf (filledFrom laws a m₀) list k
 
--- and, of the last step, an entry for each cell, none above what the cell holds
+-- the same with the last step's entries: one for each cell, none above what the cell holds
 pub record FillableFrom (bytes : List ℕ) (a : Study) (m : MeterState) (list : List ℕ) : Type 0 where
   pub fillable : Fillable bytes a list
   pub entered : (i : ℕ) → i < a .road .n → at (m .entries) i ≤ at (a .start .held) i
@@ -115,11 +115,11 @@ module _ {laws : List Law} {bytes : List ℕ} {a : Study} {m₀ : MeterState} {l
 
   module _ {now out : List ℕ} {u : State} {ramps : ℕ} {w : Arrays} {k to : ℕ} (ok : Fillable bytes a list) (starts : a .start ≡ m₀ .state)
       (h : FilledSteps laws bytes a m₀ list now out u ramps w k to) where
-    -- what the wishes of step k go by, from the state that the code holds
+    -- what the wishes of step k are computed from, with the code's state
     pub goes-by : meterState u (meteredFrom laws a m₀ k .releases) (meteredFrom laws a m₀ k .entries) ≡ meteredFrom laws a m₀ k
     goes-by = ap (λ (s : State). meterState s (meteredFrom laws a m₀ k .releases) (meteredFrom laws a m₀ k .entries)) (h .state)
 
-    -- the rows of the steps filled are filled, and the others as they were
+    -- the rows of the filled steps are filled, and the others are unchanged
     put : PutTable bytes now (a .road .n) (grantedFrom laws a m₀) k
     put =
         rw (h .table)
@@ -131,14 +131,14 @@ module _ {laws : List Law} {bytes : List ℕ} {a : Study} {m₀ : MeterState} {l
     pub same-list : length out ≡ length list
     same-list = ap length (h .written) ∙ length-table (filledFrom laws a m₀) (filled-ok laws a m₀ starts (ok .readable .ok)) list k (h .within) (ok .long)
 
-    -- the next row of outflows lies within what bounds the table
+    -- the next row of outflows is within every bound of the table
     pub row-ends-by : (most : ℕ) → tableSize a ≤ most → k < a .steps → to + places a ≤ most
     row-ends-by most l e = omega (arith, row-ends k (a .steps) (places a) e, h .place)
 
     pub row-fits : k < a .steps → to + places a ≤ length out
     row-fits l = omega (arith, row-ends-by (length list) (ok .long) l, same-list)
 
-    -- a turn: q is the road of step k, and its wishes go by m
+    -- a turn: q is the road of step k, and its wishes are computed from m
     module _ {q : Road} {m : MeterState} (l : k < a .steps) (e : q ≡ roadAt a k) (em : m ≡ meteredFrom laws a m₀ k) where
       roads : StepRoad (a .road) q
       roads = rw e (ok .readable .ok .roads k)
@@ -181,7 +181,7 @@ module _ {laws : List Law} {bytes : List ℕ} {a : Study} {m₀ : MeterState} {l
         places = omega (arith, roads .n);
       }
 
-      -- one step more is filled
+      -- one more step is filled
       after : meteredOf laws q m (recordRow now (q .n) k) ≡ meteredFrom laws a m₀ (k + 1)
       unfolding meteredFrom
       after = rw (add-one k, row-now, em, e)

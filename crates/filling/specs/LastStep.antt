@@ -1,4 +1,4 @@
--- What the last step of filling leaves for a further record: its releases, which stand in the record, and what entered each cell. Assumes nothing.
+-- What the last step of filling leaves for a further record: its releases, which are in the record, and what entered each cell. Assumes nothing.
 use mathlib.Core.Path.{_≡_, refl, sym, ap, subst⁻¹, _∙_}
 use mathlib.Core.List.{List, _++_}
 use Prim.Native.Nat.{ℕ, zero, suc, _+_, _-_, _*_, _≤_, _<_}
@@ -37,12 +37,12 @@ use Rattle.put.specs.ReleasesLaws.{PutTable, put-table}
 use Rattle.filling.specs.FillingLoop.{FillableFrom}
 use Rattle.filling.specs.FillingFrom.{filled-road, filled-run, releases-small, filled-ok, filled-reached}
 
--- what entered the cell at i in a step with outflows y, from share and F, after the step, of the place before it
+-- what entered the cell at i in a step with outflows y, from the share and from F after the step of the place before it
 unfoldable pub enteredIn : List ℕ → List ℕ → List ℕ → ℕ → ℕ
 enteredIn share cumulative y zero = at y 0
 enteredIn share cumulative y (suc i) = enteringOf (at share i) (at cumulative i - at y (suc i)) (at y (suc i))
 
--- one more cell, as the code finds it
+-- one more cell, as the code computes it
 pub entered-more : (share cumulative y : List ℕ) (i : ℕ) {x : ℕ} → x ≡ enteringOf (at share i) (at cumulative i - at y (i + 1)) (at y (i + 1))
     → x ≡ enteredIn share cumulative y (i + 1)
 unfolding enteredIn
@@ -58,14 +58,14 @@ entered-is r s row y z (suc i) l =
     ap (λ (F : ℕ). enteringOf (at (r .share) i) F (at y (suc i)))
     (let g : at (nextOf r s row y .cumulative) i - at y (suc i) ≡ at (s .cumulative) i = omega (arith, e) in g)
 
--- what the code requires: shares, outflows that F has, and a row of outflows
+-- what the code requires: shares, outflows that are at most F, and a row of outflows
 pub record EntriesAsk (n : ℕ) (share cumulative y : List ℕ) : Type 0 where
   pub cells : n ≤ mostCells
   pub shares : (i : ℕ) → i < n → at share i ≤ whole
   pub sent : (i : ℕ) → i < n → at y (i + 1) ≤ at cumulative i
   pub places : length y ≡ n + 1
 
--- and of a filled record and its list of outflows: the row of the last step stands in both
+-- the same for a filled record and its list of outflows: the row of the last step is in both
 pub record LastAsks (bytes : List ℕ) (r : Road) (steps : ℕ) (cumulative out : List ℕ) : Type 0 where
   pub some : 1 ≤ steps
   pub holds : HoldsRow bytes (r .n) (steps - 1)
@@ -73,21 +73,21 @@ pub record LastAsks (bytes : List ℕ) (r : Road) (steps : ℕ) (cumulative out 
   pub long : steps * (r .n + 1) ≤ length out
   pub asks : EntriesAsk (r .n) (r .share) cumulative (rowAt out (r .n + 1) (steps - 1))
 
--- where it stands in the list
+-- where it is in the list
 pub last-row : {bytes : List ℕ} {r : Road} {steps : ℕ} {cumulative out : List ℕ} → LastAsks bytes r steps cumulative out
     → (steps - 1) * (r .n + 1) + (r .n + 1) ≡ steps * (r .n + 1)
 last-row {r = r} {steps} h =
     let e : steps ≡ steps - 1 + 1 = omega (arith, h .some) in
     sym (ap (λ (k : ℕ). k * (r .n + 1)) e ∙ mul-more (steps - 1) (r .n + 1))
 
--- a row that is filled anew: only what stands past the cells is kept
+-- a row that is filled again: only the entries past the cells matter
 fill-over : (f : ℕ → ℕ) (n : ℕ) (x l : List ℕ) → n ≤ length x → n ≤ length l → drop n x ≡ drop n l → fillOf f n x ≡ fillOf f n l
 fill-over f n x l hx hl e = fill-list f n x hx ∙ ap (λ (d : List ℕ). listOf f n ++ d) e ∙ sym (fill-list f n l hl)
 
 fill-drop : (f : ℕ → ℕ) (n : ℕ) (l : List ℕ) → n ≤ length l → drop n (fillOf f n l) ≡ drop n l
 fill-drop f n l h = ap (drop n) (fill-list f n l h) ∙ drop-at (listOf f n) (drop n l) n (length-list f n)
 
--- the last releases and entries past the cells stay
+-- the last releases and entries past the cells are unchanged
 record Past (n : ℕ) (x l : List ℕ) : Type 0 where
   long : n ≤ length x
   same : drop n x ≡ drop n l
@@ -115,7 +115,7 @@ module _ (laws : List Law) (a : Study) (m : MeterState) (starts : a .start ≡ m
     cells : roadAt a k .n ≡ a .road .n
     cells = ok .roads k .n
 
-    -- the releases granted stand in the filled row
+    -- the releases granted are in the filled row
     pub last-releases : fillOf (releaseAt (rowsFrom laws a m k)) (a .road .n) (m .releases) ≡ meteredFrom laws a m (suc k) .releases
     unfolding meteredFrom meteredOf
     last-releases =
@@ -135,7 +135,7 @@ module _ (laws : List Law) (a : Study) (m : MeterState) (starts : a .start ≡ m
         sized-alike (a .road) (roadAt a k) (step-alike (ok .roads k)) (meteredFrom laws a m k .state)
         (rw (filled-run laws a m starts k) at (filled-reached laws a m starts ok k (omega arith) .sized))
 
-    -- and what entered is told by them and by F after it
+    -- these outflows and F after the step give what entered
     pub last-entries : {y : List ℕ} → y ≡ outflowsAt (filledFrom laws a m) k
         → fillOf (enteredIn (a .road .share) (meteredFrom laws a m (suc k) .state .cumulative) y) (a .road .n) (m .entries)
         ≡ meteredFrom laws a m (suc k) .entries
@@ -151,7 +151,7 @@ module _ (laws : List Law) (a : Study) (m : MeterState) (starts : a .start ≡ m
         ∙ sym (fill-over f (a .road .n) (M .entries) (m .entries) (past k .1 .long) longE (past k .1 .same))
         ∙ ap (λ (n : ℕ). fillOf f n (M .entries)) (sym cells)
 
-    -- so the code may ask for it
+    -- so the code's precondition holds
     pub entries-ask : {y : List ℕ} → y ≡ outflowsAt (filledFrom laws a m) k → length y ≡ a .road .n + 1
         → EntriesAsk (a .road .n) (a .road .share) (meteredFrom laws a m (suc k) .state .cumulative) y
     unfolding meteredFrom meteredOf cumulativeAt
@@ -186,7 +186,7 @@ module _ {bytes : List ℕ} {a : Study} {list : List ℕ} (laws : List Law) (m :
   table : PutTable bytes after (a .road .n) (grantedFrom laws a m) (a .steps)
   table = rw ea (put-table bytes (a .road .n) (grantedFrom laws a m) (a .steps) (ok .fillable .readable .row) (λ t i l j. releases-small laws a m starts t i))
 
-  -- its last row is the filled one, and in the list are its outflows
+  -- its last row is the filled one, and its outflows are in the list
   row-known : recordRow after (a .road .n) (a .steps - 1) ≡ rowsFrom laws a m (a .steps - 1)
   unfolding filledRow
   row-known =
@@ -223,7 +223,7 @@ module _ {bytes : List ℕ} {a : Study} {list : List ℕ} (laws : List Law) (m :
           ∙ length-outflows (roadAt a k) (meteredFrom laws a m k .state) (rowsFrom laws a m k) ∙ ap (λ (n : ℕ). n + 1) (okay .roads k .n)));
     }
 
-    -- so the state with the releases and entries found is what a further record goes on from
+    -- so a further record goes on from the state with these releases and entries
     pub last-known : {releases entries : List ℕ}
         → releases ≡ fillOf (releaseAt (recordRow after (a .road .n) (a .steps - 1))) (a .road .n) (m .releases)
         → entries ≡ fillOf (enteredIn (a .road .share) (u .cumulative) (rowAt out (a .road .n + 1) (a .steps - 1))) (a .road .n) (m .entries)

@@ -1,4 +1,4 @@
--- What is known of a record and a progress that filling goes on from. Assumes nothing.
+-- Facts about a record and a progress that filling goes on from. Assumes nothing.
 use mathlib.Core.Path.{_≡_}
 use mathlib.Core.List.{List}
 use Prim.Native.Nat.{ℕ, _≤_, _<_}
@@ -19,7 +19,7 @@ pub record Long (n : ℕ) (p : Progress) : Type 0 where
   pub releases : n ≤ length (p .releases)
   pub entries : n ≤ length (p .entries)
 
--- the record reads and has a step, neither 7 nor 8 applies
+-- the record reads and has a step, and neither 7 nor 8 applies
 pub record Started (bytes : List ℕ) (a : Study) (m : MeterState) : Type 0 where
   pub readable : Readable bytes a
   pub some : 1 ≤ a .steps

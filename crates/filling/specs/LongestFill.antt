@@ -1,4 +1,4 @@
--- docs/MODEL.md, 'Filling': the longest queues over the steps that filling makes, and how they end. Assumes nothing.
+-- docs/MODEL.md, 'Filling': the longest queues over the steps that filling makes, and at its end. Assumes nothing.
 use mathlib.Core.Path.{_≡_, refl, ap, _∙_}
 use mathlib.Core.List.{List}
 use Prim.Native.Nat.{ℕ, _≤_}
@@ -23,7 +23,7 @@ abbrev pub longestFilled : List Law → Study → Queues
 longestFilled laws a = longestFrom laws a (meterStart (a .start))
 
 module _ (laws : List Law) (bytes lanes list : List ℕ) where
-  -- a refusal does no step
+  -- after a refusal no step is done
   pub longest-refused : (number place : ℕ) {e : EndAnswer} → (number ≡ 0 → ⊥) → e ≡ noState number place → e ≡ fillingOf laws bytes lanes list
       → longestFill laws bytes lanes list ≡ noQueues
   unfolding longestFill
@@ -32,7 +32,7 @@ module _ (laws : List Law) (bytes lanes list : List ℕ) where
       let none : stepsMade a (fillingOf laws bytes lanes list) ≡ 0 = rw (← ef, ee, ne-eqb number 0 d) refl in
       ap (longestOf (a .road .n) (filledAfter laws a)) none ∙ longest-none (a .road .n) (filledAfter laws a)
 
-  -- without one all are done
+  -- without a refusal all steps are done
   pub longest-all : readingOf bytes .number ≡ 0 → lawPlace laws (studyOf bytes lanes) ≡ 0 → lanesFault (studyOf bytes lanes) .number ≡ 0
       → tableSize (studyOf bytes lanes) ≤ length list → longestFill laws bytes lanes list ≡ longestFilled laws (studyOf bytes lanes)
   unfolding longestFill

@@ -1,4 +1,4 @@
--- How filling that goes on ends, from what its code finds. Assumes nothing.
+-- The answers of filling that goes on, from the results of its code. Assumes nothing.
 use mathlib.Core.Path.{_≡_, refl, sym, ap, _∙_}
 use mathlib.Core.Bool.{Bool, true, _&&_}
 use mathlib.Core.List.{List}
@@ -31,7 +31,7 @@ use Rattle.counts.specs.Longest.{noQueues}
 use Rattle.counts.specs.LongestLaws.{longest-none}
 use Rattle.filling.specs.LongestFill.{longestFrom}
 
--- after a refusal nothing is gone on from
+-- after a refusal the progress is all zero
 pub nothing : {s : State} {releases entries : List ℕ} → s ≡ emptyState → releases ≡ zeros → entries ≡ zeros
     → meterState s releases entries ≡ meterStart emptyState
 nothing {s} {releases} {entries} es er ee =
@@ -44,13 +44,13 @@ module _ (laws : List Law) (bytes lanes : List ℕ) (m : MeterState) (list : Lis
   abbrev finished : EndAnswer
   finished = ended 0 0 0 (a .road) (meteredFrom laws a m (a .steps) .state)
 
-  -- the answer, the record and the list at exit, the longest queues, and what a further record goes on from
+  -- the answer, the record and the list afterwards, the longest queues, and what a further record goes on from
   abbrev pub PromiseOn : EndAnswer → List ℕ → List ℕ → Queues → MeterState → Type 0
   PromiseOn e after out q p =
       (e ≡ fillingOn laws bytes lanes m list) × ((after ≡ recordOn laws bytes lanes m list) × ((out ≡ filledListOn laws bytes lanes m list)
       × ((q ≡ longestFillOn laws bytes lanes m list) × (p ≡ progressOn laws bytes lanes m list))))
 
-  -- a refusal leaves record and list unchanged, and does no step
+  -- a refusal leaves record and list unchanged, and no step is done
   refusal : {e : EndAnswer} {q : Queues} {p : MeterState} (number place : ℕ) → (number ≡ 0 → ⊥) → fillingOn laws bytes lanes m list ≡ noState number place
       → e ≡ noState number place → q ≡ noQueues → p ≡ meterStart emptyState → PromiseOn e bytes list q p
   unfolding recordOn filledListOn longestFillOn progressOn
@@ -69,7 +69,7 @@ module _ (laws : List Law) (bytes lanes : List ℕ) (m : MeterState) (list : Lis
         ),
       )
 
-  -- x is what reading gave
+  -- x is reading's answer
   module _ {x : ReadAnswer} (ex : x ≡ readingOf bytes) where
     pub on-refused : {e : EndAnswer} {q : Queues} {p : MeterState} → (x .number ≡ 0 → ⊥) → e ≡ noState (x .number) (x .place) → q ≡ noQueues
         → p ≡ meterStart emptyState → PromiseOn e bytes list q p
@@ -93,7 +93,7 @@ module _ (laws : List Law) (bytes lanes : List ℕ) (m : MeterState) (list : Lis
           refusal 16 (lawPlace laws a) (λ z. omega arith) (rw (eq-eqb (readingOf bytes .number) 0 reads, ne-eqb (lawPlace laws a) 0 n) refl)
           (ee ∙ ap (noState 16) law-is) eq ep
 
-      -- no law is at fault, and f is what the code says of the table
+      -- no law has a fault, and f is the code's fault of the table
       module _ (none : place ≡ 0) {f : FaultAnswer} (ef : f ≡ tableFault lanes (x .road .n) (x .steps)) where
         finite : lawPlace laws (studyAfter bytes lanes m) ≡ 0
         finite = sym law-is ∙ none
@@ -109,7 +109,7 @@ module _ (laws : List Law) (bytes lanes : List ℕ) (m : MeterState) (list : Lis
             refusal (lanesFault a .number) (lanesFault a .place) n
             (rw (eq-eqb (readingOf bytes .number) 0 reads, eq-eqb (lawPlace laws a) 0 finite, ne-eqb (lanesFault a .number) 0 n) refl) (rw found at ee) eq ep
 
-        -- the table has none, and g is what it says of the start
+        -- the table has no fault, and g is the code's refusal of the start
         module _ (unclosed : f .number ≡ 0) {t u : Bool} {g : ℕ} (et : t ≡ stateOk (x .road) (m .state))
             (eu : u ≡ allOf (λ i. leb (at (m .entries) i) (at (m .state .held) i)) (x .road .n))
             (eg : g ≡ unless (t && u) 7 (unless (leb (m .state .done + x .steps) mostSteps) 8 0)) where

@@ -1,4 +1,4 @@
--- Theorems: the filled record reads as the record did, running it is refused nothing, and it gives filling's list, road and state. Assumes nothing.
+-- Theorems: the filled record reads as the record did, running it is not refused, and it gives filling's list, road and state. Assumes nothing.
 use mathlib.Core.Path.{_≡_, refl, sym, ap, _∙_, subst⁻¹}
 use mathlib.Core.List.{List}
 use Prim.Native.Nat.{ℕ, _≤_, _<_}
@@ -37,7 +37,7 @@ module _ (laws : List Law) (bytes lanes : List ℕ) (taken : Taken bytes lanes) 
   ok : StudyOk (studyOf bytes lanes)
   ok = readable bytes lanes (readingOf bytes) refl (taken .reads) (taken .opens) .ok
 
-  -- only the releases of its rows are changed
+  -- only the releases of its rows change
   pub filled-table : PutTable bytes (filledBytes laws bytes lanes) (studyOf bytes lanes .road .n) (grantedIn laws (studyOf bytes lanes)) (studyOf bytes lanes .steps)
   unfolding filledBytes
   filled-table =
@@ -51,7 +51,7 @@ module _ (laws : List Law) (bytes lanes : List ℕ) (taken : Taken bytes lanes) 
   filled-rows k l =
       filled-table .row k l ∙ ap (λ (n : ℕ). releasedRow (grantedIn laws a k) n (recordRow bytes (a .road .n) k)) (sym (ok .roads k .n))
 
-  -- and it reads as the record did
+  -- it reads as the record did
   pub filled-reads : readingOf (filledBytes laws bytes lanes) ≡ readingOf bytes
   filled-reads =
       rows-replaced bytes filled (filled-table .size) (taken .reads) (table-head filled-table)
@@ -61,7 +61,7 @@ module _ (laws : List Law) (bytes lanes : List ℕ) (taken : Taken bytes lanes) 
       ≡ studyBy (filledBytes laws bytes lanes) lanes (studyOf bytes lanes .road) (studyOf bytes lanes .start) (studyOf bytes lanes .steps)
   same-study = ap (λ (x : ReadAnswer). studyBy filled lanes (x .road) (x .state) (x .steps)) filled-reads
 
-  -- so its study is the filled one, up to its last step
+  -- so its study is the filled study, up to its last step
   pub filled-shared : SharedSteps (studyBy (filledBytes laws bytes lanes) lanes (studyOf bytes lanes .road) (studyOf bytes lanes .start) (studyOf bytes lanes .steps))
       (filledStudy laws (studyOf bytes lanes)) (studyOf bytes lanes .steps)
   unfolding roadAt
@@ -76,14 +76,14 @@ module _ (laws : List Law) (bytes lanes : List ℕ) (taken : Taken bytes lanes) 
   none : firstStep (runSays (studyBy filled lanes (a .road) (a .start) (a .steps))) (a .steps) ≡ a .steps
   none = step-none (runSays (studyBy filled lanes (a .road) (a .start) (a .steps))) (a .steps) filled-says
 
-  -- so it is taken with the table that it was filled with
+  -- so no refusal applies to it under the table that it was filled with
   pub filled-taken : Taken (filledBytes laws bytes lanes) lanes
   filled-taken = record {
     reads = ap (λ (x : ReadAnswer). x .number) filled-reads ∙ taken .reads;
     opens = ap (λ (x : Study). lanesFault x .number) same-study ∙ taken .opens;
   }
 
-  -- running it, with a list that is long enough, is refused nothing and ends in the state of filling
+  -- running it with a list that is long enough is not refused, and ends in the state of filling
   module _ (list : List ℕ) (long : tableSize (studyOf bytes lanes) ≤ length list) where
     abbrev c : Study
     c = studyBy filled lanes (a .road) (a .start) (a .steps)
@@ -99,7 +99,7 @@ module _ (laws : List Law) (bytes lanes : List ℕ) (taken : Taken bytes lanes) 
         ∙ end-all c (runSays c) (engineAfter c) none
         ∙ ap (ended 0 0 0 (a .road)) (engine-shared (a .steps) filled-shared ∙ filled-run laws a (a .steps))
 
-    -- and writes the outflows of all filled steps
+    -- it writes the outflows of all filled steps
     pub filled-writes : listAfter (filledBytes laws bytes lanes) lanes list ≡ tableOf (filledStudy laws (studyOf bytes lanes)) list (studyOf bytes lanes .steps)
     filled-writes =
         writes-long filled lanes filled-taken list long-on

@@ -1,5 +1,5 @@
--- The theorems of filling: it changes only the record's releases; rerunning that record gives its list, road and state; each release is the law's;
--- and demand 3 holds of the filled record. Assumes nothing.
+-- The theorems of filling: it changes only the record's releases; running the filled record gives its list, road and state; each release is the
+-- law's; and demand 3 holds for the filled record. Assumes nothing.
 use mathlib.Core.Path.{_≡_, refl, sym, ap, _∙_}
 use mathlib.Core.List.{List}
 use Prim.Native.Nat.{ℕ, _≤_, _<_}
@@ -59,7 +59,7 @@ only-releases laws bytes lanes list = go (case-of laws bytes lanes list)
     go (Case.short k h l) = rw (fills-short laws bytes lanes list (k .reads) h (k .opens) l .bytes-are) (unchanged bytes)
     go (Case.all k h l) = rw (fills-all laws bytes lanes list (k .reads) h (k .opens) l .bytes-are) (filled-only laws bytes lanes k)
 
--- 2: rerunning the record at exit, under the table that it was filled with, gives the answer and the list; 16 alone is not running's
+-- 2: running the record afterwards, under the table that it was filled with, gives the answer and the list; only 16 is not a refusal of running
 pub record Rerun (laws : List Law) (bytes lanes list : List ℕ) : Type 0 where
   pub answer : runningOf (recordAfter laws bytes lanes list) lanes list ≡ fillingOf laws bytes lanes list
   pub written : listAfter (recordAfter laws bytes lanes list) lanes list ≡ filledList laws bytes lanes list
@@ -80,7 +80,7 @@ rerun laws bytes lanes list n = go (case-of laws bytes lanes list)
     go (Case.all k h l) =
         rerun-by (fills-all laws bytes lanes list (k .reads) h (k .opens) l) (filled-runs laws bytes lanes k list l) (filled-writes laws bytes lanes k list l)
 
--- so it never says 9 or 10
+-- so filling is never refused with 9 or 10
 pub never-refused : (laws : List Law) (bytes lanes list : List ℕ) → Taken bytes lanes → lawPlace laws (studyOf bytes lanes) ≡ 0
     → tableSize (studyOf bytes lanes) ≤ length list → fillingOf laws bytes lanes list .number ≡ 0
 never-refused laws bytes lanes list k h l = ap (λ (e : EndAnswer). e .number) (fills-all laws bytes lanes list (k .reads) h (k .opens) l .answers)
@@ -100,7 +100,7 @@ each-by-law laws bytes lanes list z t i lt li = go (case-of laws bytes lanes lis
     go (Case.short k h l) = absurd (let q = number (fills-short laws bytes lanes list (k .reads) h (k .opens) l .answers) in omega arith)
     go (Case.all k h l) = rw (fills-all laws bytes lanes list (k .reads) h (k .opens) l .bytes-are) (by-law laws bytes lanes k t i lt li)
 
--- 4: demand 3 of the filled record, its list and the answer: every rival shares the filled releases
+-- 4: demand 3 for the filled record, its list and the answer: every rival has the filled releases
 pub filled-promised : (laws : List Law) (bytes lanes list : List ℕ) → Taken bytes lanes
     → Promised (recordAfter laws bytes lanes list) lanes (filledList laws bytes lanes list) (fillingOf laws bytes lanes list)
 unfolding began oneOf

@@ -32,7 +32,7 @@ use Rattle.put.specs.ReleasesLaws.{PutRow, put-releases}
 use Rattle.ramps.specs.RampsLaws.{granted-small, filled-release, last-release, last-entry}
 use Rattle.ramps.specs.Grants.{Lasts, GrantAsks, Granted}
 
--- the arrays of the loop over the steps beside the state's
+-- the arrays of the loop over the steps, besides the state's
 pub record Arrays : Type 0 where
   pub cell : List ℕ
   pub rest : List ℕ
@@ -53,7 +53,7 @@ arrays cell rest room release waits came demand = record {
   demand = demand;
 }
 
--- what is kept of them: the cells with a ramp are listed, with what the last step left there; the rests are those of b × F; all have an entry for each cell
+-- what holds for them: the cells with a ramp are listed, with what the last step left there; the remainders are those of b × F; each has an entry per cell
 pub record ArraysOk (n : ℕ) (share ramp : List ℕ) (m : MeterState) (ramps : ℕ) (w : Arrays) : Type 0 where
   pub listed : Listed (NoRamp ramp) n ramps (w .cell)
   pub ramped : AtRamps ramp ramps (w .cell)
@@ -72,8 +72,8 @@ pub kept-on : {n n′ : ℕ} {share share′ ramp ramp′ : List ℕ} {m m′ : 
     → n′ ≡ n → share′ ≡ share → ramp′ ≡ ramp → m′ ≡ m → ArraysOk n share ramp m ramps w → ArraysOk n′ share′ ramp′ m′ ramps w
 kept-on en es er em h = rw (en, es, er, em) h
 
--- what filling a step requires: the bytes hold its row, which is within its limits, a step by the filled row may be made, the laws are in columns, and y
--- has room for its outflows
+-- what filling a step requires: the bytes hold its row, which is within its limits; a step with the filled row may be made; the laws are in
+-- columns; y has room for its outflows
 pub record FillAsks (laws : List Law) (bytes : List ℕ) (q : Road) (m : MeterState) (k : ℕ) (kinds : List ℕ) (numbers : List Float) (ramps : ℕ) (w : Arrays)
     (y : List ℕ) : Type 0 where
   pub held : HoldsRow bytes (q .n) k
@@ -83,7 +83,7 @@ pub record FillAsks (laws : List Law) (bytes : List ℕ) (q : Road) (m : MeterSt
   pub kept : ArraysOk (q .n) (q .share) (q .ramp) m ramps w
   pub places : length y ≡ q .n + 1
 
--- that, by some laws and on some road with these columns
+-- the same for some laws and some road with these columns
 pub record FillLent (bytes : List ℕ) (k n gate : ℕ) (speed wave share jam capacity kinds : List ℕ) (numbers : List Float) (s : State) (ramps : ℕ)
     (w : Arrays) (y : List ℕ) : Type 0 where
   pub laws : List Law
@@ -111,7 +111,7 @@ module _ {laws : List Law} {bytes : List ℕ} {q : Road} {m : MeterState} {k : �
   abbrev y : List ℕ
   y = outflowsOf q (m .state) filled
 
-  -- the supplies, and then granting, need nothing more
+  -- the supplies, and then granting, have no further precondition
   pub supplies-ask : Supplies (q .n) (q .wave) (q .jam) (m .state .held)
   supplies-ask = record {
     cells = f .step .input .road .cells;
@@ -162,7 +162,7 @@ module _ {laws : List Law} {bytes : List ℕ} {q : Road} {m : MeterState} {k : �
           let e : start ≡ rowStart (versionOf put) (q .n) k + numberSize * 0 = omega (arith, es, ap (λ (v : ℕ). rowStart v (q .n) k) (changed .version)) in
           ap (λ (p : ℕ). numberOf put p numberSize) e ∙ sym (row-at put (q .n) k 0 (omega arith)) ∙ ap gateArrivals (changed .row)
 
-      -- what had come into a cell, with its release and what enters, is what it then holds and F
+      -- all that has come into a cell, with its release and with what enters, is the cell's held count plus F afterwards
       entered : (j : ℕ) → j < ramps →
           at came (at (w .cell) j) + at (meteredOf laws q m row .entries) (at (w .cell) j)
           ≡ at (meteredOf laws q m row .state .held) (at (w .cell) j) + at (meteredOf laws q m row .state .cumulative) (at (w .cell) j)
@@ -202,7 +202,7 @@ module _ {laws : List Law} {bytes : List ℕ} {q : Road} {m : MeterState} {k : �
           gate = e ∙ gate-is;
         }
 
-        -- and after it the step is filled
+        -- after it the step is filled
         pub row-filled : {t : State} {y rest : List ℕ} → Stepped q (m .state) (filledRow laws q m (recordRow bytes (q .n) k)) t y rest
             → FilledRow laws bytes q m k put t ramps (arrays (w .cell) rest room release waits came demand) y
         unfolding meteredOf

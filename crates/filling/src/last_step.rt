@@ -1,4 +1,4 @@
-// What the last step of filling leaves for a further record: its releases, which stand in the record, and what entered each cell.
+// What the last step of filling leaves for a further record: its releases, which are in the record, and what entered each cell.
 ghost use mathlib.Core.Path.{_≡_};
 ghost use Prim.Native.Nat.{_-_, _≤_};
 ghost use Rattle.model.specs.Numbers.{fillOf};
@@ -8,7 +8,7 @@ ghost use Rattle.model.specs.Record.{recordRow};
 ghost use Rattle.fields.specs.FieldsLaws.{HoldsRow};
 ghost use Rattle.filling.specs.LastStep.{enteredIn, EntriesAsk};
 
-// The releases of step `k`, for the first n cells.
+// Puts the releases of step `k` of the first n cells into an array.
 pub fn put_releases(bytes: &[u8], n: usize, k: usize, releases: &mut [u32; 64])
     requires { ⌜ HoldsRow (now bytes) n k ⌝ }
     ensures { λ _. ⌜ now (releases .exit) ≡ fillOf (releaseAt (recordRow (now (bytes .entry)) n k)) n (now (releases .entry)) ⌝ }
@@ -21,7 +21,7 @@ pub fn put_releases(bytes: &[u8], n: usize, k: usize, releases: &mut [u32; 64])
     }
 }
 
-// What an outflow that F has let into the next cell.
+// What entered the next cell with an outflow that F already includes.
 fn entered(share: u16, cumulative: u32, outflow: u32) -> u32
     requires { ⌜ (share ≤ whole) × (outflow ≤ cumulative) ⌝ }
     ensures { λ x. ⌜ x ≡ enteringOf share (cumulative - outflow) outflow ⌝ }
@@ -29,7 +29,7 @@ fn entered(share: u16, cumulative: u32, outflow: u32) -> u32
     flow::entering(share, cumulative - outflow, outflow) as u32
 }
 
-// What entered the first n cells in the step with outflows `y`, of the places before them; `cumulative` is F after it.
+// Puts what entered each of the first n cells in the step with outflows `y` into an array; `cumulative` is F after it.
 pub fn put_entries(
     n: usize,
     share: &[u16; 64],

@@ -117,7 +117,7 @@ fn fill_row<'a, 'b>(
     )
 }
 
-// Fills the releases of every step under a table of lanes and writes its outflows; gives the final state, and the longest queues where they are
+// Fills the releases of every step under a table of lanes and writes its outflows; returns the final state, and the longest queues if they are
 // wanted.
 fn fill_rows(
     bytes: &mut [u8],
@@ -212,7 +212,7 @@ fn fill_rows(
     counts::longest(ended, gate, most)
 }
 
-// Fills a record's releases by its ramps' laws under a table of lanes and runs it in one pass, with its longest queues where they are wanted.
+// Fills a record's releases by its ramps' laws under a table of lanes and runs it in one pass; with its longest queues if they are wanted.
 fn fill_opened(
     bytes: &mut [u8],
     laws: [Law; 64],
@@ -270,7 +270,7 @@ pub fn fill(bytes: &mut [u8], laws: [Law; 64], table: &[u8], out: &mut [u32]) ->
     filled.ended
 }
 
-// Fills so with the longest queues: filling's answer, record and list, and the longest queues of gate and on-ramps over the steps done.
+// Fills a record in the same way with its longest queues: filling's answer, record and list, and the longest queues over the steps done.
 pub fn fill_longest(bytes: &mut [u8], laws: [Law; 64], table: &[u8], out: &mut [u32]) -> Longest
     ensures answer { λ e. ⌜ endAnswer (e .ended) ≡ fillingOf laws (now (bytes .entry)) (now (table .entry)) (now (out .entry)) ⌝ }
     ensures bytes { λ e. ⌜ now (bytes .exit) ≡ recordAfter laws (now (bytes .entry)) (now (table .entry)) (now (out .entry)) ⌝ }
@@ -298,7 +298,7 @@ fn entries_within(n: usize, held: [u32; 64], entries: [u32; 64]) -> bool
     true
 }
 
-// A refusal that names no state, with no step done.
+// A refusal that names no state, without a step done.
 fn unbegun(refusal: Refusal, place: usize) -> FilledOn
     ensures { λ e. ⌜ (e .longest .ended ≡ withoutState refusal place)
         × ((longestQueues (e .longest) ≡ noQueues) × ((e .releases ≡ zeros) × (e .entries ≡ zeros))) ⌝ }
@@ -311,7 +311,7 @@ fn unbegun(refusal: Refusal, place: usize) -> FilledOn
     }
 }
 
-// With filling's answer, what its last step leaves for a further record: its releases stand in the record, its outflows in the list.
+// Filling's answer, with what its last step leaves for a further record: its releases are in the record, its outflows in the list.
 fn with_last(
     bytes: &[u8],
     r: Road,
@@ -341,7 +341,7 @@ fn with_last(
     }
 }
 
-// Fills the rows of a further record from where an earlier one was left, with its longest queues: the refusals of reading, 16, 17, 18, 7, 8, 11.
+// Fills the rows of a further record from the progress that an earlier one left, with its longest queues: the refusals of reading, 16, 17, 18, 7, 8, 11.
 pub fn fill_on(
     bytes: &mut [u8],
     laws: [Law; 64],

@@ -17,7 +17,7 @@ use Rattle.outflows.specs.Columns.{roadOf}
 use Rattle.stepping.specs.StepNeeds.{Movable}
 use Rattle.judging.specs.ProposedRow.{Proposed}
 
--- it requires that on some road with these columns all is within the limits, that steps are left, and that the rows are whole
+-- it requires: on some road with these columns everything is within the limits, a step is left, and the rows have all their numbers
 pub record Judges (n gate : ℕ) (speed wave share jam capacity : List ℕ) (s : State) (row y : List ℕ) : Type 0 where
   pub road : Road
   pub input : InputOk (roadOf road n gate speed wave share jam capacity) s row
@@ -30,7 +30,7 @@ module _ {n gate : ℕ} {speed wave share jam capacity : List ℕ} {s : State} {
   pub proposed : Proposed n row y
   proposed = record { cells = h .input .road .cells; numbers = h .input .row .numbers; places = h .places }
 
-  -- a row without a fault may be moved by
+  -- a row without a fault may be used for the move
   pub movable : {f : FaultAnswer} → f ≡ verdictOf (roadOf (h .road) n gate speed wave share jam capacity) s row y → f .number ≡ 0
       → Movable (roadOf (h .road) n gate speed wave share jam capacity) s row y
   movable e z = record {
@@ -40,7 +40,7 @@ module _ {n gate : ℕ} {speed wave share jam capacity : List ℕ} {s : State} {
     obeys = verdict-obeys (roadOf (h .road) n gate speed wave share jam capacity) s row y (sym (number-of e) ∙ z);
   }
 
--- what is found of it, and the state t after it: the one before it where there is a fault
+-- its fault, and the state t after it: the state before it if there is a fault
 pub record JudgedStep (q : Road) (s : State) (row y : List ℕ) (f : FaultAnswer) (t : State) : Type 0 where
   pub found : f ≡ verdictOf q s row y
   pub moved : f .number ≡ 0 → t ≡ nextOf q s row y

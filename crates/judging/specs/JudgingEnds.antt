@@ -59,7 +59,7 @@ passed-long : (e rest : EndAnswer) (writes : Bool) (size held queue : ℕ) → (
 passed-long e rest false size held queue l = refl
 passed-long e rest true size held queue l = rw (le-leb size held (l refl .0), le-leb size queue (l refl .1)) refl
 
--- x is what opening gave
+-- x is opening's answer
 module _ (writes : Bool) (zs held₀ queue₀ bytes lanes : List ℕ) (x : ReadAnswer) where
   abbrev a : Study
   a = openedStudy bytes lanes x
@@ -82,7 +82,7 @@ module _ (writes : Bool) (zs held₀ queue₀ bytes lanes : List ℕ) (x : ReadA
       let m : k ≡ stepsBy end bytes lanes x = sym ek ∙ ap (stepsMade a) ee in
       (ee, (λ on. eh on ∙ ap (heldTable a zs held₀) m, λ on. eq on ∙ ap (queueTable a zs queue₀) m))
 
-  -- a refusal that names no state: no step is made
+  -- after a refusal that names no state no step is made
   none : {e : EndAnswer} (number place : ℕ) → (number ≡ 0 → ⊥) → e ≡ noState number place → e ≡ endBy (judgedFrom writes zs held₀ queue₀) bytes lanes x
       → JudgedBy e held₀ queue₀
   none number place n ee er =

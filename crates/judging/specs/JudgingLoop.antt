@@ -1,4 +1,4 @@
--- What the loop over the steps of a schedule knows, and how judging ends. Assumes nothing.
+-- The invariant of the loop over the steps of a schedule, and the answers of judging. Assumes nothing.
 use mathlib.Core.Path.{_≡_, refl, sym, ap, _∙_}
 use mathlib.Core.List.{List}
 use Prim.Native.Nat.{ℕ, _+_, _≤_, _<_}
@@ -21,7 +21,7 @@ pub record ObeyedSteps (a : Study) (zs : List ℕ) (u : State) (k : ℕ) : Type 
   pub state : u ≡ scheduledAt a zs k
   pub faultless : Faultless (λ j. judgeSays a zs j .number) (a .steps) k
 
--- a turn of it: q is the step's road, and the code holds the row of step k and the schedule's row of outflows
+-- a turn of the loop: q is the step's road, and the code holds the row of step k and the schedule's row of outflows
 pub record JudgeTurn (a : Study) (zs : List ℕ) (u : State) (k : ℕ) (q : Road) (row y : List ℕ) : Type 0 where
   pub ok : StudyOk a
   pub obeyed : ObeyedSteps a zs u k
@@ -50,7 +50,7 @@ module _ {a : Study} {zs : List ℕ} where
       reached = rw (t .obeyed .state) (judge-reached a (t .ok) zs k (t .obeyed .faultless .within) (t .obeyed .faultless .before));
     }
 
-    -- it may be judged and made
+    -- the step may be judged and made
     pub judges : Judges (q .n) (q .«gate_capacity») (q .speed) (q .wave) (q .share) (q .jam) (q .capacity) u row y
     judges = record {
       road = q;
@@ -69,7 +69,7 @@ module _ {a : Study} {zs : List ℕ} where
       ends-fault n g =
           g ∙ ends-at a (judgeSays a zs) (scheduledAt a zs) (t .obeyed .faultless) (j .kept n ∙ t .obeyed .state) (t .left) says n
 
-      -- no fault: the next turn follows
+      -- without a fault the next turn follows
       pub obeyed-more : f .number ≡ 0 → ObeyedSteps a zs v (k + 1)
       unfolding scheduleAfter
       obeyed-more z = record {

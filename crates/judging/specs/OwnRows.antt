@@ -12,7 +12,7 @@ use Rattle.model.specs.Running.{runSays, firstStep}
 use Rattle.theory.specs.DemandLaws.{own-state}
 use Rattle.model.specs.Judging.{placesOf, heldRow, queueRow, heldTable, queueTable}
 
--- after step k of the engine's run: the gate's queue and what each cell holds; and 0 and each ramp's queue
+-- the rows after step k of the engine's run: the gate's queue and each cell's held count; and 0 and each ramp's queue
 abbrev pub engineHeld : Study → ℕ → List ℕ
 engineHeld a k = placesOf (engineAfter a (suc k) .«gate_queue») (engineAfter a (suc k) .held) (a .road .n)
 

@@ -1,4 +1,4 @@
--- A row of places as its loop writes it into a list, the gate's number first. Assumes nothing.
+-- A row of places that a loop writes into a list, gate first. Assumes nothing.
 use mathlib.Core.Path.{_≡_, refl, sym, ap, subst, _∙_}
 use mathlib.Core.List.{List}
 use Prim.Native.Nat.{ℕ, _+_, _≤_, _<_}

@@ -1,4 +1,4 @@
--- What the loop over the steps knows of the lent lists, and how history ends. Assumes nothing.
+-- The invariant of the loop over the steps about the lent lists, and the answers of history. Assumes nothing.
 use mathlib.Core.List.{List, _++_, append-assoc}
 use Prim.Native.Nat.{ℕ, suc, _+_, _-_, _*_, _≤_, _<_}
 use mathlib.Core.Path.{_≡_, refl, sym, ap, _∙_}
@@ -34,17 +34,17 @@ heldEnd a zs list = heldTable a zs list (passedSteps a zs)
 abbrev pub queueEnd : Study → List ℕ → List ℕ → List ℕ
 queueEnd a zs list = queueTable a zs list (passedSteps a zs)
 
--- what judging step by step requires: a record that reads, a schedule of the right length and, where it writes states, lists long enough
+-- what judging step by step requires: a record that reads, a schedule of the right length and, if states are written, lists that are long enough
 pub record Judgeable (bytes : List ℕ) (a : Study) (zs : List ℕ) (writes : Bool) (held queue : List ℕ) : Type 0 where
   pub readable : Readable bytes a
   pub right : length zs ≡ tableSize a
   pub long : writes ≡ true → (tableSize a ≤ length held) × (tableSize a ≤ length queue)
 
--- row k of a table lies within what bounds the table
+-- row k of a table is within every bound of the table
 pub row-ends-by : (a : Study) (k most : ℕ) → tableSize a ≤ most → k < a .steps → k * places a + places a ≤ most
 row-ends-by a k most m l = omega (arith, row-ends k (a .steps) (places a) l)
 
--- a lent list with k rows of w numbers in front, where states are written, and as long as before
+-- a lent list with k rows of w numbers in front, if states are written; its length is unchanged
 pub record WrittenRows (writes : Bool) (rows : ℕ → List ℕ) (w : ℕ) (list₀ list : List ℕ) (k : ℕ) : Type 0 where
   pub rows-there : writes ≡ true → list ≡ frontOf rows w list₀ k
   pub same : length list ≡ length list₀
@@ -81,7 +81,7 @@ held-wide a zs k = length-list _ (places a)
 queue-wide : (a : Study) (zs : List ℕ) (k : ℕ) → length (queueRow a zs k) ≡ places a
 queue-wide a zs k = length-list _ (places a)
 
--- a schedule judged up to step k, with its states in the lists where they are written
+-- a schedule judged up to step k, with its states in the lists if they are written
 pub record JudgedTo (a : Study) (zs : List ℕ) (writes : Bool) (held₀ queue₀ held queue : List ℕ) (u : State) (k : ℕ) : Type 0 where
   pub obeyed : ObeyedSteps a zs u k
   pub helds : WrittenRows writes (heldRow a zs) (places a) held₀ held k
@@ -107,7 +107,7 @@ module _ {a : Study} {zs : List ℕ} {writes : Bool} {held₀ queue₀ : List �
       (λ on. h .helds .rows-there on ∙ ap (heldTable a zs held₀) s, λ on. h .queues .rows-there on ∙ ap (queueTable a zs queue₀) s),
     )
 
-    -- all steps are passed
+    -- all steps are made
     pub judged-end : {e : EndAnswer} → a .steps ≤ k → e ≡ ended 0 0 0 (a .road) u → Ends a zs writes held₀ queue₀ e held queue
     judged-end l g = ends (obeyed-end (h .obeyed) l g) (faultless-end (h .obeyed .faultless) l)
 
@@ -117,7 +117,7 @@ module _ {a : Study} {zs : List ℕ} {writes : Bool} {held₀ queue₀ : List �
           → Ends a zs writes held₀ queue₀ e held queue
       judged-fault n g = ends (ends-fault t j n g) (faultless-stop (t .obeyed .faultless) (t .left) (number-of (says t j)) n)
 
-      -- without one, the state after the step is written too
+      -- without a fault the state after the step is written too
       pub judged-more : f .number ≡ 0 → (writes ≡ true → (tableSize a ≤ length held₀) × (tableSize a ≤ length queue₀)) → {held₁ queue₁ : List ℕ}
           → held₁ ≡ cond writes (placed held (k * places a) (placesOf (v .«gate_queue») (v .held) (a .road .n))) held
           → queue₁ ≡ cond writes (placed queue (k * places a) (placesOf 0 (v .queue) (a .road .n))) queue

@@ -1,5 +1,5 @@
-// Judging: whether a proposed schedule obeys the rules of a record, step by step in its own states. History writes these states into lent
-// lists too, as plots need them.
+// Judging: whether a proposed schedule obeys the rules of a record, step by step in its own states. History also writes these states into lent
+// lists, for plots.
 mod verdict;
 
 use model::Ended;
@@ -29,14 +29,14 @@ ghost use Rattle.model.specs.GoingOn.{judgingOn, historyOn, heldOn, queueOn};
 ghost use Rattle.opening.specs.OpenedStudy.{Opens};
 ghost use Rattle.judging.specs.JudgingEnds.{JudgedBy};
 
-// What judging finds of a step, and the ledger after it: the one before it where there is a fault.
+// The fault of a step, and the ledger after it: the ledger before it if there is a fault.
 struct Judged {
     refusal: Refusal,
     place: usize,
     ledger: Ledger,
 }
 
-// Judges a row of outflows, and moves every place by it where it obeys.
+// Judges a row of outflows, and moves every place by it if it obeys.
 fn judge_step<'a>(
     n: usize,
     gate_capacity: u32,
@@ -93,7 +93,7 @@ fn judge_step<'a>(
     }
 }
 
-// Where `writes`, puts a row of places into a list from `from` on: the gate's number, then each cell's.
+// If `writes`, puts a row of places into a list from `from` on: the gate's number, then each cell's.
 fn put_places(writes: bool, from: usize, gate: u32, cells: &[u32; 64], n: usize, list: &mut [u32])
     requires { ⌜ (n ≤ mostCells) × ((from + (n + 1) ≤ mostOutflows) × (writes ≡ true → from + (n + 1) ≤ length (now list))) ⌝ }
     ensures { λ _. ⌜ now (list .exit) ≡ cond writes (placed (now (list .entry)) from (placesOf gate (now (cells .entry)) n)) (now (list .entry)) ⌝ }
@@ -111,8 +111,8 @@ fn put_places(writes: bool, from: usize, gate: u32, cells: &[u32; 64], n: usize,
     list[from + n] = x;
 }
 
-// Goes through a schedule of the right length up to its first fault: 9, 10, 13 or 14. Where `writes`, puts the states after the steps before
-// it into the lists.
+// Goes through a schedule of the right length up to its first fault: 9, 10, 13 or 14. If `writes`, puts the states after the steps before the
+// fault into the lists.
 fn judge_rows(
     bytes: &[u8],
     table: &[u8],
@@ -172,7 +172,7 @@ fn judge_rows(
     Ended::complete(r, l.state(cells, ramps, cumulative))
 }
 
-// Judges a schedule over a record that was opened: opening's refusal, 12, and 11 where it `writes`, then as `judge_rows`.
+// Judges a schedule over a record that was opened: opening's refusal, 12, and 11 if it `writes`, then as `judge_rows`.
 fn judge_opened(
     a: Reading,
     bytes: &[u8],
@@ -224,8 +224,8 @@ pub fn judge(bytes: &[u8], table: &[u8], schedule: &[u32]) -> Ended
     judge_opened(a, bytes, table, schedule, false, &mut held, &mut queue)
 }
 
-// Judges a schedule that goes on from a state over the rows of a further record: the refusals of reading, 17, 18, 7, 8, 12, then as judging, with the
-// step counted in these rows.
+// Judges a schedule of the rows of a further record from a state: the refusals of reading, 17, 18, 7, 8, 12, then as judging, with the step
+// counted in these rows.
 pub fn judge_on(bytes: &[u8], table: &[u8], from: State, schedule: &[u32]) -> Ended
     ensures { λ e. ⌜ endAnswer e ≡ judgingOn (now (bytes .entry)) (now (table .entry)) from (now (schedule .entry)) ⌝ }
 {
@@ -251,7 +251,7 @@ pub fn history(
     judge_opened(a, bytes, table, schedule, true, held, queue)
 }
 
-// The same of a schedule that goes on from a state: the refusals of reading, 17, 18, 7, 8, 12, 11, then as judging.
+// The same for a schedule that goes on from a state: the refusals of reading, 17, 18, 7, 8, 12, 11, then as judging.
 pub fn history_on(
     bytes: &[u8],
     table: &[u8],

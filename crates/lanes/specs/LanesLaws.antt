@@ -1,4 +1,4 @@
--- Laws of lanes: what they leave of a capacity, and what the tests of 17 and 18 say. Assumes nothing.
+-- Laws of lanes: the capacity that they leave, and the tests of 17 and 18 as facts. Assumes nothing.
 use mathlib.Core.Path.{_≡_, refl, sym, ap, _∙_}
 use mathlib.Core.Bool.{Bool, true}
 use mathlib.Core.Logic.{⊎-elim}
@@ -21,12 +21,12 @@ use Rattle.numbers.specs.RowsLaws.{fill-more}
 use Rattle.numbers.specs.TablesLaws.{row-entry, part-row, row-ends, mul-more}
 use Rattle.model.specs.Lanes.{mostNumber, openCapacity, openCapacities, lanesOk, lanesAt, builtIn, openIn, tableAt, tableBytes}
 
--- C 2000 with two of three lanes open leaves 1333; with none open, or none built, 0; with more open than built at most the greatest number of 32 bits
+-- C 2000 with two of three lanes open leaves 1333; with none open or none built 0; with more open than built at most the greatest number of 32 bits
 pub on-paper : (openCapacity 2000 7 5 ≡ 1333) × ((openCapacity 2000 7 0 ≡ 0) × ((openCapacity 2000 0 7 ≡ 0) × (openCapacity mostNumber 1 3 ≡ mostNumber)))
 unfolding openCapacity ones onesIn
 on-paper = (refl, (refl, (refl, refl)))
 
--- 0 has no lane
+-- the byte 0 has no lane
 pub ones-none : ones 0 ≡ 0
 unfolding ones
 ones-none = refl
@@ -36,7 +36,7 @@ pub ones-pos : (n : ℕ) → 0 < n → 0 < ones n
 ones-pos = bin-ind (λ (n : ℕ). 0 < n → 0 < ones n) (λ p. absurd (omega arith))
     (λ n ih p. ⊎-elim (λ (z : n / 2 ≡ 0). omega (arith, ones-step n)) (λ (q : 0 < n / 2). omega (arith, ones-step n, ih q)) (eq-zero-or-pos (n / 2)))
 
--- a's lanes are among b's
+-- if a's lanes are among b's, they are no more
 pub ones-within : (a b : ℕ) → bitAnd a b ≡ a → ones a ≤ ones b
 ones-within = bin-ind (λ (a : ℕ). (b : ℕ) → bitAnd a b ≡ a → ones a ≤ ones b) (λ b e. omega (arith, ones-none))
     (λ a ih b e.
@@ -54,14 +54,14 @@ pub open-all : (c built : ℕ) → 0 < built → c ≤ mostNumber → openCapaci
 unfolding openCapacity
 open-all c built l m = rw (mul-div-cancel c (ones-pos built l)) (omega arith)
 
--- and where every open lane is built, never more
+-- if every open lane is built, it is at most C
 pub open-le : (c built usable : ℕ) → bitAnd usable built ≡ usable → openCapacity c built usable ≤ c
 unfolding openCapacity
 open-le c built usable e =
     let h : c * ones usable / ones built ≤ c = div-le-of-le-mul (ones built) (omega (arith, mul-le-mul-left c (ones-within usable built e))) in
     omega (arith, min-le-left (c * ones usable / ones built) mostNumber)
 
--- a larger capacity is left no smaller
+-- a larger capacity leaves no less
 pub open-mono : (c d built usable : ℕ) → c ≤ d → openCapacity c built usable ≤ openCapacity d built usable
 unfolding openCapacity
 open-mono c d built usable l = go (ones built) refl
@@ -85,12 +85,12 @@ lanes-facts built usable h =
     let p = le-head 1 built (eqb (bitAnd usable built) usable) h in
     record { some = p .0; within = eqb-true (bitAnd usable built) usable (p .1) }
 
--- all built lanes open pass it
+-- all built lanes open pass the test
 pub lanes-all : (built : ℕ) → 0 < built → lanesOk built built ≡ true
 unfolding lanesOk
 lanes-all built l = le-then 1 built (eqb (bitAnd built built) built) l (eq-eqb (bitAnd built built) built (and-self built))
 
--- the byte of a table at a cell, in the row of lanes built and in a step's
+-- the byte of a table at a cell, in the row of lanes built and in the row of a step
 pub built-byte : (table : List ℕ) (n i : ℕ) → i < n → at table i ≡ at (builtIn table n) i
 built-byte table n i l =
     let e : 0 * n + i ≡ i = omega arith in
@@ -105,22 +105,22 @@ pub cell-found : (table : List ℕ) (n k i to : ℕ) {b : Bool} → i < n → to
     → b ≡ lanesAt (builtIn table n) (openIn table n k) i
 cell-found table n k i to l e eb = rw (built-byte table n i l, open-byte table n k i to l e) at eb
 
--- it lies within the table
+-- the byte is within the table
 pub byte-within : (n T k i to : ℕ) → i < n → k < T → to ≡ k * n + i → to + n < tableBytes n T
 byte-within n T k i to l m e =
     omega (arith, e, mul-comm n (T + 1), suc-mul k n, suc-mul (suc k) n, mul-le-mul-right {m = suc (suc k)} {n = T + 1} n (omega arith))
 
--- and so do the rows of a step
+-- the rows of a step are within the table
 pub rows-within : (table : List ℕ) (n T k : ℕ) → k < T → length table ≡ tableBytes n T → (k + 1) * n + n ≤ length table
 rows-within table n T k l e = omega (arith, mul-comm n (T + 1), mul-more k n, row-ends k T n l, mul-more T n)
 
--- past its rows no lane is open
+-- past the table's rows no lane is open
 open-past : (table : List ℕ) (n T k i : ℕ) → length table ≡ tableBytes n T → T ≤ k → i < n → at (openIn table n k) i ≡ 0
 open-past table n T k i e l m =
     row-entry table n (suc k) i m
     ∙ List·getD-eq-default table 0 (omega (arith, mul-comm n (T + 1), mul-le-mul-right {m = T + 1} {n = suc k} n (omega arith)))
 
--- a table of the right size that passes 18: in every step each open lane is built
+-- in a table of the right size that passes 18, each open lane is built in every step
 pub table-within : (table : List ℕ) (n T : ℕ) → length table ≡ tableBytes n T → allOf (tableAt table n T) n ≡ true
     → (k i : ℕ) → i < n → bitAnd (at (openIn table n k) i) (at (builtIn table n) i) ≡ at (openIn table n k) i
 table-within table n T e h k i l = ⊎-elim
@@ -130,7 +130,7 @@ table-within table n T e h k i l = ⊎-elim
     (all-at (λ j. lanesAt (builtIn table n) (openIn table n j) i) T (all-at (tableAt table n T) n h i l) k m) .within)
     (order T k)
 
--- the loop that opens lanes cell by cell
+-- the loop over the cells has computed the capacities of the first i
 pub record OpenedCells (capacity built usable left : List ℕ) (i : ℕ) : Type 0 where
   pub done : left ≡ openCapacities capacity built usable i
 
@@ -148,7 +148,7 @@ module _ {capacity built usable : List ℕ} where
   pub opened-end : {left : List ℕ} {n i : ℕ} → OpenedCells capacity built usable left i → i ≡ n → left ≡ openCapacities capacity built usable n
   opened-end h e = h .done ∙ ap (openCapacities capacity built usable) e
 
--- the rows of a step, as the code cuts them from a table
+-- the rows of a step, as the code's slices give them
 built-row : (table : List ℕ) (n : ℕ) → take n table ≡ builtIn table n
 unfolding rowAt
 built-row table n = let e : 0 * n ≡ 0 = omega arith in rw e
@@ -160,7 +160,7 @@ cut-capacities capacity table n k e =
     let o : take ((k + 1) * n + n - (k + 1) * n) (drop ((k + 1) * n) table) ≡ openIn table n k = part-row table n (suc k) ((k + 1) * n) (rw add-one refl) in
     rw (built-row table n, o) at e
 
--- what the code finds of a capacity, by its counts of lanes
+-- the capacity that the code computes from its counts of lanes
 pub open-empty : (c built usable : ℕ) → ones built ≡ 0 → 0 ≡ openCapacity c built usable
 unfolding openCapacity
 open-empty c built usable e = rw (e, div-zero (c * ones usable)) refl

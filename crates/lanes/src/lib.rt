@@ -1,4 +1,4 @@
-// Lanes as the set bits of a byte: what the open ones leave of a capacity, and the lowest cell whose lanes refusal 18 names.
+// Lanes as the set bits of a byte: the capacity that the open lanes leave, and the lowest cell that refusal 18 names.
 ghost use mathlib.Core.Path.{_≡_};
 ghost use Prim.Native.Nat.{_+_, _*_, _≤_, _<_};
 ghost use lib.Count.{ones};
@@ -32,14 +32,14 @@ pub fn open_capacity(capacity: u32, built: u8, usable: u8) -> u32
     left as u32
 }
 
-// Whether a lane is built, and every open lane is.
+// Whether a lane is built, and every open lane is built.
 pub fn lanes_ok(built: u8, usable: u8) -> bool
     ensures { λ b. ⌜ b ≡ lanesOk built usable ⌝ }
 {
     (1 <= built) & (usable & built == usable)
 }
 
-// The lowest of n cells whose lanes are not as they should be, counted from 0, or n.
+// The lowest of n cells whose lanes don't pass, counted from 0, or n.
 pub fn first_cell(built: [u8; 64], usable: [u8; 64], n: usize) -> usize
     requires { ⌜ n ≤ mostCells ⌝ }
     ensures { λ i. ⌜ i ≡ firstOf (lanesAt built usable) n ⌝ }
@@ -54,7 +54,7 @@ pub fn first_cell(built: [u8; 64], usable: [u8; 64], n: usize) -> usize
     i
 }
 
-// Whether the cell at i has its lanes as they should be in all rows of a table.
+// Whether the lanes of the cell at i pass in all rows of a table.
 fn cell_in_table(table: &[u8], n: usize, steps: usize, i: usize) -> bool
     requires { ⌜ (length (now table) ≡ tableBytes n steps) × (i < n) ⌝ }
     ensures { λ b. ⌜ b ≡ tableAt (now (table .entry)) n steps i ⌝ }
@@ -72,7 +72,7 @@ fn cell_in_table(table: &[u8], n: usize, steps: usize, i: usize) -> bool
     true
 }
 
-// The lowest such cell over all rows of a table, counted from 0, or n.
+// The lowest cell whose lanes don't pass in some row of a table, counted from 0, or n.
 pub fn first_in_table(table: &[u8], n: usize, steps: usize) -> usize
     requires { ⌜ length (now table) ≡ tableBytes n steps ⌝ }
     ensures { λ i. ⌜ i ≡ firstOf (tableAt (now (table .entry)) n steps) n ⌝ }
@@ -87,7 +87,7 @@ pub fn first_in_table(table: &[u8], n: usize, steps: usize) -> usize
     i
 }
 
-// The capacities of a step by the rows of its lanes.
+// The capacities of a step, from its rows of lanes.
 pub fn open_capacities(capacity: [u32; 64], built: &[u8], usable: &[u8], n: usize) -> [u32; 64]
     requires { ⌜ (n ≤ mostCells) × ((n ≤ length (now built)) × (n ≤ length (now usable))) ⌝ }
     ensures { λ c. ⌜ c ≡ openCapacities capacity (now (built .entry)) (now (usable .entry)) n ⌝ }
@@ -101,7 +101,7 @@ pub fn open_capacities(capacity: [u32; 64], built: &[u8], usable: &[u8], n: usiz
     left
 }
 
-// The capacities of step k by a table that is not empty.
+// The capacities of step k, from a table that is not empty.
 pub fn step_capacities(capacity: [u32; 64], table: &[u8], n: usize, k: usize) -> [u32; 64]
     requires { ⌜ (n ≤ mostCells) × ((k ≤ mostSteps) × ((k + 1) * n + n ≤ length (now table))) ⌝ }
     ensures { λ c. ⌜ c ≡ openCapacities capacity (builtIn (now (table .entry)) n) (openIn (now (table .entry)) n k) n ⌝ }

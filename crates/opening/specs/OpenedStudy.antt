@@ -1,4 +1,4 @@
--- What an operation gives over a record that was opened, by what opening gave: from the record's own start, or from a state. Assumes nothing.
+-- An operation's answer, lists and sums over a record that was opened, from opening's answer: from the record's own start, or from a state. Assumes nothing.
 use mathlib.Core.Path.{_≡_, refl, sym, ap, _∙_}
 use mathlib.Core.List.{List}
 use Prim.Native.Nat.{ℕ}
@@ -39,7 +39,7 @@ module _ (end : Study → EndAnswer) (bytes lanes : List ℕ) (x : ReadAnswer) w
   pub ends-opened : x .number ≡ 0 → {e : EndAnswer} → e ≡ end (openedStudy bytes lanes x) → e ≡ endBy end bytes lanes x
   ends-opened z ee = ee ∙ rw (eq-eqb (x .number) 0 z) refl
 
--- b, with answers that begin by u, is the study that the model names for what opening gave
+-- b, with answers that begin by u, is the study that the model names for opening's answer
 module _ (bytes lanes : List ℕ) {x : ReadAnswer} (b : Study) (u : EndAnswer → EndAnswer)
     (refuses : (e : EndAnswer) → (x .number ≡ 0 → ⊥) → noState (x .number) (x .place) ≡ u e)
     (starts : x .number ≡ 0 → (e : EndAnswer) → e ≡ u e) (same : x .number ≡ 0 → openedStudy bytes lanes x ≡ b) (end : Study → EndAnswer) where

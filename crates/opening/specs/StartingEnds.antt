@@ -16,7 +16,7 @@ use Rattle.theory.specs.Opening.{opened-reads}
 use Rattle.theory.specs.StartingState.{startingOf, starting-unopened, starting-refused, starting-starts, found-readable}
 use Rattle.opening.specs.OpenedStudy.{Opens}
 
--- the state has an entry for each cell, and x is what opening gave
+-- the state has an entry for each cell, and x is opening's answer
 module _ (bytes lanes : List ℕ) (s : State) (sized : readingOf bytes .road .n ≤ mostCells → Sized (readingOf bytes .road) s)
     {x : ReadAnswer} (ex : x ≡ openingOf bytes lanes) where
   abbrev Promise : ReadAnswer → Type 0

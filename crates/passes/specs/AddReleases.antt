@@ -1,4 +1,4 @@
--- Releases added to what cells hold, and the queues after them, stored at the listed cells. Assumes nothing.
+-- The loop that adds each listed cell's release to its held count and stores the ramp's queue after the step. Assumes nothing.
 use mathlib.Core.Path.{_≡_, refl, sym, ap, subst, _∙_}
 use mathlib.Core.List.{List}
 use Prim.Native.Nat.{ℕ, _+_, _-_, _*_, _≤_, _<_}
@@ -11,13 +11,13 @@ use Rattle.model.specs.Road.{mostCells, mostRate, mostSteps}
 use Rattle.model.specs.Limits.{mostQueue}
 use Rattle.passes.specs.RampList.{startOf, start-more, Listed, Upto, sum-to, sum-add, listed-before, listed-here, listed-more, listed-end}
 
--- a cell without a ramp releases nothing, and nothing waits there
+-- a cell without a ramp releases nothing and has no queue
 pub record Idle (give wait : ℕ → ℕ) (queue : List ℕ) (i : ℕ) : Type 0 where
   pub gives : give i ≡ 0
   pub waits : wait i ≡ 0
   pub queues : at queue i ≡ 0
 
--- what all cells hold at most, and what waits at a ramp and at all of them
+-- the most that all cells hold, and the longest queue of one ramp and of all
 abbrev pub mostOnRoad : ℕ
 mostOnRoad = 3 * mostRate * mostCells
 
@@ -27,7 +27,7 @@ mostWaiting = mostQueue mostSteps + mostRate
 abbrev pub mostAtRamps : ℕ
 mostAtRamps = mostWaiting * mostCells
 
--- each listed cell's release and its queue after it
+-- the release of each listed cell, and its queue after it
 pub record Adds (give wait : ℕ → ℕ) (n ramps : ℕ) (cell release waiting held queue : List ℕ) : Type 0 where
   pub cells : n ≤ mostCells
   pub longHeld : n ≤ length held
@@ -46,7 +46,7 @@ pub record Addable (n ramps sum : ℕ) (cell release waiting held queue : List �
   pub adds : Adds give wait n ramps cell release waiting held queue
   pub small : sum ≤ 2 * mostRate * n
 
--- a cell's count with its release; the columns after it, and their sums
+-- a cell's held count with its release; the columns afterwards, and their sums
 abbrev pub givenAt : (ℕ → ℕ) → List ℕ → ℕ → ℕ
 givenAt give held i = at held i + give i
 
@@ -76,7 +76,7 @@ adding-none {queue = queue} = record {
   small = omega arith;
 }
 
--- what a turn knows of its numbers
+-- the facts about the numbers of a turn
 pub record AddTurn (hold give wait i n : ℕ) : Type 0 where
   pub held : hold ≤ 2 * mostRate
   pub given : give ≤ mostRate

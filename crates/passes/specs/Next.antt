@@ -1,4 +1,4 @@
--- The step in passes is the model's: the columns that it leaves are those of the engine's next state. Assumes nothing.
+-- The step in passes is the model's: its columns are those of the engine's next state. Assumes nothing.
 use mathlib.Core.Path.{_≡_, sym, ap, _∙_}
 use mathlib.Core.Logic.{⊎-elim}
 use mathlib.Core.List.{List}
@@ -31,7 +31,7 @@ use Rattle.passes.specs.Outflows.{Pass, passOf, outAt, placeAt, enterAt,
 use Rattle.passes.specs.RampList.{Listed, listed-map}
 use Rattle.passes.specs.AddReleases.{Idle, Adds, Addable, Added, givenAt}
 
--- what a step has ready when its releases are taken: each ramp's release and its queue after it, the rooms, the rests, and the demands
+-- what a step has ready once its releases are taken: each ramp's release and its queue after it, the rooms, the remainders and the demands
 pub record NextAsks (q : Road) (s : State) (row : List ℕ) (ramps arrivals : ℕ) (cell release waiting room rest demand : List ℕ) : Type 0 where
   pub steppable : Steppable q s row
   pub listed : Listed (NoRamp (q .ramp)) (q .n) ramps cell
@@ -43,7 +43,7 @@ pub record NextAsks (q : Road) (s : State) (row : List ℕ) (ramps arrivals : �
   pub demands : (i : ℕ) → i < q .n → at demand i ≡ demandAt q s (suc i)
   pub gate : arrivals ≡ gateArrivals row
 
--- the demands need nothing more, and are the model's
+-- the demands have no further precondition, and are the model's
 pub demands-ask : {q : Road} {s : State} {row : List ℕ} → InputOk q s row → Demands (q .n) (q .speed) (s .held)
 demands-ask k = record {
   cells = k .road .cells;
@@ -56,7 +56,7 @@ pub demands-are : (q : Road) (s : State) {demand : List ℕ} (demand₀ : List �
 demands-are q s demand₀ long e i l =
     ap (λ (x : List ℕ). at x i) e ∙ fill-at (demandIn (q .speed) (q .capacity) (s .held)) (q .n) demand₀ i l long ∙ demand-model q s i
 
--- two rows filled alike, one over another that was filled before
+-- a row filled over one that was filled before is the same as one filled once
 fill-over : (f g h : ℕ → ℕ) (n : ℕ) (l : List ℕ) → n ≤ length l → ((i : ℕ) → i < n → g i ≡ h i)
     → fillOf g n (fillOf f n l) ≡ fillOf h n l
 fill-over f g h n l m e = ext-getD 0 (fillOf g n (fillOf f n l)) (fillOf h n l)
@@ -123,13 +123,13 @@ module _ {q : Road} {s : State} {row : List ℕ} {ramps arrivals : ℕ} {cell re
         let m : i < q .n + 1 = omega (arith, length-fill (placeAt c) (q .n + 1) y₀) in
         fill-at (placeAt c) (q .n + 1) y₀ i m (omega arith) ∙ place-is i (omega arith))
 
-    -- what enters
+    -- what enters each cell
     enter-is : (i : ℕ) → i < q .n → enterAt c i ≡ enteringAt q s (outflowsOf q s row) i
     unfolding enterAt shareAt cumulativeAt
     enter-is zero l = first-there ∙ sym (entering-whole (s .«gate_cumulative») (at (outflowsOf q s row) 0))
     enter-is (suc i) l = ap (enteringOf (at (q .share) i) (at (s .cumulative) i)) (out-is i (omega arith))
 
-    -- within the limits
+    -- the numbers are within the limits
     demand-most : (i : ℕ) → i < q .n → at demand i ≤ at (s .held) i
     demand-most i l = omega (arith, k .demands i l, demand-at-cell q (k .steppable .input .road) s i l)
 
@@ -154,7 +154,7 @@ module _ {q : Road} {s : State} {row : List ℕ} {ramps arrivals : ℕ} {cell re
       rests = k .rests;
     }
 
-    -- what is sent
+    -- the columns after sending
     module _ {y₀ held₁ rest₁ cumulative₁ y : List ℕ} {sum : ℕ}
         (h : SentTo (q .n) (passOf first (q .share) demand room (s .held) (s .cumulative)) rest y₀ held₁ rest₁ cumulative₁ y sum) where
       left-is : (i : ℕ) → i < q .n → at held₁ i ≡ leftAt c i
@@ -230,7 +230,7 @@ module _ {q : Road} {s : State} {row : List ℕ} {ramps arrivals : ℕ} {cell re
             let one : at (outflowsOf q s row) (i + 1) ≡ at (outflowsOf q s row) (suc i) = ap (at (outflowsOf q s row)) (add-one i) in
             omega (arith, out-is i l, one))
 
-        -- and so is the state
+        -- so the state is the engine's next state
         pub next-is : {gateQueue gateCumulative : ℕ}
             → gateQueue ≡ s .«gate_queue» + arrivals - first → gateCumulative ≡ s .«gate_cumulative» + first
             → _≡_ {A = State} (record {
@@ -261,21 +261,21 @@ module _ {q : Road} {s : State} {row : List ℕ} {ramps arrivals : ℕ} {cell re
         pub rests-long : q .n ≤ length rest₁
         rests-long = omega (arith, ap length (h .rests), length-fill (restAt c) (q .n) rest, k .longRest)
 
--- what a step requires: that it is ready on some road with the columns that are lent
+-- what a step requires: it is ready on some road with the columns lent
 pub record NextLent (n gate : ℕ) (share : List ℕ) (s : State) (ramps arrivals : ℕ) (cell release waiting room rest demand y : List ℕ) : Type 0 where
   pub road : Road
   pub row : List ℕ
   pub ready : NextAsks (sending road n gate (road .speed) share (road .capacity)) s row ramps arrivals cell release waiting room rest demand
   pub places : length y ≡ n + 1
 
--- what it gives: the next state, the row of outflows and the rests
+-- what it gives: the next state, the row of outflows and the remainders
 pub record Stepped (q : Road) (s : State) (row : List ℕ) (t : State) (y rest : List ℕ) : Type 0 where
   pub state : t ≡ nextOf q s row (outflowsOf q s row)
   pub outflows : y ≡ outflowsOf q s row
   pub rests : (i : ℕ) → i < q .n → at rest i ≡ restOf (at (q .share) i) (at (t .cumulative) i)
   pub longRest : q .n ≤ length rest
 
--- what its ledger knows
+-- the facts about the numbers of the ledger
 pub record NextTurn (s : State) (first arrivals : ℕ) : Type 0 where
   pub there : first ≤ s .«gate_queue»
   pub queue : s .«gate_queue» ≤ mostQueue mostSteps

@@ -14,7 +14,7 @@ use Rattle.numbers.specs.RowsLaws.{fill-more, fill-past}
 use Rattle.model.specs.Road.{mostCells, mostRate, mostSteps}
 use Rattle.passes.specs.Rest.{restOf, rest-small, Sent}
 
--- what the pass goes by: the gate's outflow, and shares, demands, rooms, held counts and cumulative outflows
+-- what the pass uses: the gate's outflow, and shares, demands, rooms, held counts and cumulative outflows
 pub record Pass : Type 0 where
   pub first : ℕ
   pub share : List ℕ
@@ -46,7 +46,7 @@ unfoldable pub enterAt : Pass → ℕ → ℕ
 enterAt c zero = c .first
 enterAt c (suc i) = enteringOf (at (c .share) i) (at (c .cumulative) i) (outAt c i)
 
--- the cell at i after it, but for its release; its F; the rest of b × F
+-- the held count of the cell at i afterwards, without its release; its F; the remainder of b × F
 abbrev pub leftAt : Pass → ℕ → ℕ
 leftAt c i = at (c .held) i + enterAt c i - outAt c i
 
@@ -104,7 +104,7 @@ sending-none {n} {c} {rest} {l} {y} k e = record {
   };
 }
 
--- what a turn knows of its numbers
+-- the facts about the numbers of a turn
 pub record Turn (out on hold total enter sums i : ℕ) : Type 0 where
   pub held : hold ≤ mostRate
   pub outflow : out ≤ hold
@@ -116,7 +116,7 @@ pub record Turn (out on hold total enter sums i : ℕ) : Type 0 where
 
 module _ {n : ℕ} {c : Pass} {rest₀ y₀ held rest cumulative y : List ℕ} {entering sum i : ℕ}
     (k : Sends n c rest₀) (h : Sending n c rest₀ y₀ held rest cumulative y entering sum i) where
-  -- the cell at i is not yet moved
+  -- the cell at i is not moved yet
   pub held-here : at held i ≡ at (c .held) i
   held-here = ap (λ (x : List ℕ). at x i) (h .to .helds) ∙ fill-past (leftAt c) i (c .held) i (le-refl i)
 
@@ -129,7 +129,7 @@ module _ {n : ℕ} {c : Pass} {rest₀ y₀ held rest cumulative y : List ℕ} {
   pub known-rest : i < n → at rest i ≡ restOf (at (c .share) i) (at (c .cumulative) i)
   known-rest l = rest-here ∙ k .rests i l
 
-  -- what a turn knows of its numbers
+  -- the facts about the numbers of a turn
   pub turn-asks : i < n → (at (c .share) i ≤ whole) × ((at (c .demand) i ≤ mostRate) × (at rest i ≤ 999))
   turn-asks l = (
     k .shares i l,
@@ -139,7 +139,7 @@ module _ {n : ℕ} {c : Pass} {rest₀ y₀ held rest cumulative y : List ℕ} {
     ),
   )
 
-  -- what the cell at i sends, by its rest
+  -- what the cell at i sends, computed from its remainder
   module _ {outflow onward next : ℕ} (l : i < n)
       (sent : (F : ℕ) → at rest i ≡ restOf (at (c .share) i) F → Sent (at (c .share) i) F (at (c .room) (i + 1)) (at (c .demand) i) outflow onward next) where
     here : Sent (at (c .share) i) (at (c .cumulative) i) (at (c .room) (i + 1)) (at (c .demand) i) outflow onward next

@@ -1,4 +1,4 @@
--- The cells with a ramp in a list, lowest first, and rows that change at them alone. Assumes nothing.
+-- The cells with a ramp in a list, lowest first, and rows that change only at these cells. Assumes nothing.
 use mathlib.Core.Path.{_≡_, refl, sym, ap, subst, _∙_}
 use mathlib.Core.List.{List, [], _∷_}
 use Prim.Native.Nat.{ℕ, zero, suc, _+_, _-_, _≤_, _<_}
@@ -14,7 +14,7 @@ use Rattle.numbers.specs.SumLaws.{sum-more}
 use Rattle.numbers.specs.RowsLaws.{fill-more, fill-past}
 use Rattle.model.specs.Road.{mostCells}
 
--- the cell after the one listed before k, 0 for the first
+-- the cell after the one that is listed before entry k, 0 for the first
 unfoldable pub startOf : List ℕ → ℕ → ℕ
 startOf cell zero = 0
 startOf cell (suc k) = at cell k + 1
@@ -23,7 +23,7 @@ pub start-more : (cell : List ℕ) (k : ℕ) → startOf cell (k + 1) ≡ at cel
 unfolding startOf
 start-more cell k = rw add-one
 
--- the first `count` entries list cells of n, lowest first, and P holds of those that they leave out
+-- the first `count` entries list cells of n, lowest first, and P holds for the cells that they leave out
 pub record Listed (P : ℕ → Type 0) (n count : ℕ) (cell : List ℕ) : Type 0 where
   pub most : count ≤ n
   pub rises : (k : ℕ) → k < count → startOf cell k ≤ at cell k
@@ -36,7 +36,7 @@ pub record Listed (P : ℕ → Type 0) (n count : ℕ) (cell : List ℕ) : Type 
 abbrev pub AtRamps : List ℕ → ℕ → List ℕ → Type 0
 AtRamps ramp count cell = (k : ℕ) → k < count → at ramp (at cell k) ≡ 1
 
--- what a loop over the listed cells keeps of its count
+-- the invariant of a loop over the listed cells about its count
 pub record Upto (ramps k : ℕ) : Type 0 where
   pub within : k ≤ ramps
   pub cells : ramps ≤ mostCells
@@ -47,7 +47,7 @@ upto-none h l = record { within = omega arith; cells = omega (arith, h .most) }
 pub upto-more : {ramps k : ℕ} → Upto ramps k → k < ramps → Upto ramps (k + 1)
 upto-more h l = record { within = omega arith; cells = h .cells }
 
--- what follows of P holds of them too
+-- what P implies holds for them too
 pub listed-map : {P Q : ℕ → Type 0} {n count : ℕ} {cell : List ℕ} → ((i : ℕ) → i < n → P i → Q i) → Listed P n count cell → Listed Q n count cell
 listed-map f h = record {
   most = h .most;
@@ -58,7 +58,7 @@ listed-map f h = record {
   past = λ i a b. f i b (h .past i a b);
 }
 
--- entries that stay need not be stored
+-- entries that do not change need not be stored
 fill-skip : (f : ℕ → ℕ) (l : List ℕ) (a d : ℕ) → ((i : ℕ) → a ≤ i → i < a + d → f i ≡ at l i) → fillOf f (a + d) l ≡ fillOf f a l
 unfolding fillOf
 fill-skip f l a zero h = ap (λ (k : ℕ). fillOf f k l) (add-zero a)
@@ -86,7 +86,7 @@ sum-to l a b h m g =
     let e : a + (b - a) ≡ b = omega arith in
     ap (λ (k : ℕ). sumOf (take k l)) (sym e) ∙ sum-skip l a (b - a) (omega arith) (λ i x y. g i x (omega arith))
 
--- an entry that grows lets the sum grow
+-- the sum grows as much as an entry
 pub sum-add : (l : List ℕ) (n i g : ℕ) → i < n → n ≤ length l → sumOf (take n (set l i (at l i + g))) ≡ sumOf (take n l) + g
 unfolding sumOf
 sum-add [] n i g h m = absurd (omega arith)
@@ -94,7 +94,7 @@ sum-add (x ∷ l) zero i g h m = absurd (omega arith)
 sum-add (x ∷ l) (suc n) zero g h m = omega arith
 sum-add (x ∷ l) (suc n) (suc i) g h m = omega (arith, sum-add l n i g (omega arith) (omega arith))
 
--- a row that is stored at the listed cells alone
+-- a row that is stored only at the listed cells
 module _ (f : ℕ → ℕ) (l : List ℕ) {P : ℕ → Type 0} {n count : ℕ} {cell : List ℕ} (c : Listed P n count cell)
     (same : (i : ℕ) → i < n → P i → f i ≡ at l i) where
   pub listed-before : {x : List ℕ} {k : ℕ} → k < count → x ≡ fillOf f (startOf cell k) l → x ≡ fillOf f (at cell k) l
@@ -117,7 +117,7 @@ module _ (f : ℕ → ℕ) (l : List ℕ) {P : ℕ → Type 0} {n count : ℕ} {
       e ∙ ap (λ (q : ℕ). fillOf f (startOf cell q) l) h
       ∙ sym (fill-to f l (startOf cell count) n (c .last) (λ i a b. same i b (c .past i a b)))
 
--- the list is made cell by cell
+-- the list is built cell by cell
 module _ {P : ℕ → Type 0} where
   pub listed-none : {cell : List ℕ} → Listed P 0 0 cell
   unfolding startOf

@@ -1,4 +1,4 @@
--- The test of a row's releases is the model's: they fit where it says so, and then the rooms are the model's. Assumes nothing.
+-- The test of a row's releases is the model's: its answer is true exactly if they fit, and then the rooms are the model's. Assumes nothing.
 use mathlib.Core.Path.{_≡_, ap, _∙_}
 use mathlib.Core.Bool.{Bool, true, false}
 use mathlib.Core.List.{List}
@@ -21,7 +21,7 @@ use Rattle.passes.specs.Supplies.{NoRamp, supplyIn, supply-model, Suppli
 use Rattle.passes.specs.RampList.{Listed, listed-map}
 use Rattle.passes.specs.TakeReleases.{arriveIn, giveIn, lessAt, Fits, Takes, Taken, Took}
 
--- what the test requires: all within the limits, the bytes hold the row, and the cells with a ramp are listed
+-- what the test requires: everything is within the limits, the bytes hold the row, and the cells with a ramp are listed
 pub record Fittable (bytes : List ℕ) (start : ℕ) (q : Road) (s : State) (row : List ℕ) (ramps : ℕ) (cell room release waiting : List ℕ) : Type 0 where
   pub input : InputOk q s row
   pub sized : Sized q s
@@ -33,7 +33,7 @@ pub record Fittable (bytes : List ℕ) (start : ℕ) (q : Road) (s : State) (row
   pub longRelease : q .n ≤ length release
   pub longWaiting : q .n ≤ length waiting
 
--- what it finds where they fit
+-- the results if they fit
 pub record Fitting (q : Road) (s : State) (row : List ℕ) (ramps : ℕ) (cell room₀ release₀ waiting₀ room release waiting : List ℕ) : Type 0 where
   pub released : ReleasesFit q s row
   pub rooms : Rooms q s row room
@@ -43,7 +43,7 @@ pub record Fitting (q : Road) (s : State) (row : List ℕ) (ramps : ℕ) (cell r
   pub sameRelease : length release ≡ length release₀
   pub sameWaiting : length waiting ≡ length waiting₀
 
--- what it finds
+-- the results of the test
 pub record FitFound (ok : Bool) (q : Road) (s : State) (row : List ℕ) (ramps : ℕ) (cell room₀ release₀ waiting₀ room release waiting : List ℕ) : Type 0 where
   pub yes : ok ≡ true → Fitting q s row ramps cell room₀ release₀ waiting₀ room release waiting
   pub no : ok ≡ false → ReleasesFit q s row → ⊥
@@ -58,7 +58,7 @@ module _ {bytes : List ℕ} {start : ℕ} {q : Road} {s : State} {row : List ℕ
     helds = k .input .state .held;
   }
 
-  -- the supplies are in place
+  -- the supplies are stored
   module _ {room₁ : List ℕ} (e : room₁ ≡ fillOf (supplyIn (q .wave) (q .jam) (q .capacity) (s .held)) (q .n) room₀) where
     supply-is : (i : ℕ) → i < q .n → at room₁ i ≡ supplyAt q s i
     supply-is i l =

@@ -1,4 +1,4 @@
--- What b × F leaves by 1,000, kept from step to step: outflow, entering and the next rest from it, in numbers below 2 ^ 32. Assumes nothing.
+-- The remainder of b × F by 1,000, kept from step to step: it gives outflow, entering and the next remainder in numbers below 2 ^ 32. Assumes nothing.
 use mathlib.Core.Path.{_≡_}
 use mathlib.Core.List.{List}
 use Prim.Native.Nat.{ℕ, zero, suc, _+_, _-_, _*_, _/_, _%_, _^_, _≤_, _<_, min}
@@ -8,20 +8,20 @@ use Rattle.model.specs.Numbers.{at}
 use Rattle.model.specs.Flow.{whole, thousandthsOf, onwardOf, enteringOf, outflowOf}
 use Rattle.flow.specs.FlowLaws.{outflow-le, outflow-greatest, outflow-unique, outflow-whole, entering-mono, entering-whole, onward-entering, onward-whole}
 
--- the rest of b × F by 1,000: what the onward total leaves of it
+-- the remainder of b × F by 1,000: b × F less 1,000 times the onward total
 unfoldable pub restOf : ℕ → ℕ → ℕ
 restOf b F = b * F - whole * onwardOf b F
 
--- of columns
+-- the same for columns
 abbrev pub restIn : List ℕ → List ℕ → ℕ → ℕ
 restIn share cumulative i = restOf (at share i) (at cumulative i)
 
--- as the code finds it
+-- the code's remainder
 pub rest-found : (b F x : ℕ) → x ≡ b * F % whole → x ≡ restOf b F
 unfolding restOf onwardOf thousandthsOf
 rest-found b F x e = omega arith
 
--- the rest is below 1,000, and with the onward total it is b × F
+-- the remainder is below 1,000, and with 1,000 times the onward total it is b × F
 pub rest-small : (b F : ℕ) → restOf b F ≤ 999
 unfolding restOf onwardOf thousandthsOf
 rest-small b F = omega arith
@@ -30,16 +30,16 @@ pub rest-onward : (b F : ℕ) → restOf b F + whole * onwardOf b F ≡ b * F
 unfolding restOf onwardOf thousandthsOf
 rest-onward b F = omega arith
 
--- of a whole share nothing is left
+-- with share 1,000 the remainder is 0
 pub rest-whole : (F : ℕ) → restOf whole F ≡ 0
 rest-whole F = omega (arith, rest-onward whole F, onward-whole F)
 
--- it is the one number below 1,000 that with some thousands gives b × F
+-- it is the only number below 1,000 that together with some thousands gives b × F
 pub rest-is : (b F x k : ℕ) → x ≤ 999 → x + whole * k ≡ b * F → (x ≡ restOf b F) × (k ≡ onwardOf b F)
 unfolding restOf onwardOf thousandthsOf
 rest-is b F x k h e = (omega arith, omega arith)
 
--- what is left and what an outflow sends, together: what enters, and the next rest
+-- the remainder and the share of an outflow together: 1,000 times what enters, and the next remainder
 pub rest-after : (b F y : ℕ) → restOf b F + b * y ≡ whole * enteringOf b F y + restOf b (F + y)
 rest-after b F y = omega (arith, rest-onward b F, rest-onward b (F + y), onward-entering b F y, mul-add b F y)
 
@@ -51,7 +51,7 @@ entering-by-rest b F y = omega (arith, rest-after b F y, rest-small b (F + y))
 pub product-most : (b y : ℕ) → b ≤ whole → y ≤ 1000000 → b * y ≤ 1000000000
 product-most b y h l = omega (arith, mul-le-mul h l)
 
--- what a place does in a step, from its share, rest, room and demand
+-- what a place sends in a step, computed from its share, remainder, room and demand
 pub record Sent (b F room demand outflow onward rest : ℕ) : Type 0 where
   pub outflows : outflow ≡ outflowOf b F room demand
   pub enters : onward ≡ enteringOf b F outflow
@@ -69,7 +69,7 @@ module _ {b F room demand r : ℕ} (er : r ≡ restOf b F) where
         rests = omega (arith, rest-after b F demand);
       }
 
-  -- it does not: exactly the room enters
+  -- the demand does not fit: exactly the room enters
   pub sent-room : {all onward y : ℕ} → b ≤ whole → 0 < b → all ≡ r + b * demand → onward ≡ all / whole → room < onward
       → y ≡ (whole * room + 999 - r) / b → Sent b F room demand y room (r + b * y - whole * room)
   sent-room {all} {onward} {y} h some ea eo l ey =
@@ -90,7 +90,7 @@ module _ {b F room demand r : ℕ} (er : r ≡ restOf b F) where
         rests = omega (arith, rest-after b F y);
       }
 
--- a whole share sends the smaller of demand and room, and leaves nothing
+-- with share 1,000 a place sends the smaller of demand and room, and the remainder is 0
 pub sent-whole : {F room demand y : ℕ} → y ≡ min demand room → Sent whole F room demand y y 0
 sent-whole {F} {room} {demand} {y} e = record {
   outflows = omega (arith, outflow-whole F room demand);
@@ -98,12 +98,12 @@ sent-whole {F} {room} {demand} {y} e = record {
   rests = omega (arith, rest-whole (F + y));
 }
 
--- what the code knows of its numbers: where more goes on than the room there is a share
+-- if more would enter than the room, the share is not 0
 pub some-share : (b r demand room : ℕ) → r ≤ 999 → room < (r + b * demand) / whole → 0 < b
 some-share zero r demand room h l = absurd (omega (arith, zero-mul demand))
 some-share (suc b) r demand room h l = omega arith
 
--- and with the rest what it sends is the room, in thousandths, and less than a whole more
+-- with the remainder, what it sends is the room, in thousandths, and less than 1,000 more
 pub record RoomFilled (b r room y : ℕ) : Type 0 where
   pub under : r + b * y ≤ whole * room + 999
   pub over : whole * room ≤ r + b * y
@@ -120,6 +120,6 @@ filled {b} {r} {demand} {room} {y} h d small l e =
     let comm = mul-comm y b in
     record { under = omega arith; over = omega arith; small = omega (arith, product-most b demand h d) }
 
--- a product of a share and an F is within 64 bits
+-- the product of a share and an F fits 64 bits
 pub product-fits : (b F : ℕ) → b < 2 ^ 16 → F < 2 ^ 32 → b * F < 2 ^ 64
 product-fits b F h l = let p : b ≤ 65535 = omega arith in let q : F ≤ 4294967295 = omega arith in omega (arith, mul-le-mul p q)

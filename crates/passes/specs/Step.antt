@@ -28,7 +28,7 @@ use Rattle.passes.specs.TakeReleases.{arriveIn, giveIn}
 use Rattle.passes.specs.ReleasesFit.{Fittable, FitFound}
 use Rattle.passes.specs.Next.{NextAsks, demands-are, Stepped}
 
--- what a loop over the steps keeps for its passes: the cells with a ramp in a list, the rests of b × F, and arrays with an entry for each cell
+-- what a loop over the steps keeps for its passes: the cells with a ramp in a list, the remainders of b × F, and arrays with an entry for each cell
 pub record Arrays (r : Road) (ramps : ℕ) (cell cumulative rest room release waiting demand : List ℕ) : Type 0 where
   pub listed : Listed (NoRamp (r .ramp)) (r .n) ramps cell
   pub rests : (i : ℕ) → i < r .n → at rest i ≡ restOf (at (r .share) i) (at cumulative i)
@@ -38,7 +38,7 @@ pub record Arrays (r : Road) (ramps : ℕ) (cell cumulative rest room release wa
   pub longWaiting : r .n ≤ length waiting
   pub longDemand : r .n ≤ length demand
 
--- what a step requires: all within the limits, a step left, the row in the bytes, the arrays, and room for the row of outflows
+-- what a step requires: everything is within the limits; a step is left; the row is in the bytes; the arrays are as above; y has room for the outflows
 pub record StepAsks (bytes : List ℕ) (k : ℕ) (q : Road) (s : State) (ramps : ℕ) (cell rest room release waiting demand y : List ℕ) : Type 0 where
   pub input : InputOk q s (recordRow bytes (q .n) k)
   pub sized : Sized q s
@@ -47,13 +47,13 @@ pub record StepAsks (bytes : List ℕ) (k : ℕ) (q : Road) (s : State) (ramps :
   pub arrays : Arrays q ramps cell (s .cumulative) rest room release waiting demand
   pub places : length y ≡ q .n + 1
 
--- the same of some road with the columns that are lent
+-- the same for some road with the columns lent
 pub record StepLent (bytes : List ℕ) (k n gate : ℕ) (speed wave share jam capacity : List ℕ) (s : State) (ramps : ℕ)
     (cell rest room release waiting demand y : List ℕ) : Type 0 where
   pub road : Road
   pub asks : StepAsks bytes k (roadOf road n gate speed wave share jam capacity) s ramps cell rest room release waiting demand y
 
--- what it gives: the fault of its releases. With one, state and row are unchanged; without one there are the next state, its outflows, and the arrays.
+-- what a step gives: the fault of its releases. With a fault, state and row are unchanged; without one, the next state, its outflows and the arrays
 pub record StepGives (bytes : List ℕ) (k : ℕ) (q : Road) (s : State) (ramps : ℕ) (cell y₀ : List ℕ) (f : FaultAnswer) (t : State)
     (rest room release waiting demand y : List ℕ) : Type 0 where
   pub says : f ≡ releasesOf q s (recordRow bytes (q .n) k)
@@ -62,7 +62,7 @@ pub record StepGives (bytes : List ℕ) (k : ℕ) (q : Road) (s : State) (ramps 
   pub outflows : f .number ≡ 0 → y ≡ outflowsOf q s (recordRow bytes (q .n) k)
   pub arrays : f .number ≡ 0 → Arrays q ramps cell (t .cumulative) rest room release waiting demand
 
--- a row's numbers where they are in the bytes
+-- a row's numbers at their bytes
 module _ (bytes : List ℕ) (n k start : ℕ) (e : start ≡ rowStart (versionOf bytes) n k) where
   pub gate-row : numberOf bytes start 4 ≡ gateArrivals (recordRow bytes n k)
   gate-row =
@@ -85,7 +85,7 @@ module _ {bytes : List ℕ} {k : ℕ} {q : Road} {s : State} {ramps : ℕ} {cell
   abbrev row : List ℕ
   row = recordRow bytes (q .n) k
 
-  -- the test of the releases needs nothing more
+  -- the test of the releases has no further precondition
   pub fittable : {start : ℕ} → start ≡ rowStart (versionOf bytes) (q .n) k → Fittable bytes start q s row ramps cell room₀ release₀ waiting₀
   fittable {start} e = record {
     input = h .input;

@@ -1,4 +1,4 @@
--- Supplies and demands of all cells in loops of their own, in 32 bits. Assumes nothing.
+-- Supplies and demands of all cells in separate loops, in 32 bits. Assumes nothing.
 use mathlib.Core.Path.{_≡_, refl}
 use mathlib.Core.List.{List}
 use Prim.Native.Nat.{ℕ, suc, _+_, _-_, _*_, _/_, _≤_, _<_, min}
@@ -13,7 +13,7 @@ use Rattle.model.specs.Road.{mostCells, mostRate}
 use Rattle.model.specs.Flow.{capacityAt, supplyAt, demandAt}
 use Rattle.passes.specs.Rest.{product-most}
 
--- the supply and the demand of the cell at i, of columns
+-- the supply and the demand of the cell at i, from columns
 unfoldable pub supplyIn : List ℕ → List ℕ → List ℕ → List ℕ → ℕ → ℕ
 supplyIn wave jam capacity held i = supplyOf (at wave i) (at capacity i) (at jam i) (at held i)
 
@@ -29,7 +29,7 @@ pub demand-model : (r : Road) (s : State) (i : ℕ) → demandIn (r .speed) (r .
 unfolding demandIn demandAt capacityAt
 demand-model r s i = refl
 
--- what their products require of the first `count` entries
+-- what their products require from the first `count` entries
 pub record Supplies (count : ℕ) (wave jam held : List ℕ) : Type 0 where
   pub cells : count ≤ mostCells
   pub waves : (i : ℕ) → i < count → at wave i ≤ whole
@@ -63,7 +63,7 @@ module _ {f : ℕ → ℕ} {n : ℕ} {l : List ℕ} where
     pub filled-end : n ≤ i → x ≡ fillOf f n l
     filled-end less = let e : i ≡ n = omega (arith, h .within) in let k = h .filled in cc
 
--- a supply and a demand as the code finds them
+-- the supply and the demand that the code computes
 pub supply-found : (wave jam capacity held : List ℕ) (i : ℕ) {z : ℕ} → z ≡ min (at capacity i) (at wave i * (at jam i - at held i) / 1000)
     → z ≡ supplyIn wave jam capacity held i
 unfolding supplyIn supplyOf thousandthsOf
@@ -74,7 +74,7 @@ pub demand-found : (speed capacity held : List ℕ) (i : ℕ) {z : ℕ} → z �
 unfolding demandIn demandOf thousandthsOf
 demand-found speed capacity held i e = e
 
--- what a turn knows
+-- the bounds of a turn's product
 pub supply-product : {count : ℕ} {wave jam held : List ℕ} → Supplies count wave jam held → (i : ℕ) → i < count
     → at wave i * (at jam i - at held i) ≤ 1000000000
 supply-product {wave = wave} {jam} {held} k i l = product-most (at wave i) (at jam i - at held i) (k .waves i l) (omega (arith, k .jams i l))

@@ -1,4 +1,4 @@
--- Releases of the listed cells, from a row's bytes: whether they fit, and what they leave of the rooms. Assumes nothing.
+-- The releases of the listed cells, from a row's bytes: whether they fit, and the rooms that they leave. Assumes nothing.
 use mathlib.Core.Path.{_≡_, refl, ap, subst, _∙_}
 use mathlib.Core.Bool.{Bool, true, false}
 use mathlib.Core.Logic.{⊎-elim}
@@ -22,7 +22,7 @@ arriveIn bytes start i = numberOf bytes (start + 4 + 8 * i) 4
 unfoldable pub giveIn : List ℕ → ℕ → ℕ → ℕ
 giveIn bytes start i = numberOf bytes (start + 4 + 8 * i + 4) 4
 
--- it fits
+-- the release fits
 pub record Fits (bytes : List ℕ) (start : ℕ) (queue room : List ℕ) (i : ℕ) : Type 0 where
   pub ramp : giveIn bytes start i ≤ at queue i + arriveIn bytes start i
   pub supply : giveIn bytes start i ≤ at room i
@@ -38,14 +38,14 @@ pub record Takes (bytes : List ℕ) (start n ramps : ℕ) (cell queue room₀ re
   pub queues : (i : ℕ) → i < n → at queue i ≤ mostQueue mostSteps
   pub arrivals : (i : ℕ) → i < n → arriveIn bytes start i ≤ mostRate
 
--- what a release leaves of a room, and of a queue with its arrivals
+-- a room less the release; and a queue with its arrivals less the release
 abbrev pub lessAt : List ℕ → ℕ → List ℕ → ℕ → ℕ
 lessAt bytes start room i = at room i - giveIn bytes start i
 
 abbrev pub waitIn : List ℕ → ℕ → List ℕ → ℕ → ℕ
 waitIn bytes start queue i = at queue i + arriveIn bytes start i - giveIn bytes start i
 
--- all fit: the rooms that they leave, and of each listed cell its release and its queue after it
+-- all releases fit: the rooms that they leave, and for each listed cell its release and its queue after it
 pub record Taken (bytes : List ℕ) (start n ramps : ℕ) (cell queue room₀ release₀ waiting₀ room release waiting : List ℕ) : Type 0 where
   pub rooms : room ≡ fillOf (lessAt bytes start room₀) n room₀
   pub fits : (i : ℕ) → i < n → Fits bytes start queue room₀ i
@@ -66,7 +66,7 @@ pub record Taking (bytes : List ℕ) (start ramps : ℕ) (cell queue room₀ rel
   pub releases : FilledTo (λ j. giveIn bytes start (at cell j)) ramps release₀ release k
   pub waits : FilledTo (λ j. waitIn bytes start queue (at cell j)) ramps waiting₀ waiting k
 
--- what a turn knows of its numbers
+-- the facts about the numbers of a turn
 pub record TakeTurn (start i size q come n : ℕ) : Type 0 where
   pub within : i < n
   pub cells : n ≤ mostCells
@@ -92,7 +92,7 @@ module _ {bytes : List ℕ} {start n ramps : ℕ} {cell queue room₀ release₀
     pub room-here : at room (at cell k) ≡ at room₀ (at cell k)
     room-here = listed-here (lessAt bytes start room₀) room₀ (t .listed) same l (h .rooms)
 
-    -- a release that does not fit
+    -- a release does not fit
     pub taking-stop : (Fits bytes start queue room₀ (at cell k) → ⊥) → ((i : ℕ) → i < n → Fits bytes start queue room₀ i) → ⊥
     taking-stop bad all = bad (all (at cell k) (t .listed .within k l))
 

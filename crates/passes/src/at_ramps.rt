@@ -1,4 +1,4 @@
-// The cells with a ramp: their list, and the passes over it that take the releases off rooms and queues and add them to the cells.
+// The cells with a ramp: their list, and the passes over it that subtract the releases from rooms and queues and add them to the cells.
 ghost use mathlib.Core.Path.{_≡_};
 ghost use Prim.Native.Nat.{ℕ, _≤_};
 ghost use lib.ListN.{length};
@@ -8,7 +8,7 @@ ghost use Rattle.passes.specs.RampList.{Listed, AtRamps};
 ghost use Rattle.passes.specs.TakeReleases.{Takes, Took};
 ghost use Rattle.passes.specs.AddReleases.{Adds, Addable, Added, mostOnRoad, mostAtRamps};
 
-// Lists the cells with a ramp, lowest first, and gives their number.
+// Lists the cells with a ramp, lowest first, and returns their number.
 pub fn ramp_cells(n: usize, ramp: &[u16; 64], cell: &mut [usize; 64]) -> usize
     requires { ⌜ (n ≤ mostCells) × (length (now cell) ≡ mostCells) ⌝ }
     ensures { λ k. ⌜ (Listed (NoRamp (now (ramp .entry))) n k (now (cell .exit)))
@@ -26,8 +26,8 @@ pub fn ramp_cells(n: usize, ramp: &[u16; 64], cell: &mut [usize; 64]) -> usize
     count
 }
 
-// Whether the releases of the row at `start` fit. If so each room is less by its release, and `release` and `waiting` have of each ramp its
-// release and its queue after it.
+// Whether the releases of the row at `start` fit. If so, each room is reduced by its release, and `release` and `waiting` hold each ramp's release
+// and its queue after it.
 pub fn take_releases(
     bytes: &[u8],
     start: usize,
@@ -65,13 +65,13 @@ pub fn take_releases(
     true
 }
 
-// What all cells hold, and what waits at all ramps.
+// The sum of all held counts, and of all ramp queues.
 pub struct Sums {
     pub on_road: u32,
     pub at_ramps: u64,
 }
 
-// Adds each ramp's release to what its cell holds, and stores its next queue; `sent` is what the cells hold before.
+// Adds each ramp's release to its cell's held count, and stores its next queue; `sent` is the sum of the held counts before.
 pub fn add_releases(
     n: usize,
     ramps: usize,

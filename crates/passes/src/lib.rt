@@ -49,7 +49,7 @@ pub fn supplies(
     }
 }
 
-// The demands of the first `count` cells. The callers of `next` work them out: in their loops the compiler sees that no columns overlap.
+// The demands of the first `count` cells. The callers of `next` compute them: in their loops the compiler sees that no columns overlap.
 pub fn demands(
     count: usize,
     speed: &[u16; 64],
@@ -68,7 +68,7 @@ pub fn demands(
     }
 }
 
-// The fault of the releases of step `k`, with its cell: for a row whose releases do not fit.
+// The fault of the releases of step `k`, with its cell, for a row whose releases do not fit.
 fn fault<'a, 'b>(
     bytes: &[u8],
     n: usize,
@@ -148,7 +148,7 @@ pub struct Outcome {
     pub ledger: Ledger,
 }
 
-// Step `k` of a record on a road and a state that are lent column by column: `y` is its row of outflows. A fault leaves state and row unchanged.
+// Step `k` of a record on a road and a state that are lent column by column; `y` receives its outflows. A fault leaves state and row unchanged.
 pub fn step<'a>(
     bytes: &[u8],
     k: usize,

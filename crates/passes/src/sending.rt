@@ -1,4 +1,4 @@
-// The pass that sends: outflows and move, cell after cell.
+// The pass that computes the outflows and moves the cells, one after the other.
 ghost use mathlib.Core.Path.{_≡_};
 ghost use Prim.Native.Nat.{ℕ, _+_, _≤_};
 ghost use lib.ListN.{length};
@@ -8,7 +8,7 @@ ghost use Rattle.model.specs.Numbers.{fillOf};
 ghost use Rattle.passes.specs.Rest.{restOf, restIn, Sent};
 ghost use Rattle.passes.specs.Outflows.{passOf, Sends, SentTo};
 
-// What a place sends in a step: its outflow, what of it enters the next cell, and then the remainder of b x F by 1,000.
+// What a place sends in a step: its outflow, what enters the next cell, and the next remainder of b x F by 1,000.
 struct Flow {
     outflow: u32,
     entering: u32,
@@ -35,8 +35,8 @@ pub fn remainders(n: usize, share: &[u16; 64], cumulative: &[u32; 64], rest: &mu
     }
 }
 
-// What a place sends, from the remainder of b x F by 1,000, its demand and the room of the next cell. Where the demand does not fit, exactly the
-// room enters.
+// What a place sends, computed from the remainder of b x F by 1,000, its demand and the room of the next cell. If the demand does not fit,
+// exactly the room enters.
 fn outflow_by_rest(share: u16, rest: u32, demand: u32, room: u32) -> Flow
     requires { ⌜ (share ≤ whole) × ((demand ≤ mostRate) × (rest ≤ 999)) ⌝ }
     ensures { λ s. ⌜ ((F : ℕ) → rest ≡ restOf share F → Sent share F room demand (s .outflow) (s .entering) (s .rest)) ⌝ }
@@ -67,7 +67,7 @@ fn outflow_by_rest(share: u16, rest: u32, demand: u32, room: u32) -> Flow
     }
 }
 
-// Outflows and move of all cells but for their releases. Gives the sum of what the cells then hold; `rest` has the remainders of b x F by 1,000.
+// Outflows and move of all cells, without their releases. Returns the sum of the held counts afterwards; `rest` holds the remainders of b x F by 1,000.
 pub fn send(
     n: usize,
     share: &[u16; 64],

@@ -1,4 +1,4 @@
--- What printing requires, and what its loop over the steps knows. Assumes nothing.
+-- What printing requires, and the invariant of its loop over the steps. Assumes nothing.
 use mathlib.Core.Path.{_≡_, refl, sym, ap, subst, _∙_}
 use mathlib.Core.Bool.{Bool, true, false, cond}
 use mathlib.Core.List.{List, [], _∷_, _++_, append-nil}
@@ -34,7 +34,7 @@ use Rattle.model.specs.Numbers.{placed}
 use Rattle.numbers.specs.PlacedText.{Puts, placed-none, puts-first, puts-more, Room, room}
 use Rattle.listing.specs.ListingLaws.{header-room, lines-room, total-length, total-room, seconds-length, refused-room}
 
--- a record that reads, and a buffer long enough
+-- a record that reads, and a buffer that is long enough
 pub record Printable (bytes : List ℕ) (a : Study) (buffer : List ℕ) : Type 0 where
   pub readable : Readable bytes a
   pub enough : mostText ≤ length buffer
@@ -46,15 +46,15 @@ pub record Ending (r : Road) (u : State) (buffer : List ℕ) (at : ℕ) : Type 0
   pub seconds : r .seconds ≤ mostSeconds
 
 module _ {r : Road} {u : State} {buffer : List ℕ} {at : ℕ} (h : Ending r u buffer at) {total : ℕ} (e : total ≡ min (totalOf u) mostLong) where
-  -- the total is within its limit, so it is given as it is
+  -- the total is within its limit, so the number returned is the total itself
   pub total-is : total ≡ totalOf u
   total-is = omega (arith, e, h .total)
 
-  -- and its product with the seconds is at most 2.592 × 10^17, which a machine number holds
+  -- its product with the seconds is at most 2.592 × 10^17, which fits a machine number
   pub time-small : total * r .seconds ≤ mostTotal mostSteps * mostSeconds
   time-small = let l : total ≤ mostTotal mostSteps = omega (arith, total-is, h .total) in mul-le-mul l (h .seconds)
 
-  -- so the vehicle-seconds are given as they are
+  -- so the vehicle-seconds are exact
   time-is : {time : ℕ} → time ≡ vehicleSecondsOf (r .seconds) u → time ≡ vehicleSeconds (totalOf u) (r .seconds)
   unfolding vehicleSeconds
   time-is et =
@@ -67,14 +67,14 @@ module _ {r : Road} {u : State} {buffer : List ℕ} {at : ℕ} (h : Ending r u b
 
   module _ {exits : ℕ} (x : exits ≡ exitsOf r u) {after : List ℕ} {m : ℕ}
       (p : Puts buffer at (totalLine total (u .«gate_time») (u .«road_time») (u .«ramp_time») exits) after m) where
-    -- room for the line of the seconds
+    -- there is room for the line of the seconds
     pub time-fits : m + mostTime ≤ length after
     time-fits = let z = total-room buffer at _ _ _ _ _ after m p in omega (arith, z .end, z .same, h .enough)
 
     last-line : Puts buffer at (totalLine (totalOf u) (u .«gate_time») (u .«road_time») (u .«ramp_time») (exitsOf r u)) after m
     last-line = rw (total-is, x) at p
 
-    -- the line of the totals alone, and both
+    -- only the line of the totals, and both lines
     pub ends-untimed : (r .version ≡ secondVersion → ⊥) → Puts buffer at (lastOf r u) after m
     unfolding timeOf
     ends-untimed k =
@@ -86,7 +86,7 @@ module _ {r : Road} {u : State} {buffer : List ℕ} {at : ℕ} (h : Ending r u b
     ends-timed k et {end} {to} q =
         rw (eq-eqb (r .version) secondVersion k) (puts-more buffer at _ after m _ end to last-line (rw (time-is et) at q))
 
--- how long they are
+-- the length of the last lines
 last-length : (r : Road) (u : State) → length (lastOf r u) ≤ mostLast + mostTime
 unfolding timeOf
 last-length r u =
@@ -101,7 +101,7 @@ last-length r u =
     go true = seconds-length (vehicleSeconds (totalOf u) (r .seconds))
     go false = omega arith
 
--- a step was looked at: with a fault the buffer is unchanged, without one the step is made and its lines are put
+-- a step was tested: with a fault the buffer is unchanged; without one the step is made and its lines are put
 pub record PutStep (bytes : List ℕ) (k : ℕ) (q : Road) (u : State) (ramps : ℕ) (cell before : List ℕ) (at : ℕ) (f : FaultAnswer) (v : State)
     (rest room release waiting demand after : List ℕ) (end : ℕ) : Type 0 where
   pub says : f ≡ releasesOf q u (recordRow bytes (q .n) k)
@@ -131,7 +131,7 @@ module _ {bytes : List ℕ} {k : ℕ} {q : Road} {u : State} {ramps : ℕ} {cell
     arrays = h .arrays;
   }
 
--- when k steps are made: their lines are in the buffer after the header, which ends at `start`
+-- k steps are made: their lines are in the buffer after the header, which ends at `start`
 pub record LinesInBuffer (a : Study) (before : List ℕ) (start : ℕ) (buffer : List ℕ) (u : State) (end k : ℕ) : Type 0 where
   pub ran : FaultlessSteps a u k
   pub top : start ≤ mostLine
@@ -139,7 +139,7 @@ pub record LinesInBuffer (a : Study) (before : List ℕ) (start : ℕ) (buffer :
   pub puts : Puts before start (stepsLines a k) buffer end
   pub room : Room before start buffer end (mostLine * (k * places a))
 
--- the same of a buffer that was written with what it had
+-- the same for a buffer with equal bytes
 pub lined-same : {a : Study} {before : List ℕ} {start : ℕ} {buffer other : List ℕ} {u : State} {end k : ℕ} → other ≡ buffer
     → LinesInBuffer a before start buffer u end k
     → LinesInBuffer a before start other u end k
@@ -157,14 +157,14 @@ module _ {a : Study} {before : List ℕ} {start : ℕ} where
   }
 
   module _ {buffer : List ℕ} {u : State} {end k : ℕ} (h : LinesInBuffer a before start buffer u end k) where
-    -- room is left for the lines of the next step, and for a refusal's line
+    -- there is room for the lines of the next step, and for a refusal's line
     pub lines-fit : tableSize a ≤ mostOutflows → k < a .steps → end + mostLine * places a ≤ length buffer
     lines-fit m l = omega (arith, h .room .end, h .room .same, h .top, h .enough, row-ends k (a .steps) (places a) l)
 
     pub line-fits : 0 + mostLine ≤ length buffer
     line-fits = omega (arith, h .room .same, h .enough)
 
-    -- and after all steps for the last lines
+    -- after all steps there is room for the last lines
     pub lines-end : StudyOk a → tableSize a ≤ mostOutflows → a .road .seconds ≤ mostSeconds → a .steps ≤ k → {v : State} → v ≡ u
         → Ending (a .road) v buffer end
     lines-end ok m seconds l ev =
@@ -178,7 +178,7 @@ module _ {a : Study} {before : List ℕ} {start : ℕ} where
         })
 
     module _ {q : Road} {row : List ℕ} (t : RanTurn a u k q row) {f : FaultAnswer} (e : f ≡ releasesOf q u row) (z : f .number ≡ 0) where
-      -- one step more is made and put
+      -- one more step is made, and its lines are put
       pub lined-more : {v : State} {y c : List ℕ} {m : ℕ} → v ≡ nextOf q u row (outflowsOf q u row) → y ≡ outflowsOf q u row
           → Puts buffer end (linesOf k y v (a .road .n)) c m → LinesInBuffer a before start c v m (k + 1)
       unfolding stepsLines
@@ -195,7 +195,7 @@ module _ {a : Study} {before : List ℕ} {start : ℕ} where
             room = record { end = omega (arith, x .end, h .room .end, mul-more k (places a)); same = x .same ∙ h .room .same };
           }
 
--- bytes past what was put are unchanged
+-- bytes past the text are unchanged
 sets-beyond : (text list : List ℕ) (at k : ℕ) → at + length text ≤ k → drop k (sets list at text) ≡ drop k list
 sets-beyond [] list at k l = refl
 sets-beyond (x ∷ text) list at k l = sets-beyond text (set list at x) (suc at) k (omega arith) ∙ drop-set-lt k list at x (omega arith)
@@ -221,7 +221,7 @@ printed before text after end k p z l m = record {
 -- after the header, which ends at `start`, and the lines of k steps
 module _ {a : Study} {before start-buffer : List ℕ} {start : ℕ} {buffer : List ℕ} {u : State} {end k : ℕ} (p : Puts before 0 headerLine start-buffer start)
     (h : LinesInBuffer a start-buffer start buffer u end k) (most : tableSize a ≤ mostOutflows) where
-  -- a refusal's line, in the place of what was put before
+  -- a refusal's line, instead of what was put before
   pub holds-fault : k < a .steps → {e : EndAnswer} {after : List ℕ} {m : ℕ} → e ≡ runEnd a → (e .number ≡ 0 → ⊥)
       → Puts buffer 0 (refusedLine (e .number) (e .step) (e .place)) after m → Printed before (printedRun a) after m
   unfolding printedRun
@@ -240,7 +240,7 @@ module _ {a : Study} {before start-buffer : List ℕ} {start : ℕ} {buffer : Li
             ∙ puts-beyond before 0 headerLine start-buffer start mostText p (omega (arith, h .top));
       }
 
-  -- the last lines, where all steps are made
+  -- the last lines, if all steps are made
   pub holds-run : a .steps ≤ k → {v : State} → v ≡ u → {after : List ℕ} {m : ℕ} → Puts buffer end (lastOf (a .road) v) after m
       → Printed before (printedRun a) after m
   unfolding printedRun
@@ -259,11 +259,11 @@ module _ {a : Study} {before start-buffer : List ℕ} {start : ℕ} {buffer : Li
       (record { end = omega (arith, w .end, h .room .end, h .top, most, j); same = w .same ∙ h .room .same ∙ y .same })
       (omega arith) (omega (arith, h .enough, y .same)))
 
--- an accepted record is read as without limits of the caller
+-- an accepted record is read as without the caller's limits
 pub read-same : (cells most : ℕ) (bytes : List ℕ) {x : ReadAnswer} → x ≡ readingWithin cells most bytes → x .number ≡ 0 → x ≡ readingOf bytes
 read-same cells most bytes ex z = ex ∙ within-accepted bytes cells most (rw ex at z)
 
--- what is printed of a record, from what reading found
+-- what is printed for a record, from reading's answer
 module _ (cells most : ℕ) (bytes : List ℕ) {x : ReadAnswer} (ex : x ≡ readingWithin cells most bytes) {before after : List ℕ} {m : ℕ} where
   pub holds-refused : (x .number ≡ 0 → ⊥) → mostText ≤ length before → Puts before 0 (refusedLine (x .number) 0 (x .place)) after m
       → Printed before (printedWithin cells most bytes) after m

@@ -1,5 +1,5 @@
--- What is printed is what running answers with the empty table of lanes, and any list that is long enough for every record; what a caller with its own
--- limits sees of it. Assumes nothing.
+-- What is printed is running's answer with the empty table of lanes and any list that is long enough; and what is printed for a caller with its
+-- own limits. Assumes nothing.
 use mathlib.Core.List.{List, []}
 use Prim.Native.Nat.{ℕ, _≤_, _<_}
 use mathlib.Core.Path.{_≡_, refl, ap}
@@ -20,7 +20,7 @@ use Rattle.theory.specs.TableLaws.{table-row}
 use Rattle.theory.specs.RunEnds.{runs-refused, runs-long}
 use Rattle.theory.specs.Readable.{readable-open, taken-open}
 
--- with no limits but the model's
+-- the text with only the model's limits
 abbrev pub printedOf : List ℕ → List ℕ
 printedOf bytes = printedWithin mostCells mostBytes bytes
 
@@ -37,18 +37,18 @@ module _ (bytes list : List ℕ) (long : mostOutflows ≤ length list) where
           let n = eqb-false (readingOf bytes .number) 0 e in
           rw (runs-refused bytes [] n list, ne-eqb (readingOf bytes .number) 0 n)
 
-  -- and the outflows of its lines are the rows that running writes
+  -- the outflows in its lines are the rows that running writes
   pub printed-rows : readingOf bytes .number ≡ 0 → (k : ℕ) → k < stepsMade (studyOf bytes []) (runningOf bytes [] list)
       → proposedAt (studyOf bytes []) (listAfter bytes [] list) k ≡ outflowsAt (studyOf bytes []) k
   unfolding listAfter
   printed-rows z k l = table-row (studyOf bytes []) (readable-open bytes (readingOf bytes) refl z .ok) list (stepsMade (studyOf bytes []) (runningOf bytes [] list)) k l
 
--- what is printed where reading answers x
+-- what is printed if reading answers x
 abbrev printedBy : ReadAnswer → List ℕ → List ℕ
 printedBy x bytes = unless (eqb (x .number) 0) (refusedLine (x .number) 0 (x .place)) (printedRun (studyOf bytes []))
 
 module _ (cells most : ℕ) (bytes : List ℕ) where
-  -- where the caller's limits don't refuse, the text is the full program's,
+  -- if the caller's limits don't refuse the record, the text is the full program's
   printed-same : readingWithin cells most bytes ≡ readingOf bytes → printedWithin cells most bytes ≡ printedOf bytes
   unfolding printedWithin
   printed-same e = ap (λ (x : ReadAnswer). printedBy x bytes) e
@@ -56,15 +56,15 @@ module _ (cells most : ℕ) (bytes : List ℕ) where
   pub printed-other : (readingWithin cells most bytes .number ≡ 26 → ⊥) → printedWithin cells most bytes ≡ printedOf bytes
   printed-other h = printed-same (within-other bytes cells most h)
 
-  -- so of every record that keeps within them,
+  -- so it is for every record within them
   pub printed-kept : cellsOf bytes ≤ cells → length bytes ≤ most → printedWithin cells most bytes ≡ printedOf bytes
   printed-kept h k = printed-same (within-kept bytes cells most h k)
 
-  -- and of every record that they accept
+  -- and for every record that they accept
   pub printed-accepted : readingWithin cells most bytes .number ≡ 0 → printedWithin cells most bytes ≡ printedOf bytes
   printed-accepted h = printed-same (within-accepted bytes cells most h)
 
-  -- where they refuse it, 26's line alone
+  -- if they refuse it, only the line of 26 is printed
   pub printed-beyond : Beyond cells most bytes → printedWithin cells most bytes ≡ refusedLine 26 0 0
   unfolding printedWithin
   printed-beyond b = ap (λ (x : ReadAnswer). printedBy x bytes) (beyond-refused bytes cells most b)

@@ -1,4 +1,4 @@
-// What is printed of a record: its run whole, or a refusal's line, put at the start of a buffer.
+// What is printed for a record, put at the start of a buffer: its whole run, or a refusal's line.
 use model::Fault;
 use model::Road;
 use model::State;
@@ -15,22 +15,22 @@ ghost use Rattle.numbers.specs.PlacedText.{Puts};
 ghost use Rattle.model.specs.Listing.{mostLine, lastOf, printedRun, printedWithin, mostText, Printed};
 ghost use Rattle.printing.specs.Lines.{Printable, Ending, PutStep};
 
-// The bytes of a text: no record that reads needs more.
+// The greatest length of a text: no record that reads needs more bytes.
 pub const TEXT: usize = 924161;
 
-// Room for the longest text; as an answer its length is known, where the prover would count a literal's zeros one by one.
+// Room for the longest text. As a function's result its length is known; for a literal the prover would count the zeros one by one.
 pub fn room() -> [u8; TEXT] {
     [0; TEXT]
 }
 
-// A step that was made and put: its fault, or none, the ledger after it and the index after its lines.
+// A step that was made and put: its fault, or none, the ledger after it, and the index after its lines.
 struct Put {
     fault: Fault,
     ledger: Ledger,
     end: usize,
 }
 
-// Makes step `k` on lent columns and puts its lines; `y` is room for its row of outflows. A fault puts nothing.
+// Makes step `k` on lent columns and puts its lines; `y` has room for its row of outflows. A fault puts nothing.
 fn step_lines<'a>(
     bytes: &[u8],
     k: usize,
@@ -109,7 +109,7 @@ fn step_lines<'a>(
     }
 }
 
-// The line of the totals, and in version 2 that of the seconds.
+// Puts the line of the totals, and in version 2 that of the seconds.
 fn last_lines(buffer: &mut [u8], at: usize, r: Road, u: State) -> usize
     requires { ⌜ Ending r u (now buffer) at ⌝ }
     ensures { λ e. ⌜ Puts (now (buffer .entry)) at (lastOf r u) (now (buffer .exit)) e ⌝ }
@@ -131,7 +131,7 @@ fn last_lines(buffer: &mut [u8], at: usize, r: Road, u: State) -> usize
     end
 }
 
-// The header, the lines of each step as it is made, and the last lines; a fault leaves a refusal's line instead.
+// Puts the header, the lines of each step as it is made, and the last lines; after a fault only a refusal's line.
 fn run_lines(bytes: &[u8], r: Road, s: State, steps: usize, buffer: &mut [u8]) -> usize
     requires { ⌜ Printable (now bytes) (studyBy (now bytes) [] r s steps) (now buffer) ⌝ }
     ensures { λ e. ⌜ Printed (now (buffer .entry)) (printedRun (studyBy (now (bytes .entry)) [] r s steps)) (now (buffer .exit)) e ⌝ }
@@ -192,7 +192,7 @@ fn run_lines(bytes: &[u8], r: Road, s: State, steps: usize, buffer: &mut [u8]) -
     last_lines(buffer, end, r, l.state(held, queue, cumulative))
 }
 
-// Puts all that is printed of a record at the start of the buffer, for a caller that takes at most `cells` cells and `most` bytes, and gives its length.
+// Puts the text for a record at the start of the buffer and returns its length; the caller takes at most `cells` cells and `most` bytes.
 pub fn printed_within(bytes: &[u8], cells: usize, most: usize, buffer: &mut [u8]) -> usize
     requires { ⌜ mostText ≤ length (now buffer) ⌝ }
     ensures { λ e. ⌜ Printed (now (buffer .entry)) (printedWithin cells most (now (bytes .entry))) (now (buffer .exit)) e ⌝ }

@@ -1,4 +1,4 @@
--- Granting the releases of the listed cells: what it requires, what its loop carries and what it gives. Assumes nothing.
+-- Granting the releases of the listed cells: what it requires, the invariant of its loop, and what it gives. Assumes nothing.
 use mathlib.Core.Path.{_≡_, refl, sym, ap, _∙_}
 use mathlib.Core.Logic.{⊎-elim}
 use mathlib.Core.List.{List}
@@ -35,14 +35,14 @@ use Rattle.passes.specs.Supplies.{NoRamp, FilledTo, filled-none, filled-more, f
 use Rattle.passes.specs.RampList.{startOf, start-more, AtRamps, Listed, listed-here, listed-more, listed-end}
 use Rattle.ramps.specs.RampsLaws.{granted, granted-caps, granted-small, filled-release, filled-arrivals}
 
--- of the listed cells, what the last step left: its release, and what had come into the cell before it, which with what entered in it is held + F
+-- for the listed cells: the last release, and all that has come into the cell except what entered in the last step; together these two are held + F
 pub record Lasts (m : MeterState) (ramps : ℕ) (cell release came : List ℕ) : Type 0 where
   pub releases : (j : ℕ) → j < ramps → at release j ≡ at (m .releases) (at cell j)
   pub entries : (j : ℕ) → j < ramps
       → at came (at cell j) + at (m .entries) (at cell j) ≡ at (m .state .held) (at cell j) + at (m .state .cumulative) (at cell j)
 
--- what granting requires: a step by the filled row may be made, the bytes hold the row, which is within its limits, the laws are in columns, and the
--- rooms are the supplies
+-- what granting requires: a step with the filled row may be made; the bytes hold the row, which is within its limits; the laws are in columns;
+-- the rooms are the supplies
 pub record GrantAsks (laws : List Law) (q : Road) (m : MeterState) (bytes : List ℕ) (k start ramps : ℕ) (cell kinds : List ℕ) (numbers : List Float)
     (room release waits came : List ℕ) : Type 0 where
   pub step : Steppable q (m .state) (filledRow laws q m (recordRow bytes (q .n) k))
@@ -59,7 +59,7 @@ pub record GrantAsks (laws : List Law) (q : Road) (m : MeterState) (bytes : List
   pub longWaits : q .n ≤ length waits
   pub longCame : q .n ≤ length came
 
--- that, on some road and by something with these columns
+-- the same for some road, laws and last step with these columns
 pub record GrantLent (bytes : List ℕ) (start ramps : ℕ) (cell kinds : List ℕ) (numbers : List Float) (held queue cumulative room release waits came : List ℕ)
     : Type 0 where
   pub laws : List Law
@@ -71,14 +71,14 @@ pub record GrantLent (bytes : List ℕ) (start ramps : ℕ) (cell kinds : List �
   pub grants : GrantAsks laws road (meterState (stateOf ledger held queue cumulative) releases entries) bytes step start ramps cell kinds numbers
       room release waits came
 
--- what has come into the cell at i with a release, and what waits at its ramp after it
+-- all that has come into the cell at i, with a release; and the queue at its ramp afterwards
 abbrev pub cameAt : MeterState → (ℕ → ℕ) → ℕ → ℕ
 cameAt m give i = at (m .state .held) i + at (m .state .cumulative) i + give i
 
 abbrev waitAt : MeterState → List ℕ → (ℕ → ℕ) → ℕ → ℕ
 waitAt m row give i = at (m .state .queue) i + arrivalsAt row i - give i
 
--- what it gives: the releases granted are in the bytes, and off the supplies; of each listed cell, its release, what waits after it and what has come
+-- what granting gives: the releases are in the bytes and subtracted from the supplies; for each listed cell its release, its queue after it and what has come in
 pub record Granted (laws : List Law) (q : Road) (m : MeterState) (bytes : List ℕ) (k ramps : ℕ)
     (cell room₀ release₀ waits₀ came₀ put room release waits came : List ℕ) : Type 0 where
   pub puts : put ≡ putReleases bytes (q .n) k (grantedAt laws q m (recordRow bytes (q .n) k)) (q .n)
@@ -102,7 +102,7 @@ pub record Granting (give : ℕ → ℕ) (q : Road) (m : MeterState) (bytes : Li
   pub later : (i : ℕ) → startOf cell j ≤ i → at came i ≡ at came₀ i
   pub sameCame : length came ≡ length came₀
 
--- what a turn knows of its numbers, and of the release that it grants
+-- the facts about a turn's numbers and about the release that it grants
 pub record GrantTurn (start i size queue arrivals held cumulative came n : ℕ) : Type 0 where
   pub within : i < n
   pub cells : n ≤ mostCells
@@ -126,7 +126,7 @@ module _ {laws : List Law} {q : Road} {m : MeterState} {bytes : List ℕ} {k sta
   abbrev give : ℕ → ℕ
   give = grantedAt laws q m row
 
-  -- a cell without a ramp gives nothing, as in the row
+  -- a cell without a ramp releases nothing, as in the row
   idle : (i : ℕ) → i < q .n → NoRamp (q .ramp) i → (give i ≡ 0) × (releaseAt row i ≡ 0)
   idle i l p =
       let z : at (q .ramp) i ≡ 0 = omega (arith, g .step .input .road .ramp i l, p) in
@@ -140,7 +140,7 @@ module _ {laws : List Law} {q : Road} {m : MeterState} {bytes : List ℕ} {k sta
   starts-most zero l = omega arith
   starts-most (suc j) l = omega (arith, g .listed .within j l)
 
-  -- the cells listed before are lower
+  -- the cells listed before it are lower
   lower : (j : ℕ) → j ≤ ramps → (i : ℕ) → i < j → at cell i < startOf cell j
   unfolding startOf
   lower zero l i p = absurd (omega arith)
@@ -185,7 +185,7 @@ module _ {laws : List Law} {q : Road} {m : MeterState} {bytes : List ℕ} {k sta
       inside : i < q .n
       inside = g .listed .within j l
 
-      -- what the arrays still hold of the cell
+      -- what the arrays hold for the cell
       pub arrives-here : numberOf put (start + 4 + 8 * at cell j) numberSize ≡ arrivalsAt (recordRow bytes (q .n) k) (at cell j)
       arrives-here =
           let e : start + 4 + 8 * i ≡ rowStart (versionOf put) (q .n) k + numberSize * (2 * i + 1) = omega (arith, g .starts, same-start) in
@@ -204,7 +204,7 @@ module _ {laws : List Law} {q : Road} {m : MeterState} {bytes : List ℕ} {k sta
       last-here =
           ap (λ (x : List ℕ). at x j) (h .releases .filled) ∙ fill-past (λ i. give (at cell i)) j release₀ j (le-refl j) ∙ g .lasts .releases j l
 
-      -- what a turn knows
+      -- the facts about a turn
       pub grant-turn : GrantTurn start (at cell j) (length put) (at (m .state .queue) (at cell j)) (arrivalsAt (recordRow bytes (q .n) k) (at cell j))
           (at (m .state .held) (at cell j)) (at (m .state .cumulative) (at cell j)) (at came (at cell j)) (q .n)
       grant-turn =
@@ -220,14 +220,14 @@ module _ {laws : List Law} {q : Road} {m : MeterState} {bytes : List ℕ} {k sta
             comes = omega (arith, came-here, g .lasts .entries j l);
           }
 
-      -- where its release goes, and what is in the bytes before it
+      -- where its release is put, and what the bytes hold before it
       place : start + 4 + 8 * i + 4 ≡ rowStart (versionOf put) (q .n) k + numberSize * releaseNumber i
       place = omega (arith, g .starts, same-start)
 
       before : put ≡ putReleases bytes (q .n) k give i
       before = h .puts ∙ sym (put-up (startOf cell j) i (g .listed .rises j l) (omega (arith, inside)) (g .listed .gap j l))
 
-      -- the release that the code finds is the one granted
+      -- the code's release is the one granted
       module _ {law : Law} {arrivals entered cap x : ℕ} (el : law ≡ lawIn kinds numbers (at cell j))
           (ea : arrivals ≡ numberOf put (start + 4 + 8 * at cell j) numberSize)
           (ee : entered ≡ at (m .state .held) (at cell j) + at (m .state .cumulative) (at cell j) - at came (at cell j))
@@ -263,7 +263,7 @@ module _ {laws : List Law} {q : Road} {m : MeterState} {bytes : List ℕ} {k sta
             ∙ ap (λ (u : List ℕ). putEntry u (q .n) k (releaseNumber i) (give i)) before
             ∙ sym (ap (putReleases bytes (q .n) k give) (start-more cell j ∙ add-one i))
 
-        -- one more is granted
+        -- one more release is granted
         pub granting-more : {next : List ℕ} {end : ℕ} → StoredBytes put (start + 4 + 8 * at cell j + 4) numberSize x next end
             → Granting (grantedAt laws q m (recordRow bytes (q .n) k)) q m bytes k ramps cell room₀ release₀ waits₀ came₀ next
             (set room (at cell j) (at room (at cell j) - x)) (set release j x) (set waits j (at (m .state .queue) (at cell j) + arrivals - x))
@@ -285,7 +285,7 @@ module _ {laws : List Law} {q : Road} {m : MeterState} {bytes : List ℕ} {k sta
           sameCame = simp length-set (h .sameCame);
         }
 
-    -- all are granted
+    -- all releases are granted
     pub granting-end : ramps ≤ j → Granted laws q m bytes k ramps cell room₀ release₀ waits₀ came₀ put room release waits came
     unfolding roomOf
     granting-end l =

@@ -1,4 +1,4 @@
--- What granting begins with: the last releases of the listed cells, and what had come into each cell before the last step. Assumes nothing.
+-- What granting begins with: the last releases of the listed cells, and all that has come into each cell except in the last step. Assumes nothing.
 use mathlib.Core.Path.{_≡_, ap, _∙_}
 use mathlib.Core.List.{List}
 use Prim.Native.Nat.{ℕ, _+_, _-_, _≤_, _<_}
@@ -12,11 +12,11 @@ use Rattle.model.specs.Filling.{MeterState}
 use Rattle.passes.specs.RampList.{Listed}
 use Rattle.ramps.specs.Grants.{Lasts}
 
--- of columns
+-- the same for columns
 abbrev pub cameIn : List ℕ → List ℕ → List ℕ → ℕ → ℕ
 cameIn held cumulative entries i = at held i + at cumulative i - at entries i
 
--- what working it out requires of the first n cells
+-- what computing it requires from the first n cells
 pub record CameAsks (n : ℕ) (held cumulative entries : List ℕ) : Type 0 where
   pub cells : n ≤ mostCells
   pub helds : (i : ℕ) → i < n → at held i ≤ mostRate

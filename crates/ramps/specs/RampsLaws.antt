@@ -1,4 +1,4 @@
--- Laws of a step's releases: what is granted fits, and a row that is filled stays within the limits. Assumes nothing.
+-- Laws of a step's releases: a granted release fits, and a filled row stays within the limits. Assumes nothing.
 use mathlib.Core.Path.{_≡_, refl, _∙_}
 use mathlib.Core.Bool.{Bool, true, false, cond}
 use mathlib.Core.List.{List}
@@ -36,7 +36,7 @@ capped ramp wish cap = go (eqb ramp 0) refl
     go true e = record { most = omega arith; noRamp = λ _. refl; ramped = λ d. absurd (d (eqb-true ramp 0 e)) }
     go false e = record { most = whole-most wish cap; noRamp = λ z. absurd (eqb-false ramp 0 e z); ramped = λ _. refl }
 
--- what the cap is at most
+-- the bounds of the cap
 pub record Caps (most supply cap : ℕ) : Type 0 where
   pub there : cap ≤ most
   pub taken : cap ≤ supply
@@ -53,7 +53,7 @@ module _ (laws : List Law) (r : Road) (m : MeterState) (row : List ℕ) where
   pub granted-small : (i : ℕ) → grantedAt laws r m row i < 2 ^ 32
   granted-small i = omega (arith, granted-caps i .rate)
 
-  -- the filled row: as long, with the same arrivals, and the releases granted
+  -- the filled row has the same length, the same arrivals and the releases granted
   pub length-filled : length (filledRow laws r m row) ≡ length row
   unfolding filledRow
   length-filled = length-released (grantedAt laws r m row) (r .n) row
@@ -70,7 +70,7 @@ module _ (laws : List Law) (r : Road) (m : MeterState) (row : List ℕ) where
   unfolding filledRow
   filled-release e i l = released-at (grantedAt laws r m row) (r .n) row i l (omega arith)
 
-  -- what a release may be at most does not depend on the row's releases
+  -- the greatest release does not depend on the row's releases
   pub filled-most : (i : ℕ) → mostReleaseAt (m .state) (filledRow laws r m row) i ≡ mostReleaseAt (m .state) row i
   unfolding mostReleaseAt
   filled-most i = rw (filled-arrivals i)
@@ -82,7 +82,7 @@ module _ (laws : List Law) (r : Road) (m : MeterState) (row : List ℕ) where
     supply = λ i l. omega (arith, filled-release e i l, granted-caps i .taken);
   }
 
-  -- a row within the limits stays so
+  -- a row within the limits stays within them
   pub filled-row : RowOk r row → RowOk r (filledRow laws r m row)
   filled-row ok = record {
     numbers = length-filled ∙ ok .numbers;
@@ -96,7 +96,7 @@ module _ (laws : List Law) (r : Road) (m : MeterState) (row : List ℕ) where
   pub filled-row-ok : RoadOk r → RowOk r row → rowOk (r .ramp) (r .n) (filledRow laws r m row) ≡ true
   filled-row-ok road ok = row-ok r (filledRow laws r m row) road (filled-row ok)
 
-  -- what the next step's wishes go by: the release granted in this one, and what entered from upstream in it
+  -- what the next step's wishes are computed from: the release granted in this step, and what entered from upstream in it
   pub last-release : r .n ≤ length (m .releases) → (i : ℕ) → i < r .n → at (meteredOf laws r m row .releases) i ≡ grantedAt laws r m row i
   unfolding meteredOf
   last-release h i l = fill-at (grantedAt laws r m row) (r .n) (m .releases) i l h

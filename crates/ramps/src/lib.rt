@@ -17,14 +17,14 @@ ghost use Rattle.model.specs.Road.{mostCells};
 ghost use Rattle.ramps.specs.Grants.{GrantAsks, GrantLent, Granted};
 ghost use Rattle.ramps.specs.LastStep.{cameIn, CameAsks};
 
-// The cap of a release: queue and arrivals together, supply and the greatest rate.
+// The cap of a release: queue plus arrivals, supply and 1,000,000.
 fn cap(coming: u32, supply: u32) -> u32
     ensures { λ c. ⌜ c ≡ min coming (min supply mostRate) ⌝ }
 {
     passes::least(coming, passes::least(supply, Road::RATE))
 }
 
-// The release of a cell with a ramp: what its law wishes for, up to the cap.
+// The release of a cell with a ramp: the greatest whole number not above its law's wish, at most the cap.
 fn granted(law: Law, last: u32, entered: u32, held: u32, cap: u32) -> u32
     ensures { λ x. ⌜ x ≡ wholeBelow (wishOf law last entered held) cap ⌝ }
 {
@@ -49,7 +49,7 @@ pub fn last_releases(
     }
 }
 
-// What had come into each of the first n cells before the last step, with its last release: held + F less what entered in that step.
+// All that has come into each of the first n cells, except what entered in the last step: held + F less what entered in that step.
 pub fn came_before<'a>(
     n: usize,
     held: &'a [u32; 64],
@@ -67,9 +67,9 @@ pub fn came_before<'a>(
     }
 }
 
-// Grants the releases of the listed cells in the step whose row starts at `start`, and puts them into the bytes. `room` has the supplies
-// and is less by them; `release` and `waiting` get, of each listed cell, its release and what waits after it. `came` has what had come
-// into a cell before the last step, with its last release: held + F is larger by what entered in that step.
+// Grants the releases of the listed cells in the step whose row starts at `start`, and puts them into the bytes. `room` holds the supplies and is
+// reduced by the releases; `release` and `waiting` receive each listed cell's release and its queue after it. `came` holds all that has come into
+// a cell except what entered in the last step: held + F exceeds it by that.
 pub fn grant<'a, 'b>(
     bytes: &mut [u8],
     start: usize,

@@ -1,4 +1,4 @@
--- The arrays of the passes, on the road of a study's step and before its first. Assumes nothing.
+-- The arrays of the passes, on the road of a study's step and before its first step. Assumes nothing.
 use mathlib.Core.Path.{_≡_, sym, ap, subst, _∙_}
 use mathlib.Core.List.{List}
 use Prim.Native.Nat.{ℕ, _≤_}
@@ -15,7 +15,7 @@ use Rattle.passes.specs.Supplies.{NoRamp}
 use Rattle.passes.specs.RampList.{Listed}
 use Rattle.passes.specs.Step.{Arrays}
 
--- before the first step: the rests of b × F are worked out
+-- before the first step the remainders of b × F are computed
 pub arrays-start : {a : Study} {ramps : ℕ} {cell rest : List ℕ} → StudyOk a → Listed (NoRamp (a .road .ramp)) (a .road .n) ramps cell
     → rest ≡ fillOf (restIn (a .road .share) (a .start .cumulative)) (a .road .n) (replicate 64 0)
     → Arrays (a .road) ramps cell (a .start .cumulative) rest (replicate 65 0) (replicate 64 0) (replicate 64 0) (replicate 64 0)
@@ -34,7 +34,7 @@ arrays-start {a} {rest = rest} ok listed e =
     }
 
 module _ {a : Study} {q : Road} (on : OnRoad a q) {ramps : ℕ} {cell cumulative rest room release waiting demand : List ℕ} where
-  -- the road of a step differs in its capacities alone
+  -- the road of a step differs only in its capacities
   pub arrays-on : Arrays (a .road) ramps cell cumulative rest room release waiting demand → Arrays q ramps cell cumulative rest room release waiting demand
   arrays-on h =
       let w = subst (λ (x : Road). Arrays x ramps cell cumulative rest room release waiting demand) (sym (on .other)) h in

@@ -1,4 +1,4 @@
--- What the loop of running knows of the lent list. Assumes nothing.
+-- The invariant of running's loop about the lent list. Assumes nothing.
 use mathlib.Core.Path.{_≡_, sym, ap, _∙_}
 use mathlib.Core.List.{List, _++_}
 use Prim.Native.Nat.{ℕ, _+_, _-_, _*_, _≤_, _<_}
@@ -18,18 +18,18 @@ use Rattle.theory.specs.TableLaws.{length-table, table-none, table-more}
 use Rattle.theory.specs.Readable.{Readable}
 use Rattle.running.specs.Steps.{FaultlessSteps, RanTurn, ran-none, ran-more, steps-all, steps-fault, row-is}
 
--- what running step by step requires: a record that reads, and a list long enough
+-- what running step by step requires: a record that reads, and a list that is long enough
 pub record Runnable (bytes : List ℕ) (a : Study) (list : List ℕ) : Type 0 where
   pub readable : Readable bytes a
   pub long : tableSize a ≤ length list
 
--- when k steps are made: their rows are in the list, and the next goes to `to`
+-- k steps are made: their rows are in the list, and the next goes to `to`
 pub record RowsInList (a : Study) (list out : List ℕ) (u : State) (k to : ℕ) : Type 0 where
   pub ran : FaultlessSteps a u k
   pub place : to ≡ k * places a
   pub table : out ≡ tableOf a list k
 
--- a part that is put back unchanged leaves the list unchanged
+-- putting a part back unchanged leaves the list unchanged
 pub part-back : (list : List ℕ) (from w : ℕ) {part : List ℕ} → part ≡ take (from + w - from) (drop from list)
     → take from list ++ (part ++ drop (from + w - from) (drop from list)) ≡ list
 part-back list from w e =
@@ -46,7 +46,7 @@ module _ {a : Study} {list : List ℕ} where
     pub same-length : StudyOk a → tableSize a ≤ length list → length out ≡ length list
     same-length ok long = ap length (h .table) ∙ length-table a ok list k (h .ran .faultless .within) long
 
-    -- the next row lies within it, and within what bounds the table
+    -- the next row is within the list, and within every bound of the table
     pub row-ends-by : (most : ℕ) → tableSize a ≤ most → k < a .steps → to + places a ≤ most
     row-ends-by most m l = omega (arith, row-ends k (a .steps) (places a) l, h .place)
 
@@ -62,7 +62,7 @@ module _ {a : Study} {list : List ℕ} where
       pub table-fault : (f .number ≡ 0 → ⊥) → out ≡ runTable a list
       table-fault n = h .table ∙ ap (tableOf a list) (steps-fault t e n)
 
-      -- without one, one step more is made
+      -- without a fault one more step is made
       pub made-more : f .number ≡ 0 → {v : State} {part : List ℕ} → v ≡ nextOf q u row (outflowsOf q u row) → part ≡ outflowsOf q u row
           → RowsInList a list (take to out ++ (part ++ drop (to + places a - to) (drop to out))) v (k + 1) (to + places a)
       made-more z {v} {part} ev ep = record {

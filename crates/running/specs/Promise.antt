@@ -39,7 +39,7 @@ weightedOver w u a = weightedTotal w u (a .road .n) (engineAfter a)
 abbrev pub longestOver : Study → ℕ → Queues
 longestOver a = longestOf (a .road .n) (engineAfter a)
 
--- x is what opening gave
+-- x is opening's answer
 module _ (weighs longs : Bool) (w u : ℕ → ℕ) (list bytes lanes : List ℕ) (x : ReadAnswer) where
   abbrev a : Study
   a = openedStudy bytes lanes x
@@ -59,7 +59,7 @@ module _ (weighs longs : Bool) (w u : ℕ → ℕ) (list bytes lanes : List ℕ)
       let m : k ≡ stepsBy (ranFrom list) bytes lanes x = sym ek ∙ ap (stepsMade a) ee in
       (ee, (eo ∙ ap (tableOf a list) m, (et ∙ ap (λ (j : ℕ). cond weighs (weightedOver w u a j) 0) m, λ on. eq on ∙ ap (longestOver a) m)))
 
-  -- a refusal that names no state: no step is made
+  -- after a refusal that names no state no step is made
   none : {e : EndAnswer} {t : ℕ} {q : Queues} (number place : ℕ) → (number ≡ 0 → ⊥) → e ≡ noState number place → e ≡ endBy (ranFrom list) bytes lanes x
       → (q ≡ noQueues) × (t ≡ 0) → RanBy e list t q
   none number place n ee er nothing =
@@ -95,12 +95,12 @@ same-total w u a b = weighted-total-none w u (a .road .n) (engineAfter a) ∙ sy
 same-queues : (a b : Study) → longestOver a 0 ≡ longestOver b 0
 same-queues a b = longest-none (a .road .n) (engineAfter a) ∙ sym (longest-none (b .road .n) (engineAfter b))
 
--- the answer, the list at exit and what they are worth
+-- the answer, the list afterwards and what is promised about both
 abbrev pub Promise : List ℕ → List ℕ → List ℕ → EndAnswer → List ℕ → Type 0
 Promise bytes lanes list e out =
     (e ≡ runningOf bytes lanes list) × ((out ≡ listAfter bytes lanes list) × (Taken bytes lanes → Promised bytes lanes out e))
 
--- of one record, table and list every run gives the same answer and leaves the same list, with weights and without
+-- every run of one record, table and list gives the same answer and leaves the same list, with weights or without
 pub same-run : (bytes lanes list : List ℕ) (e f : EndAnswer) (out left : List ℕ) → Promise bytes lanes list e out → Promise bytes lanes list f left
     → (e ≡ f) × (out ≡ left)
 same-run bytes lanes list e f out left p q = (p .0 ∙ sym (q .0), p .1 .0 ∙ sym (q .1 .0))
@@ -127,7 +127,7 @@ module _ (bytes lanes list : List ℕ) {x : ReadAnswer} (ex : x ≡ openingOf by
   unfolding runningOf weightedTotalOfRun
   opened-weighted w u et = et ∙ opened-made bytes lanes ex (ranFrom list) (weightedOver w u) (λ a. same-total w u a _)
 
-  -- a weighted run's whole promise
+  -- the whole promise of a weighted run
   pub run-weighted-promise : (w u : ℕ → ℕ) {e : EndAnswer} {out : List ℕ} {t : ℕ} → Promise bytes lanes list e out
       → t ≡ weightedOver w u (openedStudy bytes lanes x) (stepsBy (ranFrom list) bytes lanes x)
       → (e ≡ runningOf bytes lanes list) × ((out ≡ listAfter bytes lanes list) × ((t ≡ weightedTotalOfRun w u bytes lanes list)

@@ -1,4 +1,4 @@
--- What a loop over the steps of the engine's run knows of its state, and how it ends. Assumes nothing.
+-- The invariant of a loop over the steps of the engine's run about its state, and its end. Assumes nothing.
 use mathlib.Core.Path.{_≡_, refl, sym, ap, _∙_}
 use mathlib.Core.List.{List}
 use Prim.Native.Nat.{ℕ, _+_, _≤_, _<_}
@@ -34,7 +34,7 @@ pub record RanTurn (a : Study) (u : State) (k : ℕ) (q : Road) (row : List ℕ)
   pub numbers : row ≡ a .rows k
 
 module _ {a : Study} where
-  -- within the limits
+  -- the state is within the limits
   pub ran-reached : {u : State} {k : ℕ} → StudyOk a → FaultlessSteps a u k → ReachedState a u k
   ran-reached {k = k} ok h = rw (h .state) (run-reached a ok k (h .faultless .within) (h .faultless .before))
 
@@ -66,11 +66,11 @@ module _ {a : Study} where
     pub same-places : {m : ℕ} → m ≡ places a → m ≡ q .n + 1
     same-places e = e ∙ ap (λ (n : ℕ). n + 1) (sym (step-road this-step .n))
 
-    -- the engine's row of the step, as the code has it
+    -- the code's row of outflows is the engine's row of the step
     pub row-is : {y : List ℕ} → y ≡ outflowsOf q u row → y ≡ outflowsAt a k
     row-is e = rw (e, t .road, t .ran .state, t .numbers)
 
-    -- what running says of the step, from what the code finds
+    -- running's fault of the step is the code's
     module _ {f : FaultAnswer} (e : f ≡ releasesOf q u row) where
       says : f ≡ runSays a k
       says = rw (e, t .road, t .ran .state, t .numbers)
@@ -82,7 +82,7 @@ module _ {a : Study} where
       pub steps-fault : (f .number ≡ 0 → ⊥) → k ≡ firstStep (runSays a) (a .steps)
       steps-fault n = faultless-stop (t .ran .faultless) (t .left) (number-of says) n
 
-      -- without one, one step more is made
+      -- without a fault one more step is made
       pub ran-more : f .number ≡ 0 → {v : State} → v ≡ nextOf q u row (outflowsOf q u row) → FaultlessSteps a v (k + 1)
       unfolding engineAfter
       ran-more z ev = record {
@@ -90,7 +90,7 @@ module _ {a : Study} where
         faultless = faultless-more (t .ran .faultless) (t .left) (number-of says) z;
       }
 
--- the passes of a turn need no more than the arrays and a row
+-- the passes of a turn require only the arrays and a row
 pub passes-ask : {a : Study} {u : State} {k : ℕ} {q : Road} {bytes : List ℕ} {ramps : ℕ} {cell rest room release waiting demand y : List ℕ}
     → RanTurn a u k q (recordRow bytes (q .n) k) → HoldsRow bytes (q .n) k → Arrays q ramps cell (u .cumulative) rest room release waiting demand
     → length y ≡ q .n + 1 → StepAsks bytes k q u ramps cell rest room release waiting demand y

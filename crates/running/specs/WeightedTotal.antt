@@ -1,4 +1,4 @@
--- What the loop of running knows of the weighted total. Assumes nothing.
+-- The invariant of running's loop about the weighted total. Assumes nothing.
 use mathlib.Core.Path.{_≡_, refl, sym, ap, _∙_}
 use mathlib.Core.Bool.{Bool, true, false, cond}
 use Prim.Native.Nat.{ℕ, suc, _+_, _*_, _≤_}
@@ -13,11 +13,11 @@ use Rattle.counts.specs.WeightBounds.{mostWeightedPresent, mostWeightedTotal}
 use Rattle.model.specs.Running.{runSays, firstStep}
 use Rattle.running.specs.Steps.{FaultlessSteps}
 
--- the weighted total of a run step by step up to its end, where weights are wanted
+-- the weighted total of a run at its end, if weights are wanted
 abbrev pub weightedTotalEnd : Bool → (ℕ → ℕ) → (ℕ → ℕ) → Study → ℕ
 weightedTotalEnd weighs w u a = cond weighs (weightedTotal w u (a .road .n) (engineAfter a) (firstStep (runSays a) (a .steps))) 0
 
--- when k steps are made
+-- the weighted total after k steps
 pub record Totalled (weighs : Bool) (w u : ℕ → ℕ) (a : Study) (total k : ℕ) : Type 0 where
   pub sum : total ≡ cond weighs (weightedTotal w u (a .road .n) (engineAfter a) k) 0
   pub small : total ≤ k * mostWeightedPresent

@@ -28,7 +28,7 @@ ghost use Rattle.running.specs.WeightedTotal.{weightedTotalEnd};
 ghost use Rattle.opening.specs.OpenedStudy.{Opens};
 ghost use Rattle.running.specs.Promise.{RanBy};
 
-// A run's end with its longest queues and its weighted total.
+// A run's answer with its longest queues and its weighted total.
 fn tallied(ended: Ended, gate: AtGate, ramps: [u32; 64], weighted: u64) -> Tallied
     ensures { λ e. ⌜ (e .longest .ended ≡ ended) × ((longestQueues (e .longest) ≡ queuesOf (gate .gate) (gate .waiting) ramps) × (e .weighted ≡ weighted)) ⌝ }
 {
@@ -140,7 +140,7 @@ fn run_rows(
     tallied(ended, gate, most, weighted)
 }
 
-// A refusal that names no state, with no step done.
+// A refusal that names no state, without a step done.
 fn unbegun(refusal: Refusal, place: usize) -> Tallied
     ensures { λ e. ⌜ (e .longest .ended ≡ withoutState refusal place) × ((longestQueues (e .longest) ≡ noQueues) × (e .weighted ≡ 0)) ⌝ }
 {
@@ -151,7 +151,7 @@ fn unbegun(refusal: Refusal, place: usize) -> Tallied
     }
 }
 
-// Runs a record that was opened, with weights and with its longest queues where they are wanted: opening's refusal, 11, then as `run_rows`.
+// Runs a record that was opened, with weights and with its longest queues if `longs`: opening's refusal, 11, then as `run_rows`.
 fn run_opened(
     a: Reading,
     bytes: &[u8],
@@ -188,8 +188,8 @@ fn run_opened(
     )
 }
 
-// Goes on from a state over the rows of a further record, with its longest queues and its weighted total: the refusals of reading, 17, 18, 7, 8, 11,
-// then 9 or 10 with its step, counted in these rows, and cell.
+// Runs the rows of a further record from a state, with its longest queues and its weighted total: the refusals of reading, 17, 18, 7, 8, 11, then
+// 9 or 10 with its step, counted in these rows, and its cell.
 pub fn run_on(bytes: &[u8], table: &[u8], weights: Weights, from: State, out: &mut [u32]) -> Tallied
     ensures answer { λ e. ⌜ endAnswer (e .longest .ended) ≡ runningOn (now (bytes .entry)) (now (table .entry)) from (now (out .entry)) ⌝ }
     ensures list { λ e. ⌜ now (out .exit) ≡ listOn (now (bytes .entry)) (now (table .entry)) from (now (out .entry)) ⌝ }

@@ -14,7 +14,7 @@ Inv-loop r s n sum₀ i₀ sum i = Exited r s n sum i
 abbrev μ-loop : tie.MeasureT-loop
 μ-loop r s n sum₀ i₀ sum i = n - i
 
--- the arguments from the loop's place, and a turn's start from its end
+-- places of the code: the arguments from the loop, and a turn's start from its end
 abbrev A : tie.At-loop Inv-loop μ-loop → tie.Start Inv-loop μ-loop
 A c = c .before .before
 

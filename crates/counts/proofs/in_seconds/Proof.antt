@@ -1,4 +1,4 @@
--- `counts::in_seconds` meets its contract. Each return, by the tests on the way to it. Assumes nothing.
+-- `counts::in_seconds` meets its contract. Each return follows from the tests before it. Assumes nothing.
 use mathlib.Core.Path.{refl}
 use Prim.Native.Nat.{_-_, _*_, _/_, _%_, _≤_, _<_}
 use Rattle.model.specs.Road.{mostLong}
@@ -15,14 +15,14 @@ A c = c .before
 some : (c : tie.Else1) → 0 < A c .args .seconds
 some c = let n = c .if1 .left in omega arith
 
--- the seconds of the rest, before and after the division, are within 64 bits
+-- the seconds of the rest fit 64 bits, before and after the division
 product : (c : tie.Else1) → let a = A c .args in a .total % 1000 * a .seconds ≤ 999 * 65535
 product c = let a = A c .args in rest-fits (a .total) (a .seconds) (search needs)
 
 rest : (c : tie.Else1) → let a = A c .args in a .total % 1000 * a .seconds / 1000 ≤ mostLong
 rest c = omega (arith, product c)
 
--- and so are those of the whole vehicles with them
+-- with those of the whole vehicles they fit too
 within : (c : tie.Else2) → let a = A (c .before) .args in a .total / 1000 * a .seconds ≤ mostLong - a .total % 1000 * a .seconds / 1000
 within c = let a = A (c .before) .args in product-fits (a .total) (a .seconds) refl (some (c .before)) (c .if2 .left)
 

@@ -17,7 +17,7 @@ held c = search needs
 queue : (c : tie.Start) → length (c .args .t2 .queue) ≡ mostCells
 queue c = search needs
 
--- places of the code: the count of cells from the sum, over the lending of the state's and of the weights' columns
+-- places of the code: the count of cells from the sum, by way of the loans of the state's and of the weights' columns
 abbrev to-weights : tie.After-weighted-places → tie.After-weights
 to-weights c = c .before .before .before
 

@@ -1,4 +1,4 @@
--- `filling::entries_within` meets its contract. The invariant: the first i entries are within what their cells hold. Assumes nothing.
+-- `filling::entries_within` meets its contract. The invariant: the first i entries are at most what their cells hold. Assumes nothing.
 use mathlib.Core.Path.{_≡_, refl, sym}
 use Prim.Native.Nat.{ℕ, _-_, _≤_, _<_}
 use lib.Dec.{leb}

@@ -1,4 +1,4 @@
--- `filling::fill_on` meets its contract. Each return, by the tests on the way to it. Assumes nothing.
+-- `filling::fill_on` meets its contract. Each return follows from the tests before it. Assumes nothing.
 use mathlib.Core.Path.{_≡_, refl, sym, ap, _∙_}
 use Prim.Native.Nat.{ℕ, _≤_}
 use lib.ListN.{length}
@@ -64,7 +64,7 @@ to-filled c = c .before .before .before .before .before .before
 abbrev to-list : tie.After-fill-rows → tie.Else4
 to-list c = c .before .before .before .before
 
--- a record that was read, and what that says of n and T
+-- the record reads, and what follows for n and T
 read-well : (c : tie.Else1) → refusalNumber (to-read c .read .result .refusal) ≡ 0
 read-well c = sym (c .before .number .ensures) ∙ c .if1 .left
 
@@ -81,7 +81,7 @@ finite c = c .before .if2 .left
 opens : (c : tie.Else3) → faultAnswer (to-table c .refused .result) .number ≡ 0
 opens c = sym (c .before .number2 .ensures) ∙ c .if3 .left
 
--- nothing is gone on from after a refusal
+-- after a refusal the progress is all zero
 returns : tie.Need-returns
 returns c =
     let t = c .before in

@@ -1,4 +1,4 @@
--- `filling::fill_opened` meets its contract. Each return, by the tests on the way to it. Assumes nothing.
+-- `filling::fill_opened` meets its contract. Each return follows from the tests before it. Assumes nothing.
 use mathlib.Core.Path.{_≡_, refl, sym, ap, _∙_}
 use Prim.Native.Nat.{_≤_}
 use Rattle.model.specs.Road.{mostCells, mostSteps}
@@ -34,7 +34,7 @@ to-table c = c .before .before
 abbrev to-list : tie.After-fill-rows → tie.Else3
 to-list c = c .before .before .before .before
 
--- a record that was read, and what that says of n and T
+-- the record reads, and what follows for n and T
 read-well : (c : tie.Else1) → refusalNumber (to-read c .read .result .refusal) ≡ 0
 read-well c = sym (c .before .number .ensures) ∙ c .if1 .left
 

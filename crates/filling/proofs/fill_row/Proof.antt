@@ -1,4 +1,4 @@
--- `filling::fill_row` meets its contract: the releases that are granted make the step ready. Assumes nothing.
+-- `filling::fill_row` meets its contract: with the releases granted the step is ready. Assumes nothing.
 use mathlib.Core.Path.{_≡_, ap, _∙_}
 use Prim.Native.Nat.{ℕ}
 use Rattle.model.specs.declared.Road.{Road}

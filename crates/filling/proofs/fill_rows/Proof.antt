@@ -1,5 +1,5 @@
--- `filling::fill_rows` meets its contract. The invariant: k steps are filled by any laws that the columns have, their outflows are written, and the
--- road is the record's but for its capacities; this from any last step that the arrays before the first have. Assumes nothing.
+-- `filling::fill_rows` meets its contract. The invariant: k steps are filled by any laws that the columns hold, their outflows are written, and the
+-- road differs from the record's only in its capacities; this for any last step that the arrays before the first step hold. Assumes nothing.
 use mathlib.Core.Path.{_≡_, refl, sym, ap, subst, _∙_}
 use mathlib.Core.Bool.{true≢false}
 use mathlib.Core.Logic.{inl, inr}
@@ -50,7 +50,7 @@ abbrev μ-loop : tie.MeasureT-loop
     bytes out road held queue sent l rest release came room waiting demand gate most k to =
     steps - k
 
--- places of the code: the listing and the columns from the ledger, the arguments from the columns, and a turn's road from the places after it
+-- places of the code: the list of ramps and the columns from the ledger, the arguments from the columns, and a turn's road from the places after it
 abbrev Listing : tie.After-of Inv-loop μ-loop → tie.After-ramp-cells Inv-loop μ-loop
 Listing c = let h = c .before .before .before in h .before .before .before .before
 
@@ -60,7 +60,7 @@ Split c = Listing c .before .before .before .before
 abbrev A : tie.After-of Inv-loop μ-loop → tie.Start Inv-loop μ-loop
 A c = Split c .before .before .before .before .before
 
--- and the ledger from what is worked out after it: the remainders, the last releases, what had come into each cell
+-- and the ledger from what is computed after it: the remainders, the last releases, what has come into each cell
 abbrev Held : tie.After-remainders Inv-loop μ-loop → tie.After-of Inv-loop μ-loop
 Held c = c .before .before .before .before .before
 
@@ -85,7 +85,7 @@ to-filled c = c .before .before .before .before
 abbrev to-turn : tie.After-slice-known4 Inv-loop μ-loop → tie.Joined1 Inv-loop μ-loop
 to-turn c = to-road (to-filled c .before .before)
 
--- the state, the study and what the wishes of step 0 go by, with any ledger; the loop starts with one that is the arguments'
+-- the state, the study and what the wishes of step 0 are computed from, with any ledger; the loop starts with the arguments' ledger
 abbrev S : tie.Start Inv-loop μ-loop → Ledger → State
 S c l = let s = c .args .from .state in stateOf l (s .held) (s .queue) (s .cumulative)
 
@@ -109,7 +109,7 @@ asked c =
 fillable : (c : tie.After-of Inv-loop μ-loop) → Fillable (A c .args .bytes .now) (Of c) (A c .args .out .now)
 fillable c = asked c .fillable
 
--- the arrays before the first step have the last one
+-- the arrays before the first step hold the last one
 kept : (c : tie.After-came-before Inv-loop μ-loop) →
     let b = Held (Rested (Recalled c)) in
     ArraysOk (Of b .road .n) (Of b .road .share) (Of b .road .ramp) (M b) (Listing b .ramp-cells .result)
@@ -129,7 +129,7 @@ kept c =
       demand = refl;
     })
 
--- what the steps before have filled by the laws of the arguments
+-- the steps filled so far, by the laws of the arguments
 so-far : (c : tie.At-loop Inv-loop μ-loop) →
     let b = L c in
     let a = A b .args in
@@ -138,7 +138,7 @@ so-far : (c : tie.At-loop Inv-loop μ-loop) →
     (arrays (Listing b .ramp-cells .last .1 .1 .0) (l .rest) (l .room) (l .release) (l .waiting) (l .came) (l .demand)) (l .k) (l .to)
 so-far c = let a = A (L c) .args in c .loop .inv .1 (a .laws) (Split (L c) .columns .ensures) (a .from .releases) (a .from .entries) (kept (c .before)) .0
 
--- the road of the turn, with the capacities of its step or, with an empty table, as it was
+-- the road of the turn: with the capacities of its step, or unchanged with an empty table
 turned : (c : tie.Joined1 Inv-loop μ-loop) →
     let l = c .before .before in
     Turned (Of (L l)) (l .loop .road) (l .loop .k) (c .if1 .road)

@@ -11,7 +11,7 @@ use Rattle.filling.proofs.with_last.Statement.{statement}
 use Rattle.filling.proofs.with_last.Tie as tie
 use borrow.Author.Needs.{needs}
 
--- places of the code: the releases put, from where the entries are asked for, and the arguments from the releases
+-- places of the code: the releases put, from the call for the entries; and the arguments from the releases
 abbrev Put : tie.After-put-entries-arg2 → tie.After-put-releases
 Put c = c .before .before .before .before .before .before
 

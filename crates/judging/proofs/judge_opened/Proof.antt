@@ -1,4 +1,4 @@
--- `judging::judge_opened` meets its contract. Each return, by the tests on the way to it. Assumes nothing.
+-- `judging::judge_opened` meets its contract. Each return follows from the tests before it. Assumes nothing.
 use mathlib.Core.Path.{_≡_, sym, ap, _∙_}
 use lib.ListN.{length}
 use Rattle.model.specs.Refusals.{refusalNumber}
@@ -26,7 +26,7 @@ to-passed c = c .before .before .before
 abbrev to-size : tie.Else2 → tie.After-struct-known
 to-size c = c .before
 
--- a record that was opened
+-- the record was opened
 opens : (c : tie.Else1) → refusalNumber (A (to-number c) .args .a .refusal) ≡ 0
 opens c = sym (to-number c .number .ensures) ∙ c .if1 .left
 

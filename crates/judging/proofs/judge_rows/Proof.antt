@@ -1,6 +1,6 @@
--- `judging::judge_rows` meets its contract. The invariant: no fault in the k steps passed, the columns are of the schedule's own state
--- after them, the lists hold the states so far where they are written, the road is the record's but for its capacities, and the array for a
--- row is long enough. Assumes nothing.
+-- `judging::judge_rows` meets its contract. The invariant: no fault in the first k steps; the columns hold the schedule's own state after them; the
+-- lists hold the states so far if they are written; the road differs from the record's only in its capacities; the array for a row is long
+-- enough. Assumes nothing.
 use mathlib.Core.Path.{_≡_, refl, sym, ap, subst, _∙_}
 use mathlib.Core.Logic.{inl, inr}
 use mathlib.Core.Bool.{true}
@@ -74,7 +74,7 @@ Turn c = In (Read (Step (c .before)))
 abbrev Turn-end : tie.After-slice-known4 Inv-loop μ-loop → tie.Else2 Inv-loop μ-loop
 Turn-end c = Passed (Held (Queue c .before) .before)
 
--- the study with the ledger that the code made, and that it is the study given
+-- the study with the ledger that the code made, which is the study given
 abbrev Of : tie.After-of Inv-loop μ-loop → Study
 Of c =
     let a = A c .args in
@@ -100,7 +100,7 @@ given c {e} {held} {queue} h =
     let a = A c .args in
     subst (λ (x : Study). Ends x (a .schedule .now) (a .writes) (a .held .now) (a .queue .now) e held queue) (same c) h
 
--- the state that the columns are of, the step's road, its row as it is lent and the schedule's row of outflows
+-- the state of the columns, the step's road, its row as it is lent, and the schedule's row of outflows
 abbrev Now : tie.At-loop Inv-loop μ-loop → State
 Now c = let p = c .loop in stateOf (p .l) (p .cells) (p .ramps) (p .cumulative)
 
@@ -122,7 +122,7 @@ Moved c =
     let z = c .judge-step .last .1 .1 .1 .1 .1 .1 .1 .1 in
     stateOf (c .judge-step .result .ledger) (z .0) (z .1 .0) (z .1 .1 .0)
 
--- the step's row of outflows lies within the schedule, and within what bounds a table
+-- the step's row of outflows is within the schedule, and within every bound of a table
 fits : (c : tie.In-loop Inv-loop μ-loop) →
     let b = c .before .before in
     c .before .loop .k * places (Of b) + places (Of b) ≤ length (A b .args .schedule .now)
@@ -131,7 +131,7 @@ fits c = let b = c .before .before in row-ends-by (Of b) _ (length (A b .args .s
 small : (c : tie.In-loop Inv-loop μ-loop) → let b = c .before .before in c .before .loop .k * places (Of b) + places (Of b) ≤ mostOutflows
 small c = let b = c .before .before in row-ends-by (Of b) _ mostOutflows (begun b .readable .outflows) (c .loop-test .taken)
 
--- and, where states are written, their rows within the lists
+-- if states are written, their rows are within the lists
 long : (c : tie.In-loop Inv-loop μ-loop) →
     let l = c .before in
     let to = l .loop .k * places (Of (l .before)) + places (Of (l .before)) in
@@ -152,7 +152,7 @@ holds c =
     let n = A (In c .before .before) .args .t3 .n in
     omega (arith, numbers c, length-take (rowNumbers n) (c .read-row .last .1 .1 .1 .0))
 
--- the road of the turn, with the capacities of its step or, with an empty table, as it was
+-- the road of the turn: with the capacities of its step, or unchanged with an empty table
 turned : (c : tie.Joined1 Inv-loop μ-loop) →
     let l = c .before .before in
     Turned (Of (l .before)) (withCapacity (A (l .before) .args .t3) (l .loop .capacity)) (l .loop .k) (On c)
@@ -167,7 +167,7 @@ turned c =
       ];
     }
 
--- what a turn knows
+-- the facts about a turn
 turn : (c : tie.After-read-row Inv-loop μ-loop) →
     let l = In c .before in
     JudgeTurn (Of (l .before)) (A (l .before) .args .schedule .now) (Now l) (l .loop .k) (On (Joined c)) (Row c) (Outflows (In c))
@@ -185,7 +185,7 @@ turn c =
       size = part-length zs (l .loop .k * w) w (fits (In c));
     }
 
--- what the step finds and does
+-- the step's fault, and the state after it
 judged : (c : tie.After-judge-step Inv-loop μ-loop) →
     let r = Read c in
     let j = c .judge-step .result in

@@ -1,4 +1,4 @@
--- `judging::judge_step` meets its contract: without a fault the row may be moved by. Assumes nothing.
+-- `judging::judge_step` meets its contract: without a fault the row may be used for the move. Assumes nothing.
 use mathlib.Core.Path.{_≡_, refl, sym, _∙_}
 use Prim.Native.Nat.{ℕ}
 use lib.ListN.{length-replicate}
@@ -12,7 +12,7 @@ use Rattle.judging.proofs.judge_step.Statement.{statement}
 use Rattle.judging.proofs.judge_step.Tie as tie
 use borrow.Author.Needs.{needs}
 
--- the arguments, from the verdict's arguments, and the verdict from the move's
+-- places of the code: the arguments from those of the verdict, and the verdict from those of the move
 abbrev A : tie.After-room → tie.Start
 A c = c .before .before .before .before .before .before
 
@@ -28,7 +28,7 @@ On c r =
 abbrev From : tie.Start → State
 From c = let a = c .args in stateOf (a .l) (a .held .now) (a .queue .now) (a .cumulative .now)
 
--- what the code finds on it, and of which number
+-- the code's fault on it, and its number
 found : (c : tie.After-verdict) (r : Road) →
     let a = A (c .before) in
     faultAnswer (c .verdict .result) ≡ verdictOf (On a r) (From a) (a .args .row .now) (a .args .y .now)

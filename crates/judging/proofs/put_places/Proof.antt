@@ -20,7 +20,7 @@ Inv-loop writes from gate cells n list₀ x₀ i₀ list x i = PuttingPlaces gat
 abbrev μ-loop : tie.MeasureT-loop
 μ-loop writes from gate cells n list₀ x₀ i₀ list x i = n - i
 
--- the arguments from the loop's place
+-- places of the code: the arguments from the loop
 abbrev A : tie.At-loop Inv-loop μ-loop → tie.Start Inv-loop μ-loop
 A c = c .before .before
 
@@ -31,7 +31,7 @@ writing c = not-false (A c .args .writes) (c .before .if1 .left)
 long : (c : tie.At-loop Inv-loop μ-loop) → A c .args .from + (A c .args .n + 1) ≤ length (c .loop .list)
 long c = omega (arith, A c .pre .1 .1 (writing c), copied-length (c .loop .inv .copied))
 
--- what is wanted, and what is not
+-- the row if it is wanted, and if it is not
 abbrev Row : tie.Start Inv-loop μ-loop → List ℕ
 Row c = placed (c .args .list .now) (c .args .from) (placesOf (c .args .gate) (c .args .cells .now) (c .args .n))
 

@@ -1,4 +1,4 @@
--- `lanes::cell_in_table` meets its contract. The invariant: the cell passes in the k steps looked at, and its byte of the last row is at `at`. Assumes nothing.
+-- `lanes::cell_in_table` meets its contract. The invariant: the cell passes in the first k steps, and its byte of the last row is at `at`. Assumes nothing.
 use mathlib.Core.Path.{_≡_}
 use Prim.Native.Nat.{_+_, _*_, _-_, _<_}
 use lib.ListN.{length}
@@ -18,14 +18,14 @@ Inv-loop table n steps i built at₀ k₀ at k = (at ≡ k * n + i) × PassedTes
 abbrev μ-loop : tie.MeasureT-loop
 μ-loop table n steps i built at₀ k₀ at k = steps - k
 
--- places of the code: the arguments from the loop's place, and the loop's place from the test of a byte
+-- places of the code: the arguments from the loop, and the loop from the test of a byte
 abbrev A : tie.At-loop Inv-loop μ-loop → tie.Start Inv-loop μ-loop
 A c = c .before .before .before
 
 abbrev to-loop : tie.After-lanes-ok Inv-loop μ-loop → tie.At-loop Inv-loop μ-loop
 to-loop c = c .before .before .before
 
--- the byte lies within the table
+-- the byte is within the table
 within : (c : tie.In-loop Inv-loop μ-loop) →
     let l = c .before in
     l .loop .at + A l .args .n < length (A l .args .table .now)
@@ -35,7 +35,7 @@ within c =
     let h = byte-within (a .args .n) (a .args .steps) (l .loop .k) (a .args .i) (l .loop .at) (a .pre .1) (c .loop-test .taken) (l .loop .inv .0) in
     omega (arith, a .pre .0)
 
--- what the test says of the step
+-- the test's result for the step
 found : (c : tie.After-lanes-ok Inv-loop μ-loop) →
     let l = to-loop c in
     let a = A l .args in

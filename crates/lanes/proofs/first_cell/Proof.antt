@@ -1,4 +1,4 @@
--- `lanes::first_cell` meets its contract. The invariant: the lanes of the i cells passed are as they should be. Assumes nothing.
+-- `lanes::first_cell` meets its contract. The invariant: the lanes of the first i cells pass. Assumes nothing.
 use Prim.Native.Nat.{_-_}
 use borrow.Author.Tests.{not-true, not-false}
 use Rattle.numbers.specs.FirstLaws.{PassedTests, passed-none, passed-more, passed-stop, passed-end}

@@ -1,4 +1,4 @@
--- `lanes::first_in_table` meets its contract. The invariant: the i cells passed pass in all rows. Assumes nothing.
+-- `lanes::first_in_table` meets its contract. The invariant: the first i cells pass in all rows. Assumes nothing.
 use Prim.Native.Nat.{_-_}
 use borrow.Author.Tests.{not-true, not-false}
 use Rattle.numbers.specs.FirstLaws.{PassedTests, passed-none, passed-more, passed-stop, passed-end}

@@ -1,4 +1,4 @@
--- `lanes::open_capacities` meets its contract. The invariant: the capacities of the i cells passed are those of their open lanes. Assumes nothing.
+-- `lanes::open_capacities` meets its contract. The invariant: the capacities of the first i cells are those of their open lanes. Assumes nothing.
 use Prim.Native.Nat.{_-_, _≤_}
 use native.Mathlib.Omega.{arith}
 use Rattle.lanes.specs.LanesLaws.{OpenedCells, opened-none, opened-more, opened-end}

@@ -1,4 +1,4 @@
--- `lanes::step_capacities` meets its contract: the rows that it cuts are those of the table. Assumes nothing.
+-- `lanes::step_capacities` meets its contract: its slices are the table's rows. Assumes nothing.
 use mathlib.Core.Path.{sym}
 use native.Mathlib.Nat.{le-of-eq}
 use native.Mathlib.Omega.{arith}
@@ -9,7 +9,7 @@ use Rattle.lanes.proofs.step_capacities.Statement.{statement}
 use Rattle.lanes.proofs.step_capacities.Tie as tie
 use borrow.Author.Needs.{needs}
 
--- the arguments, from the call
+-- places of the code: the arguments from the call
 abbrev A : tie.After-open-capacities-arg2 → tie.Start
 A c = c .before .before .before
 

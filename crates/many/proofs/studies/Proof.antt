@@ -1,4 +1,4 @@
--- `many::studies` meets its contract. Each return, by the tests on the way to it. Assumes nothing.
+-- `many::studies` meets its contract. Each return follows from the tests before it. Assumes nothing.
 use mathlib.Core.Path.{_≡_, refl, sym, _∙_}
 use Prim.Native.Nat.{_+_, _≤_}
 use native.Mathlib.Omega.{arith}

@@ -12,7 +12,7 @@ Inv-loop count speed capacity held demand₀ i₀ demand i = FilledTo (demandIn 
 abbrev μ-loop : tie.MeasureT-loop
 μ-loop count speed capacity held demand₀ i₀ demand i = count - i
 
--- a turn's start, from its last argument, and the arguments
+-- places of the code: a turn's start from its last argument, and the arguments
 abbrev In : tie.After-least-arg3 Inv-loop μ-loop → tie.In-loop Inv-loop μ-loop
 In c = c .before .before .before
 

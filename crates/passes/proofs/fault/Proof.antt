@@ -1,4 +1,4 @@
--- `passes::fault` meets its contract: the row is read whole, and looked through cell by cell. Assumes nothing.
+-- `passes::fault` meets its contract: the whole row is read and tested cell by cell. Assumes nothing.
 use mathlib.Core.Path.{_≡_, sym, ap, _∙_}
 use Prim.Native.Nat.{_+_, _*_}
 use lib.ListN.{length, take, length-replicate}
@@ -10,7 +10,7 @@ use Rattle.passes.proofs.fault.Statement.{statement}
 use Rattle.passes.proofs.fault.Tie as tie
 use borrow.Author.Needs.{needs}
 
--- the arguments, from the row
+-- places of the code: the arguments from the row
 abbrev A : tie.After-row → tie.Start
 A c = c .before .before
 

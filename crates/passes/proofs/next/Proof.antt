@@ -34,13 +34,13 @@ On c r =
 abbrev From : tie.Start → State
 From c = let a = c .args in stateOf (a .l) (a .held .now) (a .queue .now) (a .cumulative .now)
 
--- what the gate sends
+-- the gate's outflow
 first : (c : tie.After-least) →
     let a = A c .args in
     c .least .result ≡ min (gateDemandOf (a .gate-capacity) (a .l .«gate_queue»)) (at (a .room .now) 0)
 first c = c .least .ensures ∙ ap (λ (x : ℕ). min x (at (A c .args .room .now) 0)) (c .before .before .gate-demand .ensures)
 
--- what the ledger knows
+-- the facts about the numbers of the ledger
 known : (c : tie.After-least) → NextTurn (From (A c)) (c .least .result) (A c .args .arrivals)
 known c = next-turn (A c .pre .ready) (first c)
 
@@ -55,7 +55,7 @@ add-releases-requires c κs =
     let t = c .before .before .before .before in
     addable (A (Gate t) .pre .ready) (first (Gate t)) (t .send .ensures)
 
--- what the count of the step knows: its numbers, and the sums
+-- the facts about the numbers of the count: those of the ledger, and the sums
 turn : (c : tie.After-struct-known) → NextTurn (From (A (Gate (Sent (c .before))))) (Gate (Sent (c .before)) .least .result)
     (A (Gate (Sent (c .before))) .args .arrivals)
 turn c = known (Gate (Sent (c .before)))

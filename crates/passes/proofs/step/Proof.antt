@@ -48,7 +48,7 @@ Asked c r =
 start : (c : tie.After-row-start) → let a = A c .args in c .row-start .result ≡ rowStart (versionOf (a .bytes .now)) (a .n) (a .k)
 start c = let a = A c .args in c .row-start .ensures ∙ ap (λ (v : ℕ). rowStart v (a .n) (a .k)) (c .before .version .ensures)
 
--- what is found of the releases
+-- the results of the test of the releases
 found : (c : tie.After-take-releases) (r : Road) → Asked (A (Start (Supplied c))) r →
     let s = A (Start (Supplied c)) in
     let a = s .args in

@@ -13,11 +13,11 @@ Inv-loop count wave jam capacity held room₀ i₀ room i = FilledTo (supplyIn w
 abbrev μ-loop : tie.MeasureT-loop
 μ-loop count wave jam capacity held room₀ i₀ room i = count - i
 
--- a turn's start, from its last argument
+-- places of the code: a turn's start, from its last argument
 abbrev In : tie.After-least-arg4 Inv-loop μ-loop → tie.In-loop Inv-loop μ-loop
 In c = c .before .before .before .before
 
--- the arguments, from a turn's start
+-- places of the code: the arguments, from a turn's start
 abbrev A : tie.In-loop Inv-loop μ-loop → tie.Start Inv-loop μ-loop
 A c = c .before .before
 

@@ -1,10 +1,10 @@
--- `printing::last_lines` meets its contract. Each return, by the version's test. Assumes nothing.
+-- `printing::last_lines` meets its contract. Each return follows from the test of the version. Assumes nothing.
 use Rattle.printing.specs.Lines.{time-fits, ends-timed, ends-untimed}
 use Rattle.printing.proofs.last_lines.Statement.{statement}
 use Rattle.printing.proofs.last_lines.Tie as tie
 use borrow.Author.Needs.{needs}
 
--- places of the code: the version's test from the vehicle-seconds, the last line from the test, the exits and the total before it, the arguments
+-- places of the code: the test of the version from the vehicle-seconds, the last line from the test, the exits and the total before it, the arguments
 abbrev Second : tie.After-vehicle-seconds → tie.Then1
 Second c = c .before .before
 

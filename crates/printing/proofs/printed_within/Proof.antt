@@ -1,4 +1,4 @@
--- `printing::printed_within` meets its contract. Each return, by the test on the way to it. Assumes nothing.
+-- `printing::printed_within` meets its contract. Each return follows from the test before it. Assumes nothing.
 use mathlib.Core.Path.{_≡_, sym, _∙_}
 use mathlib.Core.List.{[]}
 use Rattle.model.specs.Refusals.{refusalNumber}
@@ -16,7 +16,7 @@ A c = c .before .before .before
 abbrev to-read : tie.Else1 → tie.After-read-within
 to-read c = c .before .before
 
--- a record that was read, and what that says of it
+-- the record reads, and what follows for it
 read-well : (c : tie.Else1) → refusalNumber (to-read c .read-within .result .refusal) ≡ 0
 read-well c = sym (c .before .number .ensures) ∙ c .if1 .left
 

@@ -1,5 +1,5 @@
--- `printing::run_lines` meets its contract. The invariant: k steps are made without a fault, their lines are after the header, and the
--- arrays of the passes are kept. Assumes nothing.
+-- `printing::run_lines` meets its contract. The invariant: k steps are made without a fault, their lines are after the header, and the arrays of
+-- the passes are kept. Assumes nothing.
 use mathlib.Core.Path.{_≡_, refl, sym, ap, subst, _∙_}
 use mathlib.Core.List.{List, []}
 use Prim.Native.Nat.{ℕ, _+_, _-_}
@@ -36,7 +36,7 @@ abbrev μ-loop : tie.MeasureT-loop
     buffer held queue sent l rest room release waiting demand end k =
     steps - k
 
--- places of the code: the arguments from the loop's place, a turn's start from its step, and the step from its test
+-- places of the code: the arguments from the loop, a turn's start from its step, and the step from its test
 abbrev Header : tie.At-loop Inv-loop μ-loop → tie.After-header Inv-loop μ-loop
 Header c = c .before .before .before
 
@@ -67,7 +67,7 @@ Made c = c .before .before .before .before .before
 abbrev to-loop : tie.After-state Inv-loop μ-loop → tie.At-loop Inv-loop μ-loop
 to-loop c = c .before .before .before
 
--- the road; the study from the ledger that the loop starts with, which is the arguments'; and the state that the columns are of
+-- the road; the study with the ledger that the loop starts with, which is the arguments'; and the state of the columns
 abbrev On : tie.Start Inv-loop μ-loop → Road
 On c = c .args .t2
 
@@ -99,7 +99,7 @@ ends c {after} {m} h = subst (λ (a : Study). Printed (Begun (Listing c) .args .
 abbrev Now : tie.At-loop Inv-loop μ-loop → State
 Now c = let p = c .loop in stateOf (p .l) (p .held) (p .queue) (p .cumulative)
 
--- what a turn knows
+-- the facts about a turn
 turn : (c : tie.In-loop Inv-loop μ-loop) →
     let l = c .before in
     RanTurn (Of (Opened (Header l))) (Now l) (l .loop .k) (On (A l)) (recordRow (A l .args .bytes .now) (On (A l) .n) (l .loop .k))
@@ -114,7 +114,7 @@ turn c =
       numbers = refl;
     }
 
--- what the step requires of its row
+-- what the step requires from its row
 asked : (c : tie.In-loop Inv-loop μ-loop) {y : List ℕ} →
     let l = c .before in
     let p = l .loop in
@@ -125,7 +125,7 @@ asked c e =
     let l = c .before in
     passes-ask (turn c) (A l .pre .readable .row (l .loop .k) (c .loop-test .taken)) (l .loop .inv .1) e
 
--- what the test of its fault says
+-- the result of the test of its fault
 faulty : (c : tie.Then1 Inv-loop μ-loop) → refusalNumber (Made (c .before) .step-lines .result .fault .refusal) ≡ 0 → ⊥
 faulty c z = c .if1 .taken (c .before .number .ensures ∙ z)
 

@@ -11,8 +11,8 @@ use Rattle.printing.proofs.step_lines.Statement.{statement}
 use Rattle.printing.proofs.step_lines.Tie as tie
 use borrow.Author.Needs.{needs}
 
--- places of the code: where the step's columns are lent, from the row back to the rooms, to what the cells hold and to the arguments; the step from its
--- test; and the test from where the lines are asked for
+-- places of the code: from the row back to the loan of the rooms, to the held counts and to the arguments; the step from its test; and the test
+-- from the call for the lines
 abbrev Rooms : tie.After-step-arg9 → tie.After-step-arg5
 Rooms c = c .before .before .before .before
 
@@ -31,7 +31,7 @@ Made c = c .before .before .before .before .before
 abbrev Tested : tie.After-lines-arg4 → tie.Else1
 Tested c = c .before .before .before .before
 
--- the state after the step, as the code has it
+-- the code's state after the step
 abbrev After : tie.After-step → State
 After c =
     let p = c .step .last .1 .1 .1 .1 .1 .1 .1 .1 .1 .1 .1 .1 in

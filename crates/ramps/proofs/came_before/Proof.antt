@@ -14,7 +14,7 @@ Inv-loop n held cumulative entries came₀ i₀ came i = FilledTo (cameIn held c
 abbrev μ-loop : tie.MeasureT-loop
 μ-loop n held cumulative entries came₀ i₀ came i = n - i
 
--- the arguments, from a turn's start
+-- places of the code: the arguments, from a turn's start
 abbrev A : tie.In-loop Inv-loop μ-loop → tie.Start Inv-loop μ-loop
 A c = c .before .before
 

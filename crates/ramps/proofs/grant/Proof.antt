@@ -27,7 +27,7 @@ Inv-loop bytes₀ start ramps cell kinds numbers held queue cumulative room₀ r
 abbrev μ-loop : tie.MeasureT-loop
 μ-loop bytes₀ start ramps cell kinds numbers held queue cumulative room₀ release₀ waits₀ came₀ j₀ bytes room release waits came j = ramps - j
 
--- places of the code: the arguments from the loop's place, and each call of a turn from the next
+-- places of the code: the arguments from the loop, and each call of a turn from the next
 abbrev A : tie.At-loop Inv-loop μ-loop → tie.Start Inv-loop μ-loop
 A c = c .before .before
 
@@ -46,7 +46,7 @@ Grant c = c .before .before .before
 abbrev Put : tie.After-slice-known2 Inv-loop μ-loop → tie.After-granted Inv-loop μ-loop
 Put c = c .before .before .before .before
 
--- by what the wishes go, and the releases granted, as the arguments are known to have them
+-- what the wishes are computed from, and the releases granted, from the arguments
 abbrev By : tie.Start Inv-loop μ-loop → MeterState
 By c = let a = c .args in meterState (stateOf (c .pre .ledger) (a .held .now) (a .queue .now) (a .cumulative .now)) (c .pre .releases) (c .pre .entries)
 
@@ -64,7 +64,7 @@ so-far c = let p = A c .pre in c .loop .inv .1 (p .laws) (p .road) (p .ledger) (
 abbrev I : tie.In-loop Inv-loop μ-loop → ℕ
 I c = at (A (c .before) .args .cell .now) (c .before .loop .j)
 
--- what a turn knows, and of its release
+-- the facts about a turn and about its release
 known : (c : tie.In-loop Inv-loop μ-loop) →
     let s = A (c .before) in
     let a = s .args in
@@ -195,7 +195,7 @@ same-length c = let l = c .before in same-size (A l .pre .grants) (so-far l)
 returns : tie.Need-returns Inv-loop μ-loop
 returns c laws r l releases entries k g = let p = c .before .loop in granting-end g (p .inv .1 laws r l releases entries k g) (c .loop-test .left)
 
--- the cell's index, and the listed place's
+-- the cell's index, and its index in the list
 cell-in : (c : tie.After-slice-known2 Inv-loop μ-loop) → I (Number (Law-in (Grant (Put c)))) ≤ 63
 cell-in c = omega (arith, known (Number (Law-in (Grant (Put c)))))
 

@@ -1,4 +1,4 @@
--- `ramps::granted` meets its contract: the release goes by the wish. Assumes nothing.
+-- `ramps::granted` meets its contract: the release is that of the wish. Assumes nothing.
 use mathlib.Core.Path.{ap, _∙_}
 use lib.Ieee.{Float}
 use Rattle.model.specs.Meter.{wholeBelow}

@@ -1,4 +1,4 @@
--- `running::run_opened` meets its contract. Each return, by the tests on the way to it. Assumes nothing.
+-- `running::run_opened` meets its contract. Each return follows from the tests before it. Assumes nothing.
 use mathlib.Core.Path.{_≡_, sym, ap, _∙_}
 use Rattle.model.specs.Numbers.{at}
 use Rattle.model.specs.Refusals.{refusalNumber}
@@ -22,7 +22,7 @@ to-number c = c .before
 abbrev to-passed : tie.After-struct-known → tie.Else1
 to-passed c = c .before .before .before
 
--- a record that was opened
+-- the record was opened
 opens : (c : tie.Else1) → refusalNumber (A (to-number c) .args .a .refusal) ≡ 0
 opens c = sym (to-number c .number .ensures) ∙ c .if1 .left
 

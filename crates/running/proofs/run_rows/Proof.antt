@@ -1,6 +1,6 @@
--- `running::run_rows` meets its contract. The invariant: the rows of the k steps made are in the list, no step had a fault, the road is
--- the record's but for its capacities, the weights of those steps are added, the arrays of the passes are kept, and the longest queues are those
--- of these steps. Assumes nothing.
+-- `running::run_rows` meets its contract. The invariant: the rows of the k steps made are in the list; no step had a fault; the road differs from
+-- the record's only in its capacities; the weighted total and the longest queues are those of these steps; the arrays of the passes are kept.
+-- Assumes nothing.
 use mathlib.Core.Path.{_≡_, refl, sym, ap, subst, _∙_}
 use mathlib.Core.Bool.{true, true≢false}
 use mathlib.Core.Logic.{inl, inr}
@@ -51,7 +51,7 @@ abbrev μ-loop : tie.MeasureT-loop
     out road held queue sent l rest room release waiting demand gate most total k to =
     steps - k
 
--- places of the code: the arguments and the ledger's place from the loop's, a turn's start from its test of releases, and the test from the places after it
+-- places of the code: the arguments and the ledger from the loop, a turn's start from its test of the releases, and the test from the places after it
 abbrev Listing : tie.After-of Inv-loop μ-loop → tie.After-ramp-cells Inv-loop μ-loop
 Listing c = c .before .before .before .before
 
@@ -79,7 +79,7 @@ Made-step c = c .before .before .before .before
 abbrev to-passed : tie.After-added-arg2 Inv-loop μ-loop → tie.Else2 Inv-loop μ-loop
 to-passed c = let a = c .before .before .before in a .before .before .before
 
--- the study from the ledger that the loop starts with, which is the arguments', and the state that the columns are of
+-- the study with the ledger that the loop starts with, which is the arguments'; and the state of the columns
 abbrev Of : tie.After-of Inv-loop μ-loop → Study
 Of c =
     let a = Begun (Listing c) .args in
@@ -100,7 +100,7 @@ runnable c =
 abbrev Now : tie.At-loop Inv-loop μ-loop → State
 Now c = let p = c .loop in stateOf (p .l) (p .held) (p .queue) (p .cumulative)
 
--- the road of the turn, with the capacities of its step or, with an empty table, as it was
+-- the road of the turn: with the capacities of its step, or unchanged with an empty table
 turned : (c : tie.Joined1 Inv-loop μ-loop) →
     let l = c .before .before in
     Turned (Of (L l)) (l .loop .road) (l .loop .k) (c .if1 .road)
@@ -121,7 +121,7 @@ holds c = A (c .before) .pre .readable .row (c .before .loop .k) (c .loop-test .
 same-cells : (c : tie.Joined1 Inv-loop μ-loop) → c .if1 .road .n ≡ A (c .before .before) .args .r .n
 same-cells c = ap (λ (x : Road). x .n) (turned-on (turned c) .other)
 
--- what a turn knows
+-- the facts about a turn
 turn : (c : tie.Joined1 Inv-loop μ-loop) →
     let l = c .before .before in
     RanTurn (Of (L l)) (Now l) (l .loop .k) (c .if1 .road) (recordRow (A l .args .bytes .now) (c .if1 .road .n) (l .loop .k))
@@ -145,7 +145,7 @@ small c = row-ends-by (c .before .loop .inv .0) mostOutflows (runnable (L (c .be
 list-kept : (c : tie.At-loop Inv-loop μ-loop) → length (c .loop .out) ≡ length (A c .args .out .now)
 list-kept c = let k = runnable (L c) in same-length (c .loop .inv .0) (k .readable .ok) (k .long)
 
--- at the end, what holds of the loop's study holds of the arguments'
+-- at the end, what holds for the loop's study holds for the arguments' study
 ends : (c : tie.After-of Inv-loop μ-loop) {x : EndAnswer} {out : List ℕ} {t : ℕ} {q : Queues} →
     let a = Begun (Listing c) .args in
     let w = at (a .t6 .places) in
@@ -163,14 +163,14 @@ ends c e o t q =
       ),
     )
 
--- what the test of its fault says
+-- the result of the test of its fault
 faulty : (c : tie.Then2 Inv-loop μ-loop) → refusalNumber (Made-step (c .before) .step .result .fault .refusal) ≡ 0 → ⊥
 faulty c z = c .if2 .taken (c .before .number .ensures ∙ z)
 
 faultless : (c : tie.Else2 Inv-loop μ-loop) → refusalNumber (Made-step (c .before) .step .result .fault .refusal) ≡ 0
 faultless c = sym (c .before .number .ensures) ∙ c .if2 .left
 
--- the part, and what the step requires of it
+-- the part of the list, and what the step requires from it
 abbrev Part : tie.Joined1 Inv-loop μ-loop → List ℕ
 Part c = let p = c .before .before .loop in take (p .to + places (Of (L (c .before .before))) - p .to) (drop (p .to) (p .out))
 

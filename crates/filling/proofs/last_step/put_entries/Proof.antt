@@ -15,7 +15,7 @@ Inv-loop n share cumulative y entries₀ entering₀ i₀ entries entering i =
 abbrev μ-loop : tie.MeasureT-loop
 μ-loop n share cumulative y entries₀ entering₀ i₀ entries entering i = n - i
 
--- places of the code: a turn's start from the place of its call, and the arguments from the turn's start
+-- places of the code: a turn's start from its call, and the arguments from the turn's start
 abbrev In : tie.After-entered-arg2 Inv-loop μ-loop → tie.In-loop Inv-loop μ-loop
 In c = c .before .before
 

@@ -1,4 +1,4 @@
--- `passes::at_ramps::add_releases` meets its contract. The invariant: the first j of the listed cells are given their releases. Assumes nothing.
+-- `passes::at_ramps::add_releases` meets its contract. The invariant: the releases of the first j listed cells are added. Assumes nothing.
 use Prim.Native.Nat.{ℕ, _-_}
 use native.Mathlib.Omega.{arith}
 use Rattle.model.specs.Numbers.{at}
@@ -17,7 +17,7 @@ Inv-loop n ramps cell release waiting sent held₀ queue₀ on-road₀ at-ramps�
 abbrev μ-loop : tie.MeasureT-loop
 μ-loop n ramps cell release waiting sent held₀ queue₀ on-road₀ at-ramps₀ j₀ held queue on-road at-ramps j = ramps - j
 
--- a turn's start, from its numbers
+-- places of the code: a turn's start, from its numbers
 abbrev In : tie.After-left Inv-loop μ-loop → tie.In-loop Inv-loop μ-loop
 In c = c .before .before .before
 

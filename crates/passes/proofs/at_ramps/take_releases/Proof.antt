@@ -18,7 +18,7 @@ Inv-loop bytes start n ramps cell queue room₀ release₀ waiting₀ k₀ room 
 abbrev μ-loop : tie.MeasureT-loop
 μ-loop bytes start n ramps cell queue room₀ release₀ waiting₀ k₀ room release waiting k = ramps - k
 
--- the arguments, from the loop's place; a turn's start, from its cell; its cell from the places after it
+-- places of the code: the arguments from the loop; a turn's start from its cell; its cell from the places after it
 abbrev A : tie.At-loop Inv-loop μ-loop → tie.Start Inv-loop μ-loop
 A c = c .before .before
 
@@ -40,7 +40,7 @@ known : (c : tie.In-loop Inv-loop μ-loop) →
     TakeTurn (a .start) (I c) (length (a .bytes .now)) (at (a .queue .now) (I c)) (arriveIn (a .bytes .now) (a .start) (I c)) (a .n)
 known c = take-turn (A (c .before) .pre) (c .loop-test .taken)
 
--- the numbers that are read
+-- the numbers read
 arrives : (c : tie.After-number Inv-loop μ-loop) →
     let t = In (c .before) in
     let a = A (t .before) .args in

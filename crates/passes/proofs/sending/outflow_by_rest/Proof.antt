@@ -1,4 +1,4 @@
--- `passes::sending::outflow_by_rest` meets its contract: nothing wraps, and the rest tells what the whole of b × F would. Assumes nothing.
+-- `passes::sending::outflow_by_rest` meets its contract: nothing wraps, and the remainder is enough instead of b × F. Assumes nothing.
 use mathlib.Core.Path.{refl, sym, subst}
 use Prim.Native.Nat.{ℕ, _+_, _-_, _*_, _/_, _≤_, _<_}
 use native.Mathlib.Omega.{arith}
@@ -7,11 +7,11 @@ use Rattle.passes.proofs.sending.outflow_by_rest.Statement.{statement}
 use Rattle.passes.proofs.sending.outflow_by_rest.Tie as tie
 use borrow.Author.Needs.{needs}
 
--- what the product is at most
+-- the bound of the product
 product : (c : tie.Start) → c .args .share * c .args .demand ≤ 1000000000
 product c = product-most (c .args .share) (c .args .demand) (c .pre .0) (c .pre .1 .0)
 
--- where more would go on than the room
+-- more would enter than the room
 some : (c : tie.Then2) → 0 < c .before .before .args .share
 some c =
     let s = c .before .before in

@@ -20,7 +20,7 @@ Inv-loop n share demand room first held₀ rest₀ cumulative₀ y₀ entering�
 abbrev μ-loop : tie.MeasureT-loop
 μ-loop n share demand room first held₀ rest₀ cumulative₀ y₀ entering₀ on-road₀ i₀ held rest cumulative y entering on-road i = n - i
 
--- the arguments, from the loop's place; a turn's start, from its last argument; the turn's sending, from its end
+-- places of the code: the arguments from the loop; a turn's start from its last argument; the turn's sending from its end
 abbrev A : tie.At-loop Inv-loop μ-loop → tie.Start Inv-loop μ-loop
 A c = c .before .before
 
@@ -41,7 +41,7 @@ so-far : (c : tie.At-loop Inv-loop μ-loop) →
     Sending (a .n) (On (A c)) (a .rest .now) (a .y .now) (l .held) (l .rest) (l .cumulative) (l .y) (l .entering) (l .on-road) (l .i)
 so-far c = c .loop .inv .1 (A c .args .y .now) refl
 
--- what a turn knows of its numbers
+-- the facts about the numbers of a turn
 known : (c : tie.After-outflow-by-rest Inv-loop μ-loop) →
     let t = In (c .before) in
     let l = t .before .loop in
