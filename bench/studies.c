@@ -1,6 +1,6 @@
-/* Runs the records of a file through nobyaluk_run or nobyaluk_fill, all of them for each line of standard input that says which, and prints the
- * seconds of processor time and the sum of all totals. Before the records the file has 64 kinds of laws and 192 numbers. Each record has memory of
- * its own, as Python's have: side by side in one block they'd be read ahead. */
+/* Calls nobyaluk_run or nobyaluk_fill for all records of a file, once for each line `run` or `fill` of standard input. Prints the seconds of
+ * processor time and the sum of all totals. Before the records the file has 64 kinds of laws and 192 numbers. Each record has its own memory, as in
+ * Python: in one block the processor would read the next record ahead. */
 #include "../bindings/c/nobyaluk.h"
 #include <stdio.h>
 #include <stdlib.h>
@@ -21,7 +21,7 @@ static double now(void) {
     return t.tv_sec + t.tv_nsec / 1e9;
 }
 
-/* The next record of a file: 1, or 0 at its end. */
+/* Reads the next record of a file: 1, or 0 at its end. */
 static int next_record(FILE *file, uint8_t **record, size_t *size) {
     uint8_t head[4];
     if (fread(head, 1, sizeof head, file) != sizeof head) return 0;

@@ -3,7 +3,7 @@
 
     account.py FOLDER open|tight|alinea [--meso] [--seed N] [--end S] [--defaults] [--study TOML] [--factor F] [--into FILE]
 
---defaults leaves out --tripinfo-output.write-unfinished and --tripinfo-output.write-undeparted, as SUMO does unless told otherwise.
+--defaults leaves out --tripinfo-output.write-unfinished and --tripinfo-output.write-undeparted, as SUMO does by default.
 --into appends the figures as a line of JSON, for tables.py.
 """
 import argparse
@@ -24,14 +24,14 @@ def arguments():
     p.add_argument("--defaults", action="store_true")
     p.add_argument("--seed", type=int, default=23423)
     p.add_argument("--study", help="the study's TOML, for ALINEA's targets")
-    p.add_argument("--factor", type=float, default=1.0, help="ALINEA's targets, against the critical counts")
+    p.add_argument("--factor", type=float, default=1.0, help="ALINEA's targets as a factor of the critical counts")
     p.add_argument("--end", type=int, default=7560, help="the record's 378 steps of 20 s are 7,560 s")
     p.add_argument("--into", type=Path)
     return p.parse_args()
 
 
 def command(a, out):
-    """SUMO's command with every output that is used, written into a folder."""
+    """SUMO's command; every output that is used goes into a folder."""
     meter = "open" if a.meter == "alinea" else a.meter
     (out / "edge.add.xml").write_text(f'<additional><edgeData id="e" file="{out}/edges.xml"/></additional>')
     more = [a.folder / f"meso-{meter}.add.xml", a.folder / "open.add.xml"] if a.meso else [a.folder / f"{meter}.add.xml"]
@@ -52,8 +52,8 @@ def on_edges(edges, letter, key="sampledSeconds"):
     return hours(e[key] for name, e in edges.items() if name[0] == letter)
 
 
-def told(trips, steps, stat, edges):
-    """Lines that say what each of SUMO's outputs counts."""
+def report(trips, steps, stat, edges):
+    """Lines with what each of SUMO's outputs counts."""
     run, wait = hours(s["running"] for s in steps), hours(s["waiting"] for s in steps)
     yield f"summary-output     sum(running + waiting)  {run + wait:9.1f} h   running {run:.1f}  waiting {wait:.1f}"
     last = steps[-1]
@@ -74,7 +74,7 @@ def told(trips, steps, stat, edges):
 
 
 def figures(steps, stat, edges):
-    """What tables.py reads: hours, and means a vehicle in seconds."""
+    """What tables.py reads: hours, and means per vehicle in seconds."""
     trip = {key: float(value) for key, value in stat["vehicleTripStatistics"].items()}
     means = {key: trip[key] for key in ("count", "timeLoss", "duration", "waitingTime", "departDelay", "departDelayWaiting")}
     last = {key: float(steps[-1][key]) for key in ("meanTravelTime", "meanWaitingTime")}
@@ -102,7 +102,7 @@ def main():
     scenario = {"net": a.folder.name, "meter": a.meter + (f" x {a.factor}" if a.meter == "alinea" else ""), "model": "meso" if a.meso else "micro",
                 "seed": a.seed, "end": a.end, "counted": "defaults" if a.defaults else "all vehicles"}
     print("#", "{net} {meter} {model} seed {seed} end {end} {counted}".format(**scenario), f"(SUMO with outputs: {cpu:.1f} s processor, {wall:.1f} s wall)")
-    print("\n".join(told(trips, steps, stat, edges)), flush=True)
+    print("\n".join(report(trips, steps, stat, edges)), flush=True)
     if a.into:
         with a.into.open("a") as file:
             file.write(json.dumps({**scenario, **figures(steps, stat, edges), "cpu": cpu}) + "\n")

@@ -3,8 +3,8 @@
 
     corridor.py ../../examples/studies/rocade-sud.toml FOLDER [--sigma 0.1] [--storage 400] [--aux 250] [--gain 1.0]
 
-Each cell becomes a mainline edge of its own length. An on-ramp enters an acceleration lane at the start of its cell, an off-ramp
-leaves from a deceleration lane at its end (AUX metres each; the cell's length stays). Each on-ramp is STORAGE metres to the
+Each cell becomes a mainline edge of its own length. An on-ramp enters an acceleration lane at the start of its cell. An off-ramp
+leaves from a deceleration lane at its end (AUX metres each; the cell's length is unchanged). Each on-ramp is STORAGE metres to the
 meter's stop line and 50 m after it.
 """
 import argparse
@@ -73,17 +73,17 @@ def network(road, lanes, storage, speed):
             net.connect(name, f"o{i}", [(0, 0)])
         if k + 1 < len(road):
             following, further = road[k + 1][0], road[k + 1][2]
-            ends, begins = wide - lanes, further - lanes  # the auxiliary lane ends or leaves; the next one has one
+            ends, begins = wide - lanes, further - lanes  # auxiliary lanes of this piece and of the next
             net.connect(name, following, [(j + ends, j + begins) for j in range(lanes)])
             if further > lanes and road[k + 1][5]:  # a deceleration lane opens
                 net.connect(name, following, [(ends, 0)])
-                if wide > lanes and not leaves:  # the acceleration lane goes on as one
+                if wide > lanes and not leaves:  # the acceleration lane continues as the deceleration lane
                     net.connect(name, following, [(0, 0)])
     return net
 
 
 def demand(cells, road, sigma):
-    """Routes drawn by the shares, from each entry to each exit below it; evenly spaced arrivals, one step's waiting at the start."""
+    """Routes with the shares as probabilities, from each entry to each exit downstream. Arrivals are evenly spaced; those waiting at the start come first."""
     rows = [f'<vType id="car" sigma="{sigma}" tau="1.0" minGap="2.5"/>']
     entries = [("gate", 1)] + [(f"r{i}", i) for i, c in enumerate(cells, 1) if "ramp" in c]
     for name, first in entries:
@@ -111,7 +111,7 @@ def demand(cells, road, sigma):
 
 
 def meters(cells, program, phases):
-    """Lights of one program: open is always green; tight lets one car a green of 1 s, 7 in 40 s, 630 veh/h."""
+    """Lights of one program: open is always green; tight passes one car per green of 1 s: 7 in 40 s, 630 veh/h."""
     rows = []
     for i, c in enumerate(cells, 1):
         if "ramp" in c:
@@ -144,7 +144,7 @@ def main():
     p.add_argument("--sigma", type=float, default=0.5, help="Krauss's imperfection; SUMO's default is 0.5")
     p.add_argument("--storage", type=int, default=400)
     p.add_argument("--aux", type=int, default=250)
-    p.add_argument("--gain", type=float, default=1.0, help="mesoscopic capacity, against the cell's")
+    p.add_argument("--gain", type=float, default=1.0, help="mesoscopic capacity as a factor of the cell's")
     a = p.parse_args()
     study = tomllib.loads(Path(a.study).read_text())
     cells, speed = study["cell"], study["defaults"]["speed"] / 3.6

@@ -1,9 +1,9 @@
 #!/usr/bin/env python3
-"""Prints what docs/BESIDE-SUMO.md cites of SUMO, from the lines that account.py wrote.
+"""Prints SUMO's figures that docs/BESIDE-SUMO.md cites, from the lines that account.py wrote.
 
     tables.py FILE
 
-The first table is of the first seed; the last ones are of all seeds, with mean, standard deviation and range.
+The first table has the first seed; the last ones have all seeds, with mean, standard deviation and range.
 """
 import json
 import statistics
@@ -37,7 +37,7 @@ def spread(values):
 
 
 def first(runs):
-    """Open and tight meters with the first seed, by who waits where and by SUMO's figures."""
+    """Open and tight meters with the first seed: who waits where, and SUMO's own figures."""
     pairs = {net: (runs[net, "open", FIRST], runs[net, "tight", FIRST]) for net in list(KINDS)[:3] if (net, "tight", FIRST) in runs}
     rows = [[f"{name} (h)"] + [change(old[key], new[key]) for old, new in pairs.values()] for name, key in HOURS.items()]
     rows += [[f"{key} (s)"] + [change(old[key], new[key], 2) for old, new in pairs.values()] for key in SECONDS]
@@ -52,7 +52,7 @@ def cut(lines):
 
 
 def laws(runs):
-    """ALINEA against open meters, seed by seed."""
+    """ALINEA compared with open meters, seed by seed."""
     rows = []
     for (net, meter, seed), r in runs.items():
         if meter.startswith("alinea"):
@@ -62,7 +62,7 @@ def laws(runs):
 
 
 def seeds(runs, name, key):
-    """The spread of a figure over seeds, against open meters with the same seed."""
+    """The spread of a figure over seeds, compared with open meters of the same seed."""
     rows = []
     for net in KINDS:
         for meter in ("tight", "alinea x 1.3"):
@@ -70,7 +70,7 @@ def seeds(runs, name, key):
             if pairs:
                 more = [new - old for old, new in pairs]
                 rows.append([f"{KINDS[net]}, {meter}", len(more), *map(spread, (*zip(*pairs), more)), f"{sum(m > 0 for m in more)} of {len(more)}"])
-    table([name, "seeds", "open", "so", "so less open", "more than open"], rows)
+    table([name, "seeds", "open", "metered", "metered less open", "more than open"], rows)
 
 
 def times(lines):

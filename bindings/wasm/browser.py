@@ -44,7 +44,7 @@ def output(*command, given=b""):
 
 
 class Quiet(http.server.SimpleHTTPRequestHandler):
-    """A server that prints nothing, and knows modules by their ending."""
+    """A server that prints nothing, and serves modules as JavaScript."""
     extensions_map = {**http.server.SimpleHTTPRequestHandler.extensions_map, ".mjs": "text/javascript", ".js": "text/javascript"}
 
     def log_message(self, *_):
@@ -109,7 +109,7 @@ class Page:
         self.driver.get("about:blank")
         self.driver.get(address)
         self.until(lambda: self.driver.execute_script("return 'ready' in document.body.dataset"))
-        assert not self.driver.execute_script("return performance.getEntriesByType('resource').length"), "the page asks for something"
+        assert not self.driver.execute_script("return performance.getEntriesByType('resource').length"), "the page requests something"
 
     def open(self, **setting):
         self.go(f"{PAGE.as_uri()}#" + "&".join(f"{k}={v}" for k, v in {"lang": "en", **setting}.items()))
@@ -136,7 +136,7 @@ class Page:
     def until(self, true, what="something"):
         end = time.time() + 10
         while not true():
-            assert time.time() < end, f"waited for {what} in vain, at {self.driver.current_url}"
+            assert time.time() < end, f"waited too long for {what}, at {self.driver.current_url}"
             time.sleep(0.02)
 
     def drop(self, name, data):
@@ -157,7 +157,7 @@ def settings(page):
     """The page's record is what the reference fills, and its totals are those of the command line, for each setting."""
     for study, law, more in SETTINGS:
         page.open(study=study, law=law, **more)
-        said, got, base = page.text("last").splitlines(), page.download("record"), Record((ROOT / f"examples/{BASES[study]}.rec").read_bytes())
+        shown, got, base = page.text("last").splitlines(), page.download("record"), Record((ROOT / f"examples/{BASES[study]}.rec").read_bytes())
         want, lanes = page.folder / "want.rec", []
         want.write_bytes(base.scaled(more.get("load", 100)))
         if "works" in more:
@@ -168,11 +168,11 @@ def settings(page):
             want.write_bytes(output(REFERENCE, "fill", want, page.folder / "laws.txt", *lanes))
         assert got == want.read_bytes(), f"{study}, {law}, {more}: the page's record is not the reference's"
         printed = output(REFERENCE, "run", want, *lanes) if lanes else output(CTM, given=got)
-        assert printed.decode().splitlines()[-len(said) :] == said, f"{study}, {law}, {more}: {said}"
+        assert printed.decode().splitlines()[-len(shown) :] == shown, f"{study}, {law}, {more}: {shown}"
         if not lanes:
             assert page.download("listing") == printed, f"{study}, {law}, {more}: the listing is not ctm's"
-        # the table's hours are the last line's, and the drawn curve ends where the engine counts
-        total = int(re.match(r"total (\d+)", said[0])[1])
+        # the table's hours are those of the last line, and the drawn curve ends at the engine's count
+        total = int(re.match(r"total (\d+)", shown[0])[1])
         hours = total / 1000 if study == "printed" else total * (base.seconds or 36) / 3.6e6
         assert f"{hours:,.1f}" in page.text("totals"), f"{study}, {law}, {more}: {page.text('totals')}"
         assert page["curves"].get_attribute("data-left") == page["curves"].get_attribute("data-exits")
@@ -203,7 +203,7 @@ def sliders(page):
 
 
 def verdicts(page):
-    """Who gains and who pays, and what the wrong total makes of it; the links to try."""
+    """Who gains and who pays, and what the wrong total would show; the links to try."""
     page.open()
     for number in range(len(page.driver.find_elements(By.CSS_SELECTOR, "#tries a"))):
         before = page.text("last")
@@ -220,9 +220,9 @@ def verdicts(page):
 
 
 def records(page):
-    """Records of one's own: run as ctm runs them, or refused in words; short ones go into the address."""
+    """Own records are run as ctm runs them, or refused with a message; the address keeps short ones."""
     rows = [line.split("\t") for line in (ROOT / "docs/refusals.tsv").read_text().splitlines()]
-    words = {number: said for number, _, operations, _, said, *_ in rows if "run" in operations.split(", ")}
+    words = {number: text for number, _, operations, _, text, *_ in rows if "run" in operations.split(", ")}
     page.open(study="printed")
     for path in sorted((ROOT / "examples").glob("*.rec")):
         page["file"].send_keys(str(path))
@@ -239,7 +239,7 @@ def records(page):
     page.drop("printed-run.rec", (ROOT / "examples/printed-run.rec").read_bytes())
     page.until(lambda: page.text("last").startswith("total 33098 "))
     page.go(page.driver.current_url)
-    assert page.text("last").startswith("total 33098 "), "a short record goes with its address"
+    assert page.text("last").startswith("total 33098 "), "the address keeps a short record"
     page.open(study="own")
     assert page.text("refused").startswith("Choose a record first"), "a link whose record is too long says what is missing"
     page.open(study="rocade", law="record", load=90)
@@ -259,7 +259,7 @@ def records(page):
 
 
 def no_records(page):
-    """A file that is no record gives a message with what to do, in each language and in both views; so does a link that was cut."""
+    """A file that is not a record gives a message that says what to do, in each language and in both views. So does a link that was cut."""
     toml, record = (ROOT / "examples/studies/five-cells.toml").read_bytes(), (ROOT / "examples/printed-run.rec").read_bytes()
     cases = [("a road.toml", toml, "study (TOML)", "convert 'a road.toml' 'a road.rec'"), ("arrivals.CSV", b"time,gate\n", "table (CSV)", "convert road.toml road.rec"),
              ("it's.txt", b"cell v 1\n", "is a text", r"reference record 'it'\''s.txt' 'it'\''s.rec'"), ("empty.toml", b"", "study (TOML)", "convert empty.toml empty.rec"),
@@ -270,7 +270,7 @@ def no_records(page):
             page.drop(name, data)
             page.until(lambda: kind in page.text(box), f"{name} named in {mode}")
             assert page.text(box).startswith(name) and does in page.text(box) and not page["shown" if mode == "study" else "sheet"].is_displayed(), page.text(box)
-            page.drop("printed-run.rec", record)  # and a record is taken after it
+            page.drop("printed-run.rec", record)  # a record still works after it
             page.until(lambda: not page[box].is_displayed() and page["shown" if mode == "study" else "sheet"].is_displayed(), f"a record after {name}")
     for lang, words in (("de", "ist eine Studie"), ("fr", "est une étude")):
         page.open(lang=lang)
@@ -298,7 +298,7 @@ def no_records(page):
 
 
 def addresses(page):
-    """Whatever the address says, the page works: names that every object of JavaScript has are no studies and no languages."""
+    """The page works with any address: names that every object of JavaScript has are neither studies nor languages."""
     page.open()
     first = page.text("last")
     for word in ("constructor", "toString", "__proto__", "hasOwnProperty", "valueOf", "", "%00", "%F0%9F%92%A1", "<b>"):
@@ -309,9 +309,9 @@ def addresses(page):
 
 
 def policy(page):
-    """No script, style or handler but the page's own, known by their sums; and no connection."""
-    said = re.search(r'Content-Security-Policy" content="([^"]*)"', PAGE.read_text())[1]
-    assert "unsafe-inline" not in said and len(re.findall(r"'sha256-[A-Za-z0-9+/]{43}='", said)) == 2, said
+    """The page allows only its own script and style, identified by checksums; no handler and no connection."""
+    content = re.search(r'Content-Security-Policy" content="([^"]*)"', PAGE.read_text())[1]
+    assert "unsafe-inline" not in content and len(re.findall(r"'sha256-[A-Za-z0-9+/]{43}='", content)) == 2, content
     page.open()
     page.driver.execute_script(
         "window.broken = []; document.addEventListener('securitypolicyviolation', (e) => broken.push(e.effectiveDirective));"
@@ -322,11 +322,11 @@ def policy(page):
     assert page.driver.execute_script("return window.ran") is None
     for where in ("h1", "#styled"):
         assert "rgb(1, 2, 3)" not in page.driver.execute_script("return getComputedStyle(document.querySelector(arguments[0])).color", where)
-    page.driver.get_log("browser")  # which names the violations
+    page.driver.get_log("browser")  # empties the log, which has these violations
 
 
 def gate(page):
-    """The step of arrival at the gate is shown separately, and is in no queue; numbers have their words in each language."""
+    """The step of arrival at the gate is shown separately and is in no queue; counts have the right words in each language."""
     for study in BASES:
         page.open(study=study, law="record")
         record = Record((ROOT / f"examples/{BASES[study]}.rec").read_bytes())
@@ -339,16 +339,16 @@ def gate(page):
         digits = 0 if record.seconds or study == "classroom" else 1
         assert f"gate (at most {longest:,.{digits}f})" in page.text("queues-legend"), f"{study}: {longest} {page.text('queues-legend')}"
     one = struct.pack(">IBBHII4H4I3I", 48, 1, 1, 1, 1000, 0, 500, 250, 0, 1, 8000, 1000, 0, 0, 0, 0, 0)
-    for lang, said, bare in (("en", "1 cell, 1 step of unstated length, 1 on-ramp", "no on-ramp"), ("de", "1 Zelle, 1 Schritt ohne angegebene Dauer, 1 Auffahrt", "keine Auffahrt"),
+    for lang, words, bare in (("en", "1 cell, 1 step of unstated length, 1 on-ramp", "no on-ramp"), ("de", "1 Zelle, 1 Schritt ohne angegebene Dauer, 1 Auffahrt", "keine Auffahrt"),
                              ("fr", "1 cellule, 1 pas de durée non précisée, 1 rampe d’accès", "aucune rampe d’accès")):
         page.open(lang=lang, study="own", rec=base64.urlsafe_b64encode(one).decode().rstrip("="))
-        assert page.text("shape") == said, page.text("shape")
+        assert page.text("shape") == words, page.text("shape")
         page.open(lang=lang, study="classroom")
         assert page.text("shape").endswith(bare), page.text("shape")
 
 
 def exercise(page):
-    """The key is accepted, a plan that holds costs more, one part too much is named; within the limits; sheet and key on paper."""
+    """The key is accepted, a plan that holds traffic back costs more, and one part too much is named. The exercise keeps its limits."""
     for seed, cells, steps in ((1, 2, 3), (2026, 3, 4), (77, 8, 12)):
         page.open(mode="exercise", seed=seed, cells=cells, steps=steps)
         record = page.download("exercise-record")
@@ -376,9 +376,9 @@ def exercise(page):
         assert page.text("judged-more") == f"You wrote {key[-1] + 1:,}; in this state it may be at most {key[-1]:,}."
         (page.folder / "plan.txt").write_text("\n".join(map(str, [*key[:-1], 0])))
         (page.folder / "exercise.rec").write_bytes(record)
-        said = output(REFERENCE, "judge", page.folder / "exercise.rec", page.folder / "plan.txt").decode()
-        total = int(re.search(r"total (\d+)", said)[1])
-        assert f"costs {total / 1000:,.3f} vehicle-steps" in judged([*key[:-1], 0]), f"{said}{page.text('judged')}"
+        printed = output(REFERENCE, "judge", page.folder / "exercise.rec", page.folder / "plan.txt").decode()
+        total = int(re.search(r"total (\d+)", printed)[1])
+        assert f"costs {total / 1000:,.3f} vehicle-steps" in judged([*key[:-1], 0]), f"{printed}{page.text('judged')}"
         assert "is not a whole number" in judged([1.5, *key[1:]]) and "no plan costs less" in judged([f"{x:,}" for x in key])
         assert "Right up to step 0" in judged([*key[: cells + 1], *[""] * (len(key) - cells - 1)])
 
@@ -395,7 +395,7 @@ def in_link(record):
 
 
 def paper(page):
-    """The printed sheet has the question, its title, a name's line, ramps' names, seconds and every field; the key the engine's numbers, the sheet none."""
+    """The printed sheet has the question, its title, a line for the name, ramps' names, seconds and every field. Only the key has the engine's numbers."""
     record = all_ramps(4, 6)
     page.open(mode="exercise", own=1, rec=in_link(record), title="Question four", names="Harbour,,Mill Street")
     page.driver.execute_script("window.print = () => {}")
@@ -430,7 +430,7 @@ def paper(page):
 
 
 def graded(page):
-    """A graded link has the exercise and fields for every answer, and neither key nor hint nor check; its file holds what is typed."""
+    """A graded link has the exercise and fields for every answer, but no key, no hint and no check. Its file has what was typed."""
     with open(ROOT / "bindings/wasm/texts.tsv", encoding="utf-8", newline="") as f:
         words = {row["key"]: row for row in csv.DictReader(f, delimiter="\t", quoting=csv.QUOTE_NONE)}
     hints = [key for key in words if re.match(r"judged|whose\.key|key\.|wrong|says|try|states\.show|judge$|sheet\.keyed|refused", key)]
@@ -475,7 +475,7 @@ def graded(page):
         page["lang"].find_element(By.CSS_SELECTOR, "[value=de]").click()  # what is typed stays
         saved = json.loads(page.download("answers"))
         assert page["answers"].get_attribute("download") == "answers-zoë-o-neill.json" and "Keine ganze Zahl: 12.5." in page.text("saved"), page.text("saved")
-        assert {key: saved.pop(key) for key in want} == want, "the file has other answers than are typed"
+        assert {key: saved.pop(key) for key in want} == want, "the file has other answers than were typed"
         shape = {"record": base64.b64encode(exercise).decode(), "seed": seed, "cells": road.n, "steps": road.steps}
         assert saved == {"format": "nobyaluk-answers", "version": 1, "exercise": shape, "name": "Zoë O’Neill", "total": int(total[0]), "gate": int(total[1]),
                          "road": int(total[2]), "ramp": "12.5", "whose": "everyone’s"}, saved
@@ -484,12 +484,12 @@ def graded(page):
     assert page["sheet"].is_displayed() and page["name"].get_attribute("value") == "Zoë O’Neill"
     page.open(mode="graded", rec=in_link(record)[:-9])
     assert page.text("exercise-refused").startswith("This link is cut short") and not page["sheet"].is_displayed()
-    page.driver.execute_script("location.hash = 'lang=en&mode=exercise'")  # and the same tab takes another link
+    page.driver.execute_script("location.hash = 'lang=en&mode=exercise'")  # the same tab opens another link
     page.until(lambda: page.driver.find_elements(By.ID, "judge") and page["judge"].is_displayed(), "the practice form")
 
 
 def marked(page, exercise, seed, total):
-    """The file that the page has saved is marked: against the exercise, and in a class of the same seed with a second student."""
+    """The saved file is marked: against the exercise, and in a class of the same seed with a second student."""
     folder, file = page.folder / f"class-{seed}", page.folder / "answers-zoë-o-neill.json"
     (page.folder / "exercise.rec").write_bytes(exercise)
     (page.folder / "names.txt").write_text("Zoë O’Neill\nBen\n")
@@ -499,8 +499,8 @@ def marked(page, exercise, seed, total):
         nobyaluk("mark", against, file, "-o", page.folder / "marks")
         with open(page.folder / "marks.csv", encoding="utf-8", newline="") as f:
             row = next(row for row in csv.DictReader(f) if row["student"] == "Zoë O’Neill")
-        told = [row[key] for key in ("outflows", "states", "gate time", "road time", "ramp time", "total given", "total", "whose waiting, as written", "notes")]
-        assert told == ["right", "follow from its outflows", "right", "right", f"12.5, not {total[3]}", total[0], "right", "everyone’s",
+        marks = [row[key] for key in ("outflows", "states", "gate time", "road time", "ramp time", "total given", "total", "whose waiting, as written", "notes")]
+        assert marks == ["right", "follow from its outflows", "right", "right", f"12.5, not {total[3]}", total[0], "right", "everyone’s",
                         "the page asks for whole thousandths of a vehicle; marked as typed: 12.5"], row
 
 
@@ -534,7 +534,7 @@ def widths(page):
         page.open(lang=lang, study="rocade", law="alinea")
         last = page.script("((x) => [x.textContent, x.getBoundingClientRect().right, x.closest('.wide').getBoundingClientRect().right])"
                            "(document.querySelector('#totals tr.sum td:last-child'))")
-        assert re.match(r"^[+−±][\d.,]+$", last[0]) and 0 < last[1] <= last[2], f"{lang}: the column % is not to be seen: {last}"
+        assert re.match(r"^[+−±][\d.,]+$", last[0]) and 0 < last[1] <= last[2], f"{lang}: the column % is not visible: {last}"
         cut = page.script("[...document.querySelectorAll('.bar > div')].filter((x) => x.textContent && x.scrollWidth > x.clientWidth).map((x) => x.textContent)")
         assert not cut, f"{lang}: {cut} run over their bars"
         assert {"en": "cells alone", "de": "nur die Zellen", "fr": "cellules seules"}[lang] in page.text("bars")
@@ -554,7 +554,7 @@ def languages(page):
                 " && !x.getAttribute('aria-label') && !(x.tagName === 'BUTTON' && x.textContent.trim()) && !x.closest('[hidden]')).map((x) => x.id)")
             assert not unnamed, f"{lang}, {mode}: {unnamed} have no name"
             chooser = {"en": "Choose a file", "de": "Datei wählen", "fr": "Choisir un fichier"}[lang]
-            assert mode == "graded" or (chooser in shown and not page["file"].is_displayed()), "the chooser speaks another language"
+            assert mode == "graded" or (chooser in shown and not page["file"].is_displayed()), "the chooser is in another language"
             spaced = page.script("document.body.innerText")
             alone = re.findall(r".*\d %.*" if lang != "fr" else r".*(?:\d %| [:;?!»]|« |[^\s\d/]:\s).*", spaced)
             assert not alone, f"{lang}, {mode}: a mark or unit has the wrong space before it: {alone}"
@@ -564,7 +564,7 @@ def languages(page):
 
 
 def modules(page):
-    """The modules by themselves, from a server and not in one script: each imports what it uses, so the page is ready and shows the same run."""
+    """The separate modules, from a server and not in one script: each imports what it uses, so the page is ready and shows the same run."""
     folder = page.folder / "modules"
     folder.mkdir()
     for path in [*HERE.glob("*.js"), *HERE.glob("*.mjs")]:
@@ -582,18 +582,18 @@ def modules(page):
             assert page.text(ready), f"{form}: {ready} is empty"
         server.shutdown()
     page.driver.get("about:blank")
-    page.driver.get_log("browser")  # a server's page has no icon
+    page.driver.get_log("browser")  # empties the log: the server has no icon
 
 
 def main():
-    assert not re.search(r'(?:src|href)="(?!data:)', PAGE.read_text().split("<script")[0]), "the page asks for nothing from elsewhere"
+    assert not re.search(r'(?:src|href)="(?!data:)', PAGE.read_text().split("<script")[0]), "the page loads something from elsewhere"
     with tempfile.TemporaryDirectory() as folder:
         page, began = Page(Path(folder)), time.time()
         try:
             for part in (settings, sliders, verdicts, records, no_records, addresses, policy, gate, exercise, paper, graded, widths, languages, modules):
                 part(page)
                 errors = page.driver.get_log("browser")
-                assert not errors, f"{part.__name__}: the console says {errors}"
+                assert not errors, f"{part.__name__}: the console shows {errors}"
         finally:
             page.driver.quit()
     print(f"page: in Chromium {len(SETTINGS)} settings, every example's record and three exercises agree with the command line ({time.time() - began:.0f} s)")

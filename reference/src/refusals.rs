@@ -55,7 +55,7 @@ pub const CALLER_LIMITS: u32 = 26;
 /// the arrivals are no whole number of tables (list 1), or the answers have fewer than 73 numbers a study (list 2)
 pub const MANY_LENGTHS: u32 = 27;
 
-/// A row of the table: the refusal, the operations that give it so, its words.
+/// A row of the table: the refusal, the operations that give it with these words, the words.
 type Row = (u32, &'static [&'static str], &'static str);
 
 #[rustfmt::skip]
@@ -136,7 +136,7 @@ const ROWS: [Row; 37] = [
         "the arrivals are no whole number of tables (list 1), or the answers have fewer than 73 numbers a study (list 2)"),
 ];
 
-/// What a refusal means where an operation gives it, by its name in C; where another one does, if this never gives it.
+/// The words of a refusal for an operation, by its name in C; if this one never gives it, the words for another.
 pub fn words(number: u32, operation: &str) -> &'static str {
     let rows = || ROWS.iter().filter(|row| row.0 == number);
     let found = rows().find(|row| row.1.contains(&operation));

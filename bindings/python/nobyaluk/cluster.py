@@ -14,11 +14,11 @@ from .errors import StudyError, show
 from .parallel import wait_for
 from .workers import Batches, Lost, Run
 
-TIMEOUT = 20  # seconds until a scheduler has answered
+TIMEOUT = 20  # seconds within which a scheduler must answer
 PATIENCE = 60  # seconds that a cluster may be without workers
 LOGGERS = ("distributed", "concurrent.futures", "tornado", "asyncio")  # of Dask
 DASK_TASK = 0.05  # seconds that a task of a cluster should take
-DASK_GROWTH = 64  # how many times as many studies as one a task has at most after it
+DASK_GROWTH = 64  # a task has at most this many times the studies of the one before
 
 _kept = threading.local()
 
@@ -47,7 +47,7 @@ class Cluster:
         for name in (
             *LOGGERS,
             *(x for x in logging.root.manager.loggerDict if x.startswith(LOGGERS)),
-        ):  # their tracebacks; what is lost is reported here
+        ):  # no tracebacks: this module reports what is lost
             logging.getLogger(name).setLevel(logging.CRITICAL + 1)
         try:
             resolve_address(address)
@@ -59,9 +59,9 @@ class Cluster:
             raise NoCluster(f"the scheduler at {address} is not found: {e}") from None
 
         class Client(distributed.Client):
-            """A client that is closed by us, never when Python drops it.
+            """A client that only `Cluster.close` closes, not Python's garbage collector.
 
-            Dropping one that was never open would print a traceback.
+            Collecting one that was never open would print a traceback.
             """
 
             def __del__(self) -> None:
@@ -75,10 +75,10 @@ class Cluster:
             ) from None
         self.executor = self.client.get_executor(
             pure=False
-        )  # a task's key by chance, not by all bytes of its studies
+        )  # a task's key is random, not computed from all bytes of its studies
 
     def watch(self) -> None:
-        """Raise NoCluster where the scheduler is gone or workers are missing for too long."""
+        """Raise NoCluster if the scheduler is gone, or workers are missing for too long."""
         try:
             workers = (
                 len(self.client.scheduler_info()["workers"])
@@ -107,15 +107,15 @@ class Cluster:
             )
 
     def spread(self, items: Iterable[Any], run: Run, lost: Lost) -> Iterator[list[Any]]:
-        """Return what `run` gives of every item, in groups in their order, by its workers.
+        """Return what `run` gives for every item, in groups and in order; workers run them.
 
-        NoCluster where they are lost on the way.
+        NoCluster if the cluster is lost meanwhile.
 
-        A task takes some milliseconds. The items of one at which workers die are run again one by
-        one; of those at which they die then, `lost` gives the answer.
+        A task takes some milliseconds. If workers die while they run it, its items are run again
+        one by one. If workers die again, `lost` gives the answer for that item.
         """
         from distributed import KilledWorker
-        from distributed.protocol.pickle import dumps  # which takes functions of a notebook too
+        from distributed.protocol.pickle import dumps  # it takes functions of a notebook too
 
         self.watch()
         while self.without is not None:
@@ -152,18 +152,18 @@ class Cluster:
                 self.client.cancel([future for future, _ in pending])
 
     def _alone(self, x: Any, future: Future, lost: Lost, killed: type[Exception]) -> Any:
-        """Run one item of a task at which workers died."""
+        """Run one item of a task whose workers died."""
         try:
             return pickle.loads(wait_for(future, self.watch)[1])[0]
         except killed:
             fault = (
-                "workers of the cluster ended at it, again and again; it may need more memory than"
-                " they have"
+                "workers of the cluster ended repeatedly while running it; it may need more memory"
+                " than they have"
             )
             return lost(x, fault)
 
     def close(self) -> None:
-        """Close the connection; one that is lost is left."""
+        """Close the connection; nothing is raised if it is lost."""
         with suppress(Exception):  # whatever a lost connection raises
             self.client.close(timeout=2)
 
@@ -171,20 +171,20 @@ class Cluster:
 def _packed(run: bytes, items: bytes) -> tuple[float, bytes]:
     """Return a task's answers, with the seconds that they took.
 
-    As bytes, so that Dask looks through none of them.
+    They are bytes, so that Dask does not look through them.
     """
-    if getattr(_kept, "bytes", None) != run:  # most tasks of a thread are of one sweep
+    if getattr(_kept, "bytes", None) != run:  # most tasks of a thread belong to one sweep
         _kept.bytes, _kept.run = run, pickle.loads(run)
     wall, own = time.perf_counter(), time.thread_time()
     out = pickle.dumps(_kept.run(pickle.loads(items)))
     return (
         max(time.thread_time() - own, (time.perf_counter() - wall) / 4),
         out,
-    )  # beside other work the time of the clock is longer
+    )  # with other work on the machine the clock's time is longer
 
 
 def connect(address: str) -> tuple[Executor, Any]:
-    """Return an executor over a Dask cluster, and its client to be closed.
+    """Return an executor over a Dask cluster, and its client, which the caller closes.
 
     Its workers need this package too.
     """

@@ -1,11 +1,12 @@
-"""Studies that differ in their arrivals or their laws alone, many of them in a few calls.
+"""Many studies in a few calls, if they differ only in their arrivals or their laws.
 
-`nobyaluk.map` takes it by itself for recipes of `Study.scaled` and `Study.with_stated_load` of one
-study, where a record holds it, every ramp goes by a law or by the record's releases, and nothing is
-weighted; `sweep` does so also for a law's numbers. The arrivals of some studies at a time are made
-by numpy in one table, and no study of its own is made of them. Each answer is what running or
-filling gives of the study by itself; what can't be made is made by itself, so that its fault has
-its words.
+`nobyaluk.map` uses this module for recipes of `Study.scaled` and `Study.with_stated_load` of one
+study. The study must fit one record and have no weights. Either all ramps follow laws, or all use
+the record's releases. `sweep` also uses it for the numbers of a law.
+
+numpy makes the arrivals of some studies at a time in one table; no study objects are made. Each
+answer is what running or filling the study separately gives. A study whose arrivals can't be made
+here is made separately, so that its fault has the usual message.
 """
 import math
 import threading
@@ -23,26 +24,26 @@ from .errors import StudyError
 from .study import Study, load_factor, load_name, seed_name, times_factor
 from .totals import Totals, outflows, totals, totals_and_queues
 
-BITS = 1 << 32  # what arrivals and their sums are below
-TABLES = 1 << 20  # bytes of the arrivals that one call is given
-MOST = 512  # studies of one call
+BITS = 1 << 32  # arrivals and their sums are below it
+TABLES = 1 << 20  # bytes of arrivals in one call, unless one study has more
+MOST = 512  # studies in one call, at most
 QUEUES: dict[Callable[[Study], Any], bool] = {
     totals: False,
     totals_and_queues: True,
-}  # what the batch gives, with the longest queues or without
+}  # what the batch can give, and whether with the longest queues
 
 _kept = threading.local()
 
 
 class Member(NamedTuple):
-    """A study of a batch: what it is called, and the number that its arrivals are made by."""
+    """A study of a batch: its name, and the number from which its arrivals are made."""
 
     name: str
     number: int
 
 
 def kind_of(x: Any) -> tuple[str, int] | None:
-    """Return what a recipe does to which study, alike for those of one batch; None for others."""
+    """Return a recipe's kind, the same for all recipes of one batch; None for other recipes."""
     if not isinstance(x, partial) or x.keywords:
         return None
     made, base = getattr(x.func, "__func__", None), getattr(x.func, "__self__", None)
@@ -56,7 +57,7 @@ def kind_of(x: Any) -> tuple[str, int] | None:
 
 
 def fits(base: Study) -> bool:
-    """Return whether the engine's batch takes studies of this one with other arrivals."""
+    """Return whether the engine's batch can run this study with other arrivals."""
     return (
         isinstance(base.record, Record)
         and base.plan is None
@@ -68,9 +69,9 @@ def fits(base: Study) -> bool:
 def run_together(
     group: Sequence[Any], queues: bool, alone: Callable[[Any], Totals]
 ) -> list[Totals]:
-    """Return the totals of recipes of one kind, with their longest queues or without.
+    """Return the totals of recipes of one kind, with or without their longest queues.
 
-    `alone` gives those of a recipe whose arrivals can't be made here, or whose study has a fault.
+    `alone` runs a recipe whose arrivals can't be made here, or whose study has a fault.
     """
     base = group[0].func.__self__
     if not fits(base):
@@ -85,11 +86,11 @@ def run_together(
     return [alone(x) if member is None else next(found) for x, member in zip(group, members)]
 
 
-Members = list[Member | None]  # None for what is run by itself
+Members = list[Member | None]  # None for a study that is run separately
 
 
 def _loads(base: Study, group: Sequence[partial]) -> tuple["Loads | Seeds", Members]:
-    """Return what makes the arrivals of recipes of loads, and their numbers."""
+    """Return what makes the arrivals for recipes of loads, and the members."""
     factors = [_factor(x.args[0]) for x in group]
     make = Loads(base, math.lcm(*(x.denominator for x in factors if x is not None)))
     members: Members = []
@@ -102,7 +103,7 @@ def _loads(base: Study, group: Sequence[partial]) -> tuple["Loads | Seeds", Memb
 
 
 def _factor(load: Any) -> Fraction | None:
-    """Return what a load multiplies by; None where it is none."""
+    """Return the factor of a load; None if it is not a load."""
     try:
         return load_factor(load)
     except (StudyError, TypeError, ValueError, OverflowError):
@@ -110,12 +111,12 @@ def _factor(load: Any) -> Fraction | None:
 
 
 def _seeds(base: Study, group: Sequence[partial]) -> tuple["Loads | Seeds", Members]:
-    """Return what makes the arrivals of recipes of seeds, and their numbers."""
+    """Return what makes the arrivals for recipes of seeds, and the members."""
     return Seeds(base, *group[0].args[1:]), [_seed(base.name, x.args[0]) for x in group]
 
 
 def _seed(name: str, seed: Any) -> Member | None:
-    """Return a seed and its study's name; None where it is none."""
+    """Return a seed with its study's name; None if it is not a seed."""
     try:
         return Member(seed_name(name, seed), to_unsigned(seed, 32))
     except (TypeError, ValueError):
@@ -125,7 +126,7 @@ def _seed(name: str, seed: Any) -> Member | None:
 class Loads:
     """Tables of a study's arrivals times loads, each rounded to the nearest part, halves up.
 
-    A load is a whole number over the unit, up to a limit where a step would have too many.
+    A load is a whole number over the unit. Above the limit a step would have too many arrivals.
     """
 
     def __init__(self, base: Study, unit: int) -> None:
@@ -134,20 +135,20 @@ class Loads:
         self.limit = engine.RATE * unit
         if self.most:
             self.limit = min(self.limit, (unit * (2 * engine.RATE + 1) - 1) // (2 * self.most))
-        self.sums = np.full_like(self.table, unit % BITS)  # of the last load, before the division
+        self.sums = np.full_like(self.table, unit % BITS)  # for the last load, before the division
         self.last, self.step, self.more = 0, 0, np.zeros_like(self.table)
 
     def fill(self, tops: Sequence[int], out: np.ndarray) -> None:
-        """Make the tables: twice the arrivals times the load and one unit, over two units.
+        """Make the tables: (twice the arrivals times the load, plus one unit) over two units.
 
-        The sums grow by the same from table to table, where the loads do; all are of 32 bits.
+        If the loads grow by equal steps, so do the sums. All of them have 32 bits.
         """
         if 2 * self.most * max(tops) + self.unit >= BITS or 2 * self.unit >= BITS:
             for table, top in zip(out, tops):
                 table[:] = times_factor(self.table, Fraction(top, self.unit))
             return
         sums, more, last, step = self.sums, self.more, self.last, self.step
-        divisor = np.array(2 * self.unit, np.uint32)  # numpy would make one for each table
+        divisor = np.array(2 * self.unit, np.uint32)  # made only once, for speed
         for table, top in zip(out, tops):
             if top - last != step:
                 step = top - last
@@ -167,7 +168,7 @@ class Seeds:
         self.table, self.places = base.record.arrivals, np.array([0, *base.ramps.values()])
         self.peaks = [to_unsigned(x, 32) for x in (peak, ramp_peak)]
         if max(self.peaks) > engine.RATE:
-            raise ValueError("a peak above its limit is refused by itself")
+            raise ValueError("a peak above its limit: each study is run separately")
 
     def fill(self, seeds: Sequence[int], out: np.ndarray) -> None:
         """Make the tables of these seeds: the gate's arrivals, then each ramp's."""
@@ -181,7 +182,7 @@ class Seeds:
 
 
 class Batch:
-    """A study's record, lanes and laws, as the engine's batch takes them."""
+    """A study's record, lanes and laws in the form that the engine's batch takes."""
 
     def __init__(self, base: Study) -> None:
         record = base.record
@@ -192,12 +193,12 @@ class Batch:
             engine.check_laws(record, base.laws)
             self.laws = engine.encode_laws(base.laws)
         data = engine.record_data(record)
-        self.record = np.frombuffer(data, np.uint8).copy()  # the engine puts arrivals into it
+        self.record = np.frombuffer(data, np.uint8).copy()  # the engine writes arrivals into it
 
     def answers(
         self, make: Loads | Seeds, numbers: Sequence[int]
     ) -> Iterator[tuple[np.ndarray, np.ndarray]]:
-        """Yield the entries of studies and their arrivals, some of them by each call."""
+        """Yield the entries of studies and their arrivals, call by call."""
         size = self.steps * (self.n + 1)
         most = max(1, min(MOST, TABLES // (4 * size), len(numbers)))
         tables = _buffer(most * size).reshape(most, self.steps, self.n + 1)
@@ -225,7 +226,7 @@ class Batch:
     def totals(
         self, make: Loads | Seeds, members: Sequence[Member], queues: bool
     ) -> Iterator[Totals]:
-        """Yield the totals of studies; present is what was there or came and has not left."""
+        """Yield the totals of studies; present is the start plus arrivals less exits."""
         start, seconds = self.base.record.start, self.base.seconds
         started = start.gate_queue + sum(start.held[: self.n]) + sum(start.queue[: self.n])
         operation = "run" if self.laws is None else "fill"
@@ -255,13 +256,13 @@ class Batch:
 
 
 class ManyArrivals:
-    """The studies of a sweep, by their numbers: loads or seeds."""
+    """The studies of a sweep of loads or seeds, by their numbers."""
 
     def __init__(self, base: Study, make: Loads | Seeds, numbers: range) -> None:
         self.batch, self.make, self.numbers = Batch(base), make, numbers
 
     def entries(self, ks: Sequence[int]) -> tuple[np.ndarray, list[int]]:
-        """Return the short entries of studies, and which of them must be made by themselves."""
+        """Return the short entries of studies, and which of them must be made separately."""
         numbers, limit = [self.numbers[k] for k in ks], self.make.limit
         alone = [at for at, x in enumerate(numbers) if x > limit]
         for at in alone:
@@ -277,12 +278,12 @@ class ManyLaws:
         self.batch, self.laws = Batch(base), laws
 
     def entries(self, ks: Sequence[int]) -> tuple[np.ndarray, list[int]]:
-        """Return the short entries of studies, and which of them must be made by themselves."""
+        """Return the short entries of studies, and which of them must be made separately."""
         laws: list[tuple[np.ndarray, np.ndarray] | None] = []
         for k in ks:
             try:
                 laws.append(engine.encode_laws(self.laws(k)))
-            except Exception:  # noqa: BLE001 by itself it has its words
+            except Exception:  # noqa: BLE001 run separately, it gives its message
                 laws.append(None)
         found = [(0,) * SHORT if x is None else self.entry(*x) for x in laws]
         return np.array(found, np.uint64), [at for at, x in enumerate(laws) if x is None]
@@ -290,7 +291,7 @@ class ManyLaws:
     def entry(self, kinds: np.ndarray, numbers: np.ndarray) -> tuple[int, ...]:
         """Return the short entry of the study with these laws of the same ramps.
 
-        Releases that the study before has left in the record do not matter.
+        Releases that the study before left in the record have no effect.
         """
         batch = self.batch
         given = (kinds.tobytes(), engine.CELLS, *lend(numbers), batch.lanes, len(batch.lanes))
@@ -301,11 +302,11 @@ class ManyLaws:
         return (e.number, e.step, e.place, *times, e.exits, a.waiting, max(a.ramps[:]))
 
 
-SHORT = 9  # number, step, place; gate, road, ramp time; exits; the gate's and the ramps' queue
+SHORT = 9  # number, step, place; gate, road, ramp time; exits; longest queues of gate and ramps
 
 
 def short_entries(answers: np.ndarray, n: int) -> np.ndarray:
-    """Return what a table needs of the entries of studies of n cells, in their own place."""
+    """Return the columns of entries of n cells that a table needs; changes the entries."""
     out = answers[:, :SHORT]
     out[:, 7] = out[:, 8]  # the gate's queue without the step's arrivals
     np.max(answers[:, SHORT : SHORT + n], axis=1, out=out[:, 8])
@@ -313,13 +314,13 @@ def short_entries(answers: np.ndarray, n: int) -> np.ndarray:
 
 
 def _sums(tables: np.ndarray) -> list[int]:
-    """Return the sum of each table; in 32 bits, which is faster, where no sum passes them."""
+    """Return the sum of each table, in 32 bits if every sum fits, which is faster."""
     narrow = int(tables.max()) * tables.shape[1] < BITS
     return tables.sum(axis=1, dtype=np.uint32 if narrow else np.uint64).tolist()
 
 
 def _buffer(count: int) -> np.ndarray:
-    """Return a list of this thread's for so many arrivals, kept for the next call."""
+    """Return this thread's list for so many arrivals; it is kept for the next call."""
     kept = getattr(_kept, "list", None)
     if kept is None or kept.size < count:
         kept = _kept.list = np.empty(max(count, TABLES // 4), np.uint32)

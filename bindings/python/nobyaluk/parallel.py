@@ -1,10 +1,10 @@
-"""Many studies at once, by threads of this machine or by any executor.
+"""Many studies at once, in threads of this machine or by any executor.
 
 An executor of `concurrent.futures` may be a cluster's.
 
-A call of the engine gives up Python's lock and the engine keeps no state, so threads run side by
-side. A run is short, though: where variants are made in Python on the way, processes do more.
-Studies travel to them as their records' bytes, variants as recipes.
+A call of the engine releases Python's lock and the engine keeps no state, so threads run in
+parallel. A run is short, though: if Python also makes the variants, processes are faster. They
+receive studies as the bytes of records, and variants as recipes.
 """
 import time
 from collections import deque
@@ -22,17 +22,17 @@ from .study import Study, load
 from .totals import Totals, totals, totals_and_queues
 from .workers import Batches, Lost, Run, Workers, processors
 
-PATROL = 5  # seconds between two looks at a cluster whose answer is waited for
-PAYS = 0.25  # seconds of work left for which processes are started
+PATROL = 5  # seconds between two checks of a cluster while waiting for its answer
+PAYS = 0.25  # processes are started if more than these seconds of work are left
 
 
 Recipe = Callable[[], Study]  # as functools.partial(study.scaled, 1.05)
 
 
 def run_group(each: Callable[[Study], Any], group: list[Study | str | Recipe]) -> list[Any]:
-    """Return what `each` gives of every study of a group.
+    """Return what `each` gives for every study of a group.
 
-    Totals of studies that differ in their arrivals alone are the engine's of many at once.
+    Totals of studies that differ only in their arrivals come from the engine's batch.
     """
     if each not in many.QUEUES:
         return [_one(each, x) for x in group]
@@ -46,13 +46,13 @@ def run_group(each: Callable[[Study], Any], group: list[Study | str | Recipe]) -
 
 
 def _one(each: Callable[[Study], Any], x: Study | str | Recipe) -> Any:
-    """Return what `each` gives of a study.
+    """Return what `each` gives for a study.
 
-    Where totals are wanted, a study that can't be made or run has its fault in them.
+    If `each` gives totals, a study that can't be made or run has its fault in them.
     """
     try:
         return each(x if isinstance(x, Study) else x() if callable(x) else load(x))
-    except Exception as e:  # noqa: BLE001 whatever is wrong with one study, the others go on
+    except Exception as e:  # noqa: BLE001 no fault of one study may stop the others
         if each not in (totals, totals_and_queues):
             raise
         known = isinstance(e, (StudyError, Refused))
@@ -64,7 +64,7 @@ def _one(each: Callable[[Study], Any], x: Study | str | Recipe) -> Any:
 
 
 def describe_study(x: Study | str | Recipe) -> str:
-    """Return what a study is called before it is made."""
+    """Return the name of a study that may not be made yet."""
     if isinstance(x, Study):
         return x.name
     if not isinstance(x, partial):
@@ -83,12 +83,12 @@ def describe_study(x: Study | str | Recipe) -> str:
 
 
 def lost_totals(x: Study | str | Recipe, fault: str) -> Totals:
-    """Return the totals of a study at which processes died."""
+    """Return the totals of a study whose processes died."""
     return Totals(describe_study(x), fault=fault)
 
 
 def wait_for(future: Future, watch: Callable[[], None] | None) -> Any:
-    """Return a task's answer; while it is waited for, `watch` looks whether anybody works on it."""
+    """Return a task's answer; meanwhile `watch` checks that it still has a worker."""
     while True:
         try:
             return future.result(PATROL if watch else None)
@@ -108,13 +108,13 @@ def map(
     progress: Callable[[int], None] | None = None,
     watch: Callable[[], None] | None = None,
 ) -> Iterator[Any]:
-    """Return what `each` gives of every study, path or recipe of one, in their order.
+    """Return what `each` gives for every study, path or recipe, in their order.
 
-    By threads of this machine, or by the executor given.
+    Threads of this machine run them, or the given executor.
 
-    Studies are taken as they are needed, `batch` of them a task, so that thousands need no memory
-    at once. A study that is refused, or that can't be made, has that in its `Totals`, and the
-    others go on. `watch` is called while an answer is waited for, and may raise.
+    Studies are taken when they are needed, `batch` per task, so thousands are never in memory at
+    once. A study that is refused, or that can't be made, has that in its `Totals`, and the others
+    go on. `watch` is called while `map` waits for an answer, and may raise.
 
     Parameters
     ----------
@@ -123,15 +123,15 @@ def map(
     executor : concurrent.futures.Executor, optional
         Default: threads of this machine.
     each : callable
-        What is wanted of a study; default: `totals`.
+        The function that is called with each study; default: `totals`.
     workers : int, optional
-        Threads, at most as many as processors.
+        Number of threads, at most the number of processors.
     batch : int
-        Studies of one task.
+        Number of studies in one task.
     progress : callable, optional
         Called with the number of studies done.
     watch : callable, optional
-        Called while an answer is waited for; it may raise.
+        Called while `map` waits for an answer; it may raise.
 
     Returns
     -------
@@ -178,17 +178,17 @@ def spread(
     each: Callable[[Study], Any] = totals,
     workers: int | None = None,
 ) -> Iterator[list[Any]]:
-    """Return what `each` gives of so many studies, in groups in their order, as `spread_run`."""
+    """Return what `each` gives for so many studies, in groups and in order; see `spread_run`."""
     return spread_run(studies, count, partial(run_group, each), lost_totals, workers)
 
 
 def spread_run(
     items: Iterable[Any], count: int, run: Run, lost: Lost, workers: int | None = None
 ) -> Iterator[list[Any]]:
-    """Return what `run` gives of so many items, in groups in their order.
+    """Return what `run` gives for so many items, in groups and in order.
 
-    Here, or by processes as soon as the time that is left pays for them. There are at most as many
-    processes as processors and items; `lost` gives the answer of an item at which they die.
+    This process runs them; it starts other processes if enough work is left. There are at most as
+    many as processors and items. `lost` gives the answer for an item whose processes die.
     """
     most, batches, done = min(workers or processors(), processors(), count), Batches(items), 0
     while group := batches.next():

@@ -11,9 +11,9 @@ EVERY = 3  # seconds between two lines
 
 
 class Progress:
-    """Shows progress; it is called with the number that are done, and closed at the end.
+    """Shows progress within a with-block; it is called with the number of items done.
 
-    The rate leaves out the `begun` that were done before, and the time until the first call.
+    The rate leaves out the `begun` items of an earlier run, and the time until the first call.
     """
 
     def __init__(self, of: int, what: str, begun: int = 0, bar: bool = True) -> None:
@@ -41,7 +41,7 @@ class Progress:
             self.bar.close()
 
     def __call__(self, done: int) -> None:
-        """Show that `done` are done."""
+        """Show that `done` items are done."""
         if self.bar is not None:
             self.bar.update(done - self.bar.n)
             return
@@ -52,14 +52,14 @@ class Progress:
             print(f"nobyaluk: {self.line(done, now)}", file=sys.stderr)
 
     def line(self, done: int, now: float) -> str:
-        """Return a line: how many are done, the time, the rate and the time left."""
+        """Return a line: the number done, the time taken, the rate and the time left."""
         since, before = self.first or (now, done)
-        said = f"{done:,} of {self.of:,} {self.what}, {_clock(now - self.began)}"
+        text = f"{done:,} of {self.of:,} {self.what}, {_clock(now - self.began)}"
         if done == before or now <= since:
-            return said
+            return text
         rate = (done - before) / (now - since)
         return (
-            f"{said}, {rate:,.{0 if rate >= 10 else 1}f} a second,"
+            f"{text}, {rate:,.{0 if rate >= 10 else 1}f} a second,"
             f" {_clock((self.of - done) / rate)} left"
         )
 
@@ -70,7 +70,7 @@ def _tqdm() -> Callable[..., Any] | None:
         from tqdm import tqdm
     except ImportError:
         return None
-    tqdm.monitor_interval = 0  # no own thread: processes are forked while it runs
+    tqdm.monitor_interval = 0  # no separate thread: processes are forked while it runs
     return tqdm
 
 

@@ -45,7 +45,7 @@ class Meaning(NamedTuple):
     words: str
 
 
-# a refusal, the operations that give it so, what its place is, its words
+# a refusal, the operations that give it with these words, what its place is, the words
 _ROWS: list[tuple[Refusal, str, str, str]] = [
     (
         Refusal.LENGTH,
@@ -288,7 +288,7 @@ _ROWS: list[tuple[Refusal, str, str, str]] = [
     ),
 ]
 
-# operations that answer as another one does, with something more
+# operations that answer like another one, and give something more
 _SAME = {"run_weighted": "run", "run_longest": "run", "fill_longest": "fill"}
 _MEANINGS = {
     (refusal, operation): Meaning(place, words)

@@ -1,4 +1,4 @@
-"""The numbers of LOW:HIGH:STEP, exactly and as they are written."""
+"""The numbers of LOW:HIGH:STEP, as exact fractions and as decimal text."""
 from decimal import Decimal, localcontext
 from fractions import Fraction
 
@@ -6,9 +6,9 @@ MOST_PLACES = 100  # decimals that are written out
 
 
 class Span:
-    """Whole numbers, one after the other by equal steps, over one unit.
+    """Whole numbers in equal steps, over one unit.
 
-    A Fraction is made of one only when it is asked for.
+    A number becomes a Fraction only when it is requested.
     """
 
     def __init__(self, tops: range, unit: int) -> None:
@@ -23,7 +23,7 @@ class Span:
         return Fraction(self.tops[k], self.unit)
 
     def text(self, k: int) -> str:
-        """Return number k, as it would be written."""
+        """Return number k as decimal text."""
         places, top = self.places, self.tops[k]
         if places is None:
             return _text_of_many_places(self[k])
@@ -34,7 +34,7 @@ class Span:
 
 
 def _text_of_many_places(x: Fraction) -> str:
-    """Return a number of a unit with too many decimals; its own may be fewer."""
+    """Return the text of a number whose unit has too many decimals; its own may be fewer."""
     alone = Span(range(x.numerator, x.numerator + 1), x.denominator)
     if alone.places is not None:
         return alone.text(0)

@@ -1,7 +1,7 @@
-"""A sweep's table, written as its rows come.
+"""The table of a sweep, written while its studies run.
 
-They go to FILE.part, which becomes FILE when all are there; a sweep that was interrupted goes on
-with it. Rows for standard output, a device or a pipe are written there.
+Rows go to FILE.part, which becomes FILE when all of them are there. An interrupted sweep continues
+from FILE.part. Rows for standard output, a device or a pipe are written to it directly.
 """
 import csv
 import fcntl
@@ -31,18 +31,18 @@ from .totals import Totals, totals_and_queues
 PARTS = ("total", "gate", "road", "ramp")
 ROW = "%s,%.4f,%.4f,%.4f,%.4f,%d%s,%d%s,%d%s,\n"  # with numbers, without a weighted total
 THOUSANDTHS = np.array([repr(x / 1000)[1:] for x in range(1000)], object)  # as .0 and .125
-PATIENCE = 3  # seconds that a file may still be held by processes of a sweep that was killed
+PATIENCE = 3  # seconds to wait for a file that processes of a killed sweep may still hold
 
 
 class Terminated(BaseException):
-    """SIGTERM came, as from a batch system whose time is up."""
+    """The process received SIGTERM, as from a batch system at its time limit."""
 
 
 @contextmanager
 def raise_on_sigterm() -> Iterator[None]:
-    """Raise Terminated on SIGTERM within a with-block, so that processes are ended.
+    """Raise Terminated on SIGTERM within a with-block, so that its processes are ended.
 
-    Outside the main thread SIGTERM stays as it is.
+    Outside the main thread the handler of SIGTERM stays unchanged.
     """
 
     def end(*_: Any) -> None:
@@ -59,7 +59,7 @@ def raise_on_sigterm() -> Iterator[None]:
 
 
 class SweepRows:
-    """The heading and the rows of a sweep, in vehicle-hours or vehicle-steps, as lines of CSV."""
+    """The heading and the rows of a sweep as lines of CSV, in vehicle-hours or vehicle-steps."""
 
     def __init__(self, sweep: Sweep, s: Study) -> None:
         self.sweep, self.weighed = sweep, s.weights is not None
@@ -78,14 +78,14 @@ class SweepRows:
 
     @cached_property
     def together(self) -> ManyArrivals | ManyLaws | None:
-        """What runs many studies in a few calls; None where each is run alone."""
+        """What runs many studies in a few calls; None if each is run separately."""
         try:
             return self.sweep.together()
-        except (StudyError, ValueError, TypeError):  # each study says it
+        except (StudyError, ValueError, TypeError):  # each study reports its own fault
             return None
 
     def run(self, each: Callable[[Study], Totals], items: Sequence[Any]) -> list[str]:
-        """Return the rows of studies, given by their numbers, or by numbers and studies."""
+        """Return the rows of studies, given as numbers or as pairs of number and study."""
         if each is not totals_and_queues or self.together is None:
             return self.run_alone(each, items)
         entries, alone = self.together.entries(items)
@@ -95,7 +95,7 @@ class SweepRows:
         return lines
 
     def run_alone(self, each: Callable[[Study], Totals], items: Sequence[Any]) -> list[str]:
-        """Return the rows of studies that are made one by one."""
+        """Return the rows of studies, each made separately."""
         pairs = [(x, self.sweep.study(x)) if isinstance(x, int) else x for x in items]
         found = parallel.run_group(each, [study for _, study in pairs])
         return [self.line(k, t) for (k, _), t in zip(pairs, found)]
@@ -104,7 +104,7 @@ class SweepRows:
         """Return the rows of short entries."""
         texts, (gate, road, ramp) = self.sweep.texts(ks), entries[:, 3:6].T * self.factor
         columns = [gate + road + ramp, gate, road, ramp]
-        for whole, part in zip(*np.divmod(entries[:, [7, 8, 6]].T, 1000)):  # queues, and what left
+        for whole, part in zip(*np.divmod(entries[:, [7, 8, 6]].T, 1000)):  # queues and exits
             columns += [whole, THOUSANDTHS[part]]
         out = [ROW % row for row in zip(texts, *[x.tolist() for x in columns])]
         for at in np.flatnonzero(entries[:, 0]).tolist():
@@ -113,15 +113,15 @@ class SweepRows:
         return out
 
     def line(self, k: int, t: Totals) -> str:
-        """Return study k's row; the last column is empty, or says why there are no numbers."""
+        """Return study k's row; if it has no numbers, its last column gives the reason."""
         (text,) = self.sweep.texts([k])
         if t.refused or t.fault:
-            why = csv_safe(" ".join((t.fault or "").split()))  # one line, as a row is
+            why = csv_safe(" ".join((t.fault or "").split()))  # a row is one line
             if t.refused:
                 why = t.refused.line.removeprefix("refused ")
             numbers: list[Any] = [""] * (len(self.heading) - len(self.sweep.axes) - 1)
             return f"{text},{csv_line([*numbers, why])}"
-        if t.seconds is not self.seconds:  # of one study they are one object
+        if t.seconds is not self.seconds:  # variants of one study share this object
             self.seconds, self.factor = t.seconds, summary.per_hour(t.seconds)[0]
         factor = self.factor
         gate, road, ramp = t.gate * factor, t.road * factor, t.ramp * factor
@@ -139,7 +139,7 @@ class SweepRows:
         return f"{text},{csv_line([*numbers, ''])}"
 
     def lost(self, item: Any, fault: str) -> str:
-        """Return the row of a study at which processes died."""
+        """Return the row of a study whose processes died."""
         return self.line(item if isinstance(item, int) else item[0], Totals("", fault=fault))
 
 
@@ -151,9 +151,9 @@ def csv_line(row: Sequence[Any]) -> str:
 
 
 class SweepTable:
-    """Where the rows go, and how many of them were refused or failed.
+    """The file for the rows, and how many of them were refused or failed.
 
-    `done` of them are there; a with-block ends it, and leaves them where something goes wrong.
+    It has `done` rows. The with-block's end closes it; after an error the rows stay in FILE.part.
     """
 
     def __init__(
@@ -172,15 +172,14 @@ class SweepTable:
             self._open(self.part, f"# nobyaluk sweep {sum_}\n", resume, force)
         elif resume:
             raise StudyError(
-                "--resume goes on with a file: it needs -o FILE.csv, as the sweep that was"
-                " interrupted had it"
+                "--resume continues a file: it needs the -o FILE.csv of the interrupted sweep"
             )
 
     def _open(self, part: Path, mark: str, resume: bool, force: bool) -> None:
-        """Open the file with the rows that are there already, or a new one."""
+        """Open the file that already has rows, or a new one."""
         try:
             self.file = part.open("a+", encoding="utf-8", newline="")
-            self._alone()
+            self._lock()
             self.file.seek(0)
             there = self.file.read()
         except (OSError, UnicodeDecodeError) as e:
@@ -192,14 +191,14 @@ class SweepTable:
         elif there.count("\n") > 2 and not force:
             raise StudyError(
                 f"{self.part}: a sweep was interrupted after {there.count(chr(10)) - 2:,} rows;"
-                " --resume goes on with it, --force starts anew"
+                " --resume continues it, --force starts again"
             )
         else:
             self.file.truncate(0)
             self.file.write(mark)
 
-    def _alone(self) -> None:
-        """Wait until nobody else writes the file; a fault where somebody does."""
+    def _lock(self) -> None:
+        """Wait until no other process writes the file; StudyError if one still does."""
         end = time.monotonic() + PATIENCE
         while True:
             try:
@@ -210,7 +209,7 @@ class SweepTable:
                 time.sleep(0.1)
 
     def _resume(self, there: str, mark: str) -> None:
-        """Go on after the last whole row; a fault where the rows are another sweep's."""
+        """Continue after the last whole row; StudyError if the rows are another sweep's."""
         whole = there[: there.rfind("\n") + 1]
         try:
             rows = list(csv.reader(io.StringIO(whole.removeprefix(mark), newline="")))
@@ -226,7 +225,7 @@ class SweepTable:
         ):
             raise StudyError(
                 f"{self.part}: these are rows of another sweep, or the study has changed; --force"
-                " starts anew"
+                " starts again"
             )
         for row in rows[1:]:
             self.count(row[-1])
@@ -235,7 +234,7 @@ class SweepTable:
         self.file.seek(0, os.SEEK_END)
 
     def write(self, text: str) -> None:
-        """Write rows at once, so that no row is there by half."""
+        """Write rows in one call, so that no row is written in part."""
         try:
             self.file.write(text)
             self.file.flush()
@@ -249,15 +248,15 @@ class SweepTable:
             ) from None
 
     def add(self, lines: Sequence[str]) -> None:
-        """Write the rows of the next studies; the heading comes with the first."""
+        """Write the rows of the next studies; the heading comes before the first."""
         for line in lines:
-            if not line.endswith(",\n"):  # its last column says something
+            if not line.endswith(",\n"):  # its last column is not empty
                 self.count(next(csv.reader([line]))[-1])
         self.write("".join([*[csv_line(self.rows.heading)] * (not self.done), *lines]))
         self.done += len(lines)
 
     def count(self, why: str) -> None:
-        """Count what the last column of a row says."""
+        """Count a row as refused or failed, by its last column."""
         if re.fullmatch(r"\d+ \d+ \d+", why):
             self.refused += 1
         elif why:
@@ -265,15 +264,15 @@ class SweepTable:
             self.first = self.first or why
 
     def where(self) -> str:
-        """Return what is left after an interruption, and how the sweep goes on.
+        """Return the message after an interruption: the rows that are there, and how to continue.
 
-        Nothing where no row is there.
+        It is empty if there are no rows.
         """
         if self.part is None or not self.done:
             return ""
         return (
             f"{self.part} has {self.done:,} of {len(self.rows.sweep):,} rows; the same command with"
-            " --resume goes on"
+            " --resume continues"
         )
 
     def __enter__(self) -> "SweepTable":
@@ -288,6 +287,6 @@ class SweepTable:
             if self.part is not None and (kind is None or not self.done):
                 self.part.unlink(missing_ok=True)
         finally:
-            with suppress(OSError):  # what could not be written is reported already
+            with suppress(OSError):  # a failed write has been reported already
                 if self.file is not sys.stdout:
                     self.file.close()

@@ -14,10 +14,10 @@ from .variants import Variants
 
 
 class Sweep:
-    """The columns' names and their numbers; all pairs of two columns are studies."""
+    """The names and the numbers of the columns; with two columns, each pair is a study."""
 
-    reads_files = False  # whether files are read for each study, which a cluster may not see
-    source: Any = ""  # what else the studies are made of, for their sum
+    reads_files = False  # whether each study reads files, which a cluster may not see
+    source: Any = ""  # what else the studies depend on, for the checksum
 
     def __init__(self, names: list[str], axes: list[Span]) -> None:
         self.names, self.axes = names, axes
@@ -26,7 +26,7 @@ class Sweep:
         return math.prod(len(x) for x in self.axes)
 
     def positions(self, k: int) -> list[tuple[Span, int]]:
-        """Return where the numbers of study k are; the last column's change first."""
+        """Return the positions of study k's numbers; those of the last column change first."""
         out = []
         for axis in reversed(self.axes):
             k, at = divmod(k, len(axis))
@@ -38,29 +38,29 @@ class Sweep:
         return [axis[at] for axis, at in self.positions(k)]
 
     def texts(self, ks: Iterable[int]) -> list[str]:
-        """Return the numbers of studies, as rows of CSV begin with them."""
+        """Return the numbers of studies as text; each row of CSV begins with them."""
         if len(self.axes) == 1:
             return [self.axes[0].text(k) for k in ks]
         return [",".join([axis.text(at) for axis, at in self.positions(k)]) for k in ks]
 
     def study(self, k: int) -> Study | Callable[[], Study]:
-        """Return study k, or a recipe of it."""
+        """Return study k, or a recipe for it."""
         raise NotImplementedError
 
     def together(self) -> ManyArrivals | ManyLaws | None:
-        """Return what runs many of the studies in a few calls; None where each is run alone."""
+        """Return what runs many studies in a few calls; None if each is run separately."""
         return None
 
     def items(self, begin: int) -> Iterable[Any]:
-        """Return what a cluster is given for each study from one on: its number.
+        """Return what a cluster receives for each study from `begin` on: its number.
 
-        With the study, where files are read for it.
+        If studies read files, it receives the study too.
         """
         left = range(begin, len(self))
         return ((k, self.study(k)) for k in left) if self.reads_files else left
 
     def sum(self, s: Study) -> str:
-        """Return a sum of all that the rows depend on."""
+        """Return a checksum of all that the rows depend on."""
         r = s.record
         record = (
             r.data
@@ -85,18 +85,18 @@ class Sweep:
 
 
 class LoadSweep(Sweep):
-    """A study with all its arrivals times each load."""
+    """A study with all its arrivals multiplied by each load."""
 
     def __init__(self, base: Study, loads: Span) -> None:
         super().__init__(["load"], [loads])
         self.base, self.loads = base, loads
 
     def study(self, k: int) -> Callable[[], Study]:
-        """Return a recipe of the study with load k."""
+        """Return a recipe for the study with load k."""
         return partial(self.base.scaled, self.loads[k])
 
     def together(self) -> ManyArrivals | None:
-        """Return what runs many loads at once, where the engine's batch takes the study."""
+        """Return what runs many loads at once, if the engine's batch takes the study."""
         if not many.fits(self.base):
             return None
         make = many.Loads(self.base, self.loads.unit)
@@ -111,11 +111,11 @@ class SeedSweep(Sweep):
         self.base, self.seeds, self.source = base, seeds, peaks
 
     def study(self, k: int) -> Callable[[], Study]:
-        """Return a recipe of the study of seed k."""
+        """Return a recipe for the study of seed k."""
         return partial(self.base.with_stated_load, self.seeds.tops[k], *self.source)
 
     def together(self) -> ManyArrivals | None:
-        """Return what runs many seeds at once, where the engine's batch takes the study."""
+        """Return what runs many seeds at once, if the engine's batch takes the study."""
         if not many.fits(self.base):
             return None
         make = many.Seeds(self.base, *self.source)
@@ -131,16 +131,16 @@ class VariantSweep(Sweep):
         self.reads_files = variants.needs_files
 
     def study(self, k: int) -> Study | Callable[[], Study]:
-        """Return a recipe of variant k; the variant itself, where files are read for it."""
+        """Return a recipe for variant k, or the variant itself if variants read files."""
         if not self.reads_files:
             return partial(self.variants.study, *self.values(k))
         try:
             return self.variants.study(*self.values(k))
-        except Exception as e:  # noqa: B902 the row says it, and the others go on
+        except Exception as e:  # noqa: B902 its row has the fault, and the others go on
             return partial(_raise_fault, e)
 
     def together(self) -> ManyLaws | None:
-        """Return what fills the record by many laws, where only their numbers differ."""
+        """Return what fills the record by many laws, if only their numbers differ."""
         base = self.variants.base
         if not (self.variants.only_laws and base.laws and many.fits(base)):
             return None
@@ -148,5 +148,5 @@ class VariantSweep(Sweep):
 
 
 def _raise_fault(e: Exception) -> Study:
-    """Raise what was wrong with a variant, in place of making it."""
+    """Raise the fault of a variant instead of making it."""
     raise e

@@ -23,19 +23,19 @@ class Totals(NamedTuple):
     Attributes
     ----------
     name : str
-        Of the study.
+        The name of the study.
     total, gate, road, ramp : int
         Time spent in all, at the gate, on the road and at the ramps, in part-steps.
     exits, present : int
         What has left the system, and what is in it after the last step, in parts.
     weighted : int or None
-        The weighted total in part-steps, where the study has weights.
+        The weighted total in part-steps, if the study has weights.
     longest_gate_queue, longest_ramp_queue : int or None
-        Parts, the gate's without the step's arrivals; None where they were not asked for.
+        In parts, the gate's without the step's arrivals; None if they were not requested.
     refused : Refused or None
         The engine's refusal.
     seconds : Fraction or None
-        Of a step.
+        The seconds of a step.
     fault : str or None
         Why the study could not be made.
     """
@@ -59,7 +59,7 @@ _lent = threading.local()
 
 
 def outflows() -> tuple[int, int]:
-    """Return a list of this thread's for outflows that nobody keeps: where it is, and how long."""
+    """Return this thread's list for outflows that are not kept: its address and its length."""
     try:
         return _lent.at
     except AttributeError:
@@ -69,7 +69,7 @@ def outflows() -> tuple[int, int]:
 
 
 def _copied(data: bytes) -> int:
-    """Return where this thread has a copy of a record, until the next one."""
+    """Return the address of this thread's copy of a record; the next call overwrites it."""
     try:
         at = _lent.record_at
     except AttributeError:
@@ -80,7 +80,7 @@ def _copied(data: bytes) -> int:
 
 
 def totals(study: Study) -> Totals:
-    """Return the totals of a study alone; its tables are not kept.
+    """Return only the totals of a study; its tables are not kept.
 
     Parameters
     ----------
@@ -89,7 +89,7 @@ def totals(study: Study) -> Totals:
     Returns
     -------
     Totals
-        In part-steps and parts; its tables are not kept.
+        In part-steps and parts.
     """
     return _totals(study, False)
 
@@ -100,7 +100,7 @@ def totals_and_queues(study: Study) -> Totals:
 
 
 def _totals(study: Study, queues: bool) -> Totals:
-    """Return the totals, with the longest queues or without."""
+    """Return the totals, with or without the longest queues."""
     try:
         if (
             study.plan is not None
@@ -116,7 +116,7 @@ def _totals(study: Study, queues: bool) -> Totals:
 
 
 def _of_run(study: Study, queues: bool) -> Totals:
-    """Return the totals of a study that no one call of the engine runs."""
+    """Return the totals of a study from its whole run."""
     r = study.run_engine()
     return Totals(
         study.name,
@@ -133,13 +133,13 @@ def _of_run(study: Study, queues: bool) -> Totals:
 
 
 def _of_record(study: Study, record: engine.Record, queues: bool) -> Totals:
-    """Return the totals of a study that is a record, run or filled by laws, by one call."""
+    """Return the totals of a study of one record; one call runs it or fills it by laws."""
     data, lanes = engine.record_data(record), to_bytes(study.lanes)
     waiting = ramp = None
     if study.laws:
         kinds, numbers = engine.encode_laws(study.laws)
         engine.check_laws(record, study.laws)
-        at = _copied(data)  # the engine puts releases into it
+        at = _copied(data)  # the engine writes releases into it
         given = (kinds.tobytes(), engine.CELLS, *lend(numbers), lanes, len(lanes), *outflows())
         a = library.fill_longest(at, len(data), *given)
         e = a.ended

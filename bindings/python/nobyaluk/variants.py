@@ -1,6 +1,6 @@
 """Variants of a study's file: other numbers at some of its keys.
 
-The file and its tables are read once, and of each variant only what its keys reach is worked out
+The file and its tables are read once. For each variant only what depends on its keys is computed
 again.
 """
 import copy
@@ -16,13 +16,13 @@ from .errors import StudyError, TomlTable, show
 from .study import Study, load_before
 from .toml_reader import MeterTable, StudyReader, StudySource, read_source
 
-LAST = {"meter", "closure", "weights"}  # tables that nothing else of a study depends on
+LAST = {"meter", "closure", "weights"}  # tables on which nothing else in a study depends
 ROAD = {"gate", "defaults", "cell"}  # tables on which arrivals and plans do not depend
-MOST_KEY = 200  # letters of a key
+MOST_KEY = 200  # letters in a key, at most
 
 
 class _First(StudyReader):
-    """A reader that keeps what other readers of the same tables may take from it."""
+    """A reader that keeps its rows and plan for other readers of the same tables."""
 
     def releases(self, road: engine.Road, rows: np.ndarray) -> tuple[np.ndarray | None, list[str]]:
         self.plan, self.tabled = super().releases(road, rows)
@@ -45,9 +45,9 @@ class _Again(StudyReader):
 
 
 class Variants:
-    """A study's file with numbers at these keys.
+    """A study's file with other numbers at these keys.
 
-    `meter.all.rate`, `defaults.capacity`, `cell.3.capacity` (cells and lists from 1).
+    Keys are as `meter.all.rate`, `defaults.capacity` or `cell.3.capacity`; lists count from 1.
     """
 
     def __init__(self, path: str | Path, keys: Sequence[str]) -> None:
@@ -70,17 +70,17 @@ class Variants:
         )
         self.needs_files = not (
             self.tables <= LAST or road
-        )  # whether a variant reads the study's other files anew
+        )  # whether each variant reads the study's other files again
         self.only_laws = self.tables == {"meter"} and all(
             x is not None and way[2] != "law" for x, way in zip(there, self.ways)
-        )  # whether a variant has other numbers in laws that are there, and nothing else
-        self.meters: list[MeterTable] = []  # those that have these laws
+        )  # whether variants differ only in numbers of laws that the file has
+        self.meters: list[MeterTable] = []  # the tables of these laws
         if self.only_laws:
             meters = self.reader.meters(self.reader.tabled, self.reader.plan is not None)
             self.meters = [x for x in meters if x.name in {way[1] for way in self.ways}]
 
     def _find(self, key: str) -> Any:
-        """Return what the file has at this key; StudyError where there is nothing to vary."""
+        """Return what the file has at this key; StudyError if there is nothing to vary."""
         if len(key) > MOST_KEY:
             raise StudyError(f"{self.path}: there is no {show(key)} to vary")
         *way, last = key.split(".")
@@ -95,13 +95,13 @@ class Variants:
             or not isinstance(at, (dict, list))
             or isinstance(there, (dict, list))
         ):
-            raise StudyError(f"{self.path}: `{key}` is no number to vary")
+            raise StudyError(f"{self.path}: `{key}` is not a number to vary")
         return there
 
     def study(self, *values: Fraction) -> Study:
         """Return the study with these numbers at the keys.
 
-        A fault where they are out of their limits.
+        StudyError if one of them is out of its limits.
         """
         source = self._source(values)
         if self.needs_files:
@@ -123,7 +123,7 @@ class Variants:
         return study
 
     def laws(self, values: Sequence[Fraction]) -> dict[int, tuple]:
-        """Return the laws with these numbers at the keys, where they are all that differs."""
+        """Return the laws with these numbers at the keys, if nothing else differs."""
         top, laws = self._source(values).values["meter"], self.base.laws.copy()
         for meter in self.meters:
             table = TomlTable(top[meter.name], meter.table.where)
@@ -139,7 +139,7 @@ class Variants:
 
 
 def _with(at: Any, way: list[str], x: Fraction) -> Any:
-    """Return tables with another number at the end of the way; what is not on it is shared."""
+    """Return copies of tables with another number at a key; unchanged parts are shared."""
     new, word = at.copy(), way[0]
     key = int(word) - 1 if isinstance(at, list) else word
     new[key] = x if len(way) == 1 else _with(at[key], way[1:], x)
@@ -149,7 +149,7 @@ def _with(at: Any, way: list[str], x: Fraction) -> Any:
 def get_at(table: Any, word: str) -> Any:
     """Return what a table has at a key, or a list at a number from 1.
 
-    None where it has nothing there.
+    None if it has nothing there.
     """
     if isinstance(table, list):
         k = int(word) if word.isdecimal() and len(word) < 9 else 0

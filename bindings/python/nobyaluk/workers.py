@@ -1,10 +1,10 @@
-"""Processes of this machine that run studies, each by a pipe of its own.
+"""Processes of this machine that run studies, each with its own pipe.
 
-One that dies takes no other with it.
+If one dies, the others go on.
 
-The studies of a process that dies (killed, or out of memory) are run again, one by one; a study at
-which two have died is given as lost, and the others go on. When the parent ends, however it does,
-its processes end too.
+The studies of a process that dies (killed, or out of memory) are run again, one by one. If two
+processes die while they run one study, it counts as lost, and the others go on. When the parent
+ends, for whatever reason, its processes end too.
 """
 import multiprocessing
 import os
@@ -20,15 +20,15 @@ from multiprocessing.connection import Connection, wait
 from typing import Any, NamedTuple
 
 TASK = 0.02  # seconds that a task should take
-MOST = 1024  # studies of a task
-GROWTH = 4  # how many times as many studies as one a task has at most after it
-AHEAD = 64  # tasks whose answers may wait for one before them
-DEATHS = 2  # of processes at one study, until it is given as lost
+MOST = 1024  # studies in a task, at most
+GROWTH = 4  # a task has at most this many times the studies of the one before
+AHEAD = 64  # tasks that may be started before the oldest one has its answers
+DEATHS = 2  # deaths of processes after which a study counts as lost
 SIGNALS = {signal.SIGINT, signal.SIGTERM}
-PATROL = 0.5  # seconds between two looks at the parent
+PATROL = 0.5  # seconds between two checks that the parent runs
 
 Run = Callable[[list[Any]], list[Any]]
-Lost = Callable[[Any, str], Any]  # the answer of a study at which processes die, and what is said
+Lost = Callable[[Any, str], Any]  # a study whose processes died, and the message: its answer
 
 
 def processors() -> int:
@@ -37,7 +37,7 @@ def processors() -> int:
 
 
 class Batches:
-    """Studies in tasks of some milliseconds, by what the ones before took."""
+    """Studies in tasks of some milliseconds; the times of earlier tasks decide their size."""
 
     def __init__(
         self, studies: Iterable[Any], seconds: float = TASK, growth: int = GROWTH
@@ -46,13 +46,13 @@ class Batches:
         self.size, self.each = 1, 0.0
 
     def next(self) -> list[Any]:
-        """Return the next task's studies; none at the end."""
+        """Return the next task's studies; an empty list at the end."""
         return list(islice(self.studies, self.size))
 
     def took(self, count: int, seconds: float) -> None:
         """Note that so many studies took so many seconds.
 
-        Each later task has at most `growth` times as many as this one.
+        The next task has at most `growth` times as many.
         """
         self.each = seconds / count
         wanted = int(self.seconds / self.each) if self.each > 0 else MOST
@@ -62,7 +62,7 @@ class Batches:
 class Piece(NamedTuple):
     """A task, or a part of one that is run again.
 
-    The task's number, where the part begins, its studies, and who died at it.
+    It has the task's number, where the part begins, its studies, and how many processes died.
     """
 
     number: int
@@ -72,7 +72,7 @@ class Piece(NamedTuple):
 
 
 class _Worker:
-    """One process, its pipe, and what it is working at."""
+    """One process, its pipe, and the piece that it is running."""
 
     def __init__(self, run: Run, others: list[Connection]) -> None:
         context = multiprocessing.get_context("fork")
@@ -80,7 +80,7 @@ class _Worker:
         self.piece: Piece | None = None
         was = signal.pthread_sigmask(
             signal.SIG_BLOCK, SIGNALS
-        )  # until the process has handlers of its own
+        )  # until the process has its own handlers
         try:
             self.process = context.Process(
                 target=_serve, args=(theirs, [self.pipe, *others], run, os.getpid()), daemon=True
@@ -100,9 +100,9 @@ class _Worker:
 
 
 def _serve(pipe: Connection, others: list[Connection], run: Run, parent: int) -> None:
-    """Serve tasks: take one from the pipe, send its answer and its seconds.
+    """Run tasks: receive one from the pipe, send its answer and the seconds that it took.
 
-    It ends when the pipe is closed or the parent is gone.
+    The process ends when the pipe is closed or the parent is gone.
     """
     signal.signal(
         signal.SIGINT, signal.SIG_IGN
@@ -124,7 +124,7 @@ def _serve(pipe: Connection, others: list[Connection], run: Run, parent: int) ->
 
 
 def _watch(parent: int) -> None:
-    """End this process when its parent is gone, also in the midst of a long study."""
+    """End this process when its parent is gone, even during a long study."""
     while os.getppid() == parent:
         time.sleep(PATROL)
     os._exit(1)
@@ -133,7 +133,7 @@ def _watch(parent: int) -> None:
 class Workers:
     """So many processes that run tasks.
 
-    `lost` gives the answer of a study at which processes die.
+    `lost` gives the answer for a study whose processes die.
     """
 
     def __init__(self, count: int, run: Run, lost: Lost) -> None:
@@ -158,7 +158,7 @@ class Workers:
             self.workers.pop().end()
 
     def _start(self) -> None:
-        """Start one more process; where the system has no room for it, there are fewer."""
+        """Start one more process; if the system can't, there are fewer."""
         with suppress(OSError):
             self.workers.append(_Worker(self.run, [w.pipe for w in self.workers]))
 
@@ -167,7 +167,7 @@ class Workers:
         tasks = _Tasks(batches)
         while not tasks.over:
             self._give(tasks)
-            if not self.workers and (p := tasks.next()):  # no process can be had
+            if not self.workers and (p := tasks.next()):  # no process could be started
                 tasks.answered(p, self.run(p.studies))
             busy: dict[Any, _Worker] = {w.pipe: w for w in self.workers if w.piece is not None}
             for pipe in wait(list(busy)) if busy else ():
@@ -186,7 +186,7 @@ class Workers:
                 self._died(w, tasks)
 
     def _take(self, w: _Worker, tasks: "_Tasks") -> None:
-        """Take the answer of a process; where it has died, plan its studies again."""
+        """Take the answer of a process; if it has died, plan its studies again."""
         try:
             seconds, found = w.pipe.recv()
         except (EOFError, OSError):
@@ -202,7 +202,7 @@ class Workers:
     def _died(self, w: _Worker, tasks: "_Tasks") -> None:
         """Replace a process that died, and plan its studies again, one by one.
 
-        A study at which others died before is lost.
+        A study that has had too many deaths is lost.
         """
         w.process.join(1)
         self.workers.remove(w)
@@ -213,14 +213,14 @@ class Workers:
                 tasks.again.append(one)
             else:
                 fault = (
-                    f"two processes ended at it, the last {_why(w.process.exitcode)}; it may need"
-                    " more memory than there is"
+                    f"two processes ended while running it, the last {_why(w.process.exitcode)}; it"
+                    " may need more memory than there is"
                 )
                 tasks.answered(one, [self.lost(one.studies[0], fault)])
 
 
 class _Tasks:
-    """Tasks that are given out, those to be run again, and answers in the tasks' order."""
+    """Tasks that have been started, pieces to run again, and answers in the tasks' order."""
 
     def __init__(self, batches: Batches) -> None:
         self.batches, self.again = batches, deque[Piece]()
@@ -231,11 +231,11 @@ class _Tasks:
 
     @property
     def over(self) -> bool:
-        """Whether all answers are given."""
+        """Whether all answers have been returned."""
         return not self.more and self.done == self.given
 
     def next(self) -> Piece | None:
-        """Return what is to be run next, if anything is."""
+        """Return the piece to run next, if there is one."""
         if self.again:
             return self.again.popleft()
         studies = self.batches.next() if self.more and self.given - self.done < AHEAD else None
@@ -247,7 +247,7 @@ class _Tasks:
         return Piece(number, 0, studies)
 
     def alone(self, p: Piece) -> list[Piece]:
-        """Return a piece's studies one by one; a death counts for a study that was alone."""
+        """Return a piece's studies one by one; a death counts only for a study that was alone."""
         return [
             Piece(p.number, p.at + k, [x], p.deaths + (len(p.studies) == 1))
             for k, x in enumerate(p.studies)
@@ -259,7 +259,7 @@ class _Tasks:
         self.missing[p.number] -= len(found)
 
     def finished(self) -> Iterator[list[Any]]:
-        """Return the answers of the next tasks that are whole."""
+        """Return the answers of the next tasks that are complete."""
         while self.done < self.given and not self.missing[self.done]:
             del self.missing[self.done]
             self.done += 1

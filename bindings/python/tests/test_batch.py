@@ -12,7 +12,7 @@ from nobyaluk.totals import totals, totals_and_queues
 
 @pytest.fixture
 def calls(monkeypatch):
-    """How many calls of the batch there were, and of how many studies."""
+    """The number of studies in each call of the batch."""
     made = []
     for name in ("run_many", "fill_many"):
         call = getattr(library, name)
@@ -24,7 +24,7 @@ def alone(each, group):
     return [parallel._one(each, x) for x in group]
 
 
-def told(t):
+def fields(t):
     return (*t[:10], t.refused and t.refused.line, *t[11:])
 
 
@@ -34,7 +34,7 @@ def check(group, calls, batched=None):
         del calls[:]
         found = parallel.run_group(each, group)
         assert sum(calls) == (len(group) if batched is None else batched)
-        assert [told(t) for t in found] == [told(t) for t in alone(each, group)]
+        assert [fields(t) for t in found] == [fields(t) for t in alone(each, group)]
     return found
 
 
@@ -43,7 +43,7 @@ STUDIES = ["rocade-sud", "rocade-sud-works", "rocade-sud-alinea", "rocade-sud-de
 
 @pytest.mark.parametrize("name", STUDIES)
 def test_loads(examples, calls, name):
-    """Of a table of releases, of laws and of works: with a load of 0, whole ones, and decimals."""
+    """A table of releases, laws and works, with a load of 0, whole loads and decimals."""
     s = load(examples / f"studies/{name}.toml")
     if not many.fits(s):
         s = replace(s, record=s.run().record, plan=None, laws={})
@@ -60,7 +60,7 @@ def test_seeds(examples, calls, name):
 
 
 def test_refusals_between_others(examples, calls):
-    """Releases of the full load are above the queues of smaller ones: those are refused, each with its step and place, and the others go on."""
+    """Releases of the full load are above the queues of smaller loads. These are refused, each with its step and place; the others go on."""
     s = load(examples / "rocade-sud.rec")
     found = check([partial(s.scaled, Fraction(x, 10)) for x in (10, 2, 11, 5, 10, 0, 12)], calls)
     refused = [t.refused.line if t.refused else None for t in found]
@@ -68,7 +68,7 @@ def test_refusals_between_others(examples, calls):
 
 
 def test_faults_between_others(examples, calls):
-    """A study that can't be made gives the same message as alone: wrong or too large loads, wrong seeds and peaks."""
+    """A study that can't be made gives the same message as when it is run alone: wrong or too large loads, wrong seeds and peaks."""
     s = load(examples / "studies/five-cells-alinea.toml")
     loads = [1, 501, -1, float("nan"), "x", None, 0.9, Fraction(-1, 3), 1e300, Fraction(1_000_001), 1.1]
     found = check([partial(s.scaled, x) for x in loads], calls, 3)
@@ -76,11 +76,11 @@ def test_faults_between_others(examples, calls):
     check([partial(s.with_stated_load, x, 6_000, 800) for x in (1, -1, 1 << 32, "x", 2, None, 1.5)], calls, 2)
     check([partial(s.with_stated_load, 1, x, y) for x, y in ((1_000_001, 0), (0, 1_000_001), (0, 0), (-1, 5), (1_000_000, 1_000_000))], calls, 2)
     most = int(s.record.arrivals.max())
-    check([partial(s.scaled, Fraction(2_000_001 + k, 2 * most)) for k in (-2, -1, 0)], calls, 2)  # half a part below 1,000 vehicles and 1 part, and above
+    check([partial(s.scaled, Fraction(2_000_001 + k, 2 * most)) for k in (-2, -1, 0)], calls, 2)  # 999,999.5, 1,000,000 and 1,000,000.5 parts; the last is rounded up, above the limit
 
 
 def test_numbers_of_many_digits(examples, calls):
-    """Factors that no number of 32 or 64 bits holds with the arrivals."""
+    """Factors whose products with the arrivals don't fit 32 or 64 bits."""
     s = load(examples / "studies/five-cells-alinea.toml")
     check([partial(s.scaled, x) for x in (0.1 + 0.2, Fraction(10**30 + 1, 10**30), Fraction(1, 3), Fraction(7, 9973), Fraction(123457, 99991), 1 / 7)], calls)
 
@@ -93,7 +93,7 @@ def test_halves_are_rounded_up(examples, calls):
 
 
 def test_what_falls_back(examples, calls, tmp_path):
-    """Weights, plans, releases next to laws and studies beyond one record are run one by one, with the same numbers as before."""
+    """Weights, plans, releases next to laws and studies beyond one record are run one by one, with the same numbers."""
     weighed = load(examples / "exercise/weights.toml")
     check([partial(weighed.scaled, x) for x in (0.9, 1)], calls, 0)
     s = load(examples / "studies/five-cells.toml")
@@ -117,14 +117,14 @@ def test_what_falls_back(examples, calls, tmp_path):
 
 
 def test_studies_of_all_kinds(examples, calls):
-    """A group of recipes, studies and paths: those of one study and kind that follow each other go together."""
+    """In a group of recipes, studies and paths, neighbouring recipes of one study and kind share a call."""
     a, b = (load(examples / f"studies/{x}.toml") for x in ("five-cells-alinea", "rocade-sud-alinea"))
     loads = lambda s, *xs: [partial(s.scaled, x) for x in xs]
     group = [*loads(a, 1, 2), *loads(b, 1), partial(a.with_stated_load, 1, 9, 9), partial(a.with_stated_load, 2, 9, 9), partial(a.with_stated_load, 2, 8, 9),
              a, str(examples / "studies/five-cells.toml"), partial(a.scaled, load=1), *loads(a, 3)]
     found = parallel.run_group(totals, group)
     assert calls == [2, 1, 2, 1, 1]
-    assert [told(t) for t in found] == [told(t) for t in alone(totals, group)]
+    assert [fields(t) for t in found] == [fields(t) for t in alone(totals, group)]
 
     class Other(Study):
         def scaled(self, load):
@@ -135,7 +135,7 @@ def test_studies_of_all_kinds(examples, calls):
 
 
 def test_chunks(examples, calls, monkeypatch):
-    """Of two studies, and of one where even one is larger than a chunk."""
+    """Chunks of two studies, and of one if a single study is larger than a chunk."""
     s = load(examples / "studies/five-cells-alinea.toml")
     group = [partial(s.scaled, Fraction(k, 10)) for k in range(5, 14)]
     for size, sizes in ((2 * 4 * s.record.arrivals.size, [2, 2, 2, 2, 1]), (1, [1] * 9)):
@@ -145,19 +145,19 @@ def test_chunks(examples, calls, monkeypatch):
 
 
 def test_map_and_objects(examples, calls):
-    """`map` by threads takes the batch; studies that are made already have records of their own, and are called one by one."""
+    """`map` by threads uses the batch; studies that are already made have their own records and are run one by one."""
     s = load(examples / "studies/rocade-sud-alinea.toml")
     loads = [Fraction(k, 100) for k in range(50, 150)]
     wanted = [s.scaled(x).run() for x in loads]
     found = list(nobyaluk.map(partial(s.scaled, x) for x in loads))
     assert sum(calls) == 100 and [(t.total, t.exits, t.present) for t in found] == [(r.total, r.exits, r.present) for r in wanted]
-    assert [told(t) for t in nobyaluk.map([s.scaled(x) for x in loads])] == [told(t) for t in found] and sum(calls) == 100
+    assert [fields(t) for t in nobyaluk.map([s.scaled(x) for x in loads])] == [fields(t) for t in found] and sum(calls) == 100
     runs = list(nobyaluk.map([partial(s.scaled, x) for x in loads[:3]], each=Study.run))
     assert [r.total for r in runs] == [t.total for t in found[:3]] and sum(calls) == 100
 
 
 def test_the_record_is_not_changed(examples, calls):
-    """The engine puts arrivals and releases into a copy."""
+    """The engine writes arrivals and releases into a copy."""
     s = load(examples / "studies/rocade-sud-alinea.toml")
     before = bytes(s.record.data)
     parallel.run_group(totals, [partial(s.scaled, x) for x in (0.5, 1.5)])
@@ -165,9 +165,9 @@ def test_the_record_is_not_changed(examples, calls):
 
 
 def test_a_task_of_a_cluster(examples):
-    """What a worker of a cluster is sent, and what it gives back."""
+    """What a worker of a cluster receives, and what it returns."""
     import pickle
 
     s = load(examples / "studies/rocade-sud-alinea.toml")
     group = [partial(s.scaled, Fraction(k, 10)) for k in (5, 10)]
-    assert [told(t) for t in pickle.loads(cluster._packed(pickle.dumps(partial(parallel.run_group, totals)), pickle.dumps(group))[1])] == [told(t) for t in alone(totals, group)]
+    assert [fields(t) for t in pickle.loads(cluster._packed(pickle.dumps(partial(parallel.run_group, totals)), pickle.dumps(group))[1])] == [fields(t) for t in alone(totals, group)]

@@ -44,7 +44,7 @@ def test_executors(loads, wanted):
 
 
 def test_recipes(study, wanted):
-    """Variants that are made where they are run."""
+    """Each thread or process makes the variants that it runs."""
     recipes = [partial(study.scaled, x / 100) for x in range(60, 140)]
     assert [t.total for t in nobyaluk.map(recipes)] == wanted
     with ProcessPoolExecutor(2) as pool:
@@ -96,21 +96,21 @@ def test_sweeps(examples, capsys, tmp_path):
     assert main(["sweep", path, "--seeds", "1:5", "--peak", "6000", "--ramp-peak", "800"]) == 0
     rows = rows_of(capsys.readouterr().out)
     assert [r["seed"] for r in rows] == list("12345") and len({r["total_vehicle_hours"] for r in rows}) == 5
-    for words, said in ((["--load", "1:0:1"], "LOW:HIGH:STEP"), (["--load", "1:1e99:1"], "up to 1,000,000 steps"), ([], "one of --load, --seeds and --vary"), (["--vary", "gate.x.y=1:2:1"], "there is no `gate.x.y` to vary"),
+    for words, message in ((["--load", "1:0:1"], "LOW:HIGH:STEP"), (["--load", "1:1e99:1"], "up to 1,000,000 steps"), ([], "one of --load, --seeds and --vary"), (["--vary", "gate.x.y=1:2:1"], "there is no `gate.x.y` to vary"),
                         (["--seeds", "1:2"], "--seeds needs --peak")):
         assert main(["sweep", path, *words]) == 2
-        assert said in capsys.readouterr().err
+        assert message in capsys.readouterr().err
 
 
-def test_sweep_tells_refusals(examples, capsys):
+def test_sweep_reports_refusals(examples, capsys):
     assert main(["sweep", str(examples / "rocade-sud.rec"), "--load", "0.2:1:0.8"]) == 0
-    told = capsys.readouterr()
-    rows = rows_of(told.out)
-    assert rows[0]["refused"].startswith("9 ") and rows[1]["refused"] == "" and "1 of 2 were refused" in told.err
+    printed = capsys.readouterr()
+    rows = rows_of(printed.out)
+    assert rows[0]["refused"].startswith("9 ") and rows[1]["refused"] == "" and "1 of 2 were refused" in printed.err
 
 
 def test_a_cluster(examples, loads, wanted, capsys):
-    """Two worker processes of Dask, by executor and by the command's --scheduler."""
+    """Two worker processes of Dask, through an executor and through the command's --scheduler."""
     distributed = pytest.importorskip("distributed")
     with distributed.LocalCluster(n_workers=2, threads_per_worker=1, processes=True, dashboard_address=None) as cluster:
         executor, client = cluster_module.connect(cluster.scheduler_address)
@@ -123,7 +123,7 @@ def test_a_cluster(examples, loads, wanted, capsys):
 
 
 def test_a_sweep_of_the_steps_seconds(examples, road, capsys):
-    """Each variant's hours go by its own seconds."""
+    """Each variant's hours use its own seconds."""
     path = str(examples / "studies/five-cells.toml")
     assert main(["sweep", path, "--vary", "step=10:20:10"]) == 0
     rows = rows_of(capsys.readouterr().out)
@@ -134,7 +134,7 @@ def test_a_sweep_of_the_steps_seconds(examples, road, capsys):
 
 
 def test_a_sweep_of_weights(examples, capsys):
-    """Weights change the weighted total alone, so a study with weights has it in the table."""
+    """Weights change only the weighted total, so the table of a study with weights has it."""
     path = str(examples / "exercise/weights.toml")
     assert main(["sweep", path, "--vary", "weights.gate=3:5:2"]) == 0
     rows = rows_of(capsys.readouterr().out)
@@ -147,7 +147,7 @@ def test_a_sweep_of_weights(examples, capsys):
 
 
 def test_no_load_is_cut(examples, study, capsys):
-    """A step takes 1,000 vehicles at an entry: more is a fault with step, entry and number, and in a sweep that study alone fails."""
+    """A step takes at most 1,000 vehicles at an entry. More is a fault with step, entry and number; in a sweep only that study fails."""
     rows = study.record.rows
     with pytest.raises(StudyError, match=r"the gate has 1,111\.\d+ vehicles in step \d+; a step takes at most 1,000"):
         study.scaled(1_111_111 / int(rows[:, 0].max()))
@@ -161,16 +161,16 @@ def test_no_load_is_cut(examples, study, capsys):
     assert top.record.rows.max() == 1_000_000
     path = str(examples / "studies/five-cells-alinea.toml")
     assert main(["sweep", path, "--load", "1:1001:500"]) == 0
-    told = capsys.readouterr()
-    found = rows_of(told.out)
+    printed = capsys.readouterr()
+    found = rows_of(printed.out)
     assert found[0]["refused"] == "" and [r["total_vehicle_hours"] for r in found[1:]] == ["", ""]
-    assert found[1]["refused"].startswith("five-cells-alinea x 501: the gate has ") and "2 of 3 failed" in told.err
+    assert found[1]["refused"].startswith("five-cells-alinea x 501: the gate has ") and "2 of 3 failed" in printed.err
     assert main(["sweep", path, "--load", "1001:1002:1"]) == 2 and "the gate has" in capsys.readouterr().err
     assert main(["sweep", path, "--load=-1:1:1"]) == 2 and "--load is '-1:1:1'; it is at least 0" in capsys.readouterr().err
 
 
 def test_loads_are_the_decimals_written(study):
-    """145 thousandths of 100 parts are 14.5, which is 15 parts."""
+    """145 thousandths of 100 parts are 14.5, rounded to 15 parts."""
     rows = np.zeros_like(study.record.rows)
     rows[:, 0] = 100
     for load in (0.145, Fraction(145, 1000), np.float64(0.145)):
@@ -180,16 +180,16 @@ def test_loads_are_the_decimals_written(study):
 def test_a_variant_out_of_its_limits_is_named(examples, capsys):
     path = str(examples / "studies/five-cells.toml")
     assert main(["sweep", path, "--vary", "cell.5.capacity=3600:400000:396400"]) == 0
-    told = capsys.readouterr()
-    rows = rows_of(told.out)
-    assert rows[0]["refused"] == "" and "`capacity` makes" in rows[1]["refused"] and "1 of 2 failed" in told.err
+    printed = capsys.readouterr()
+    rows = rows_of(printed.out)
+    assert rows[0]["refused"] == "" and "`capacity` makes" in rows[1]["refused"] and "1 of 2 failed" in printed.err
 
 
 @pytest.mark.parametrize("words", ["0.5:2.5", "1:2:0.5", "-1:2", "4294967290:4294967300", "4294967296:4294967296", "1:1e30", "a:b", "1", "²:3", "9" * 5000 + ":1"])
 def test_seeds_are_whole(examples, capsys, words):
     status = main(["sweep", str(examples / "studies/five-cells.toml"), f"--seeds={words}", "--peak", "6000"])
-    told = capsys.readouterr()
-    assert (status, told.out) == (2, "") and "--seeds is" in told.err and len(told.err) < 400
+    printed = capsys.readouterr()
+    assert (status, printed.out) == (2, "") and "--seeds is" in printed.err and len(printed.err) < 400
 
 
 def test_the_last_seeds(examples, capsys):
@@ -198,7 +198,7 @@ def test_the_last_seeds(examples, capsys):
 
 
 def test_workers_are_bounded(examples, capsys, monkeypatch):
-    """By the processors and by the studies; a number below 1 is a wrong call."""
+    """There are at most as many workers as processors and studies; a number below 1 is a wrong call."""
     asked = []
 
     class Counted(workers.Workers):
@@ -219,7 +219,7 @@ def test_workers_are_bounded(examples, capsys, monkeypatch):
 
 
 def test_a_cluster_that_is_not_there(examples, capsys, monkeypatch):
-    """A wrong address is a wrong call; nobody who answers, or no worker, is something that is missing. Neither is an output."""
+    """A wrong address is a wrong call (status 2). A scheduler that does not answer, or has no workers, is something missing (3). Nothing is printed."""
     distributed = pytest.importorskip("distributed")
     monkeypatch.setattr(cluster_module, "TIMEOUT", 1)
     monkeypatch.setattr(cluster_module, "PATIENCE", 1)
@@ -227,8 +227,8 @@ def test_a_cluster_that_is_not_there(examples, capsys, monkeypatch):
     sweep = lambda address: main(["sweep", path, "--load", "1:2:1", "--scheduler", address])
     for address in ("nonsense", "foo://x:1", "", "tcp://127.0.0.1"):
         status = sweep(address)
-        told = capsys.readouterr()
-        assert (status, told.out) == (2, "") and told.err.startswith(f"nobyaluk: --scheduler is '{address}'; it is an address like tcp://10.0.0.1:8786"), address
+        printed = capsys.readouterr()
+        assert (status, printed.out) == (2, "") and printed.err.startswith(f"nobyaluk: --scheduler is '{address}'; it is an address like tcp://10.0.0.1:8786"), address
     assert sweep("tcp://127.0.0.1:9") == 3
     assert "the scheduler at tcp://127.0.0.1:9 does not answer" in capsys.readouterr().err
     with distributed.LocalCluster(n_workers=0, processes=False, dashboard_address=None) as cluster:
@@ -237,7 +237,7 @@ def test_a_cluster_that_is_not_there(examples, capsys, monkeypatch):
 
 
 def test_workers_that_are_lost(loads, wanted, monkeypatch):
-    """A task that nobody works on any more is not waited for without end."""
+    """`map` does not wait forever for a task that no worker runs."""
     seen = []
 
     def watch():

@@ -1,4 +1,4 @@
-"""tools/refusals: one table of refusals, and whatever is made of it or says a number in its place."""
+"""tools/refusals: the one table of refusals, what is made from it, and code with a number instead of a name."""
 import shutil
 import subprocess
 import sys
@@ -29,33 +29,33 @@ def change(tree, name, old, new):
     (tree / name).write_text(text.replace(old, new, 1))
 
 
-@pytest.mark.parametrize(("name", "old", "new", "said"), [
-    ("bindings/c/nobyaluk.h", "REFUSAL_PEAK                 = 25", "REFUSAL_PEAK                 = 24", "bindings/c/nobyaluk.h is not what"),
-    ("bindings/rust/src/refusal.rs", "R::Peak,", "R::Lanes,", "bindings/rust/src/refusal.rs is not what"),
-    ("bindings/python/nobyaluk/refusals.py", "PEAK = 25", "PEAK = 24", "bindings/python/nobyaluk/refusals.py is not what"),
-    ("bindings/wasm/refusals.mjs", "Peak: 25", "Peak: 24", "bindings/wasm/refusals.mjs is not what"),
-    ("reference/src/refusals.rs", "PEAK: u32 = 25", "PEAK: u32 = 24", "reference/src/refusals.rs is not what"),
-    ("docs/REFUSALS.md", "a peak above 1,000,000", "a peak", "docs/REFUSALS.md is not what"),
-    ("docs/MODEL.md", "`Peak`", "`Top`", "docs/MODEL.md is not what"),
+@pytest.mark.parametrize(("name", "old", "new", "message"), [
+    ("bindings/c/nobyaluk.h", "REFUSAL_PEAK                 = 25", "REFUSAL_PEAK                 = 24", "not up to date with docs/refusals.tsv: bindings/c/nobyaluk.h;"),
+    ("bindings/rust/src/refusal.rs", "R::Peak,", "R::Lanes,", "not up to date with docs/refusals.tsv: bindings/rust/src/refusal.rs;"),
+    ("bindings/python/nobyaluk/refusals.py", "PEAK = 25", "PEAK = 24", "not up to date with docs/refusals.tsv: bindings/python/nobyaluk/refusals.py;"),
+    ("bindings/wasm/refusals.mjs", "Peak: 25", "Peak: 24", "not up to date with docs/refusals.tsv: bindings/wasm/refusals.mjs;"),
+    ("reference/src/refusals.rs", "PEAK: u32 = 25", "PEAK: u32 = 24", "not up to date with docs/refusals.tsv: reference/src/refusals.rs;"),
+    ("docs/REFUSALS.md", "a peak above 1,000,000", "a peak", "not up to date with docs/refusals.tsv: docs/REFUSALS.md;"),
+    ("docs/MODEL.md", "`Peak`", "`Top`", "not up to date with docs/refusals.tsv: docs/MODEL.md;"),
     ("docs/MODEL.md", "| 25 | `Peak`", "| 24 | `Peak`", "does not have the numbers"),
     ("crates/model/src/lib.rt", "Refusal::Peak => 25", "Refusal::Top => 25", "names or numbers of"),
     ("docs/refusals.tsv", "\tload\t", "\tload, load_many\t", "operations load_many"),
     ("tools/refusals", '"load": "25"', '"load": "24"', "ORDER in tools/refusals does not have the refusals of load"),
     ("docs/refusals.tsv", "\tload\t", "\tload, load\t", "25 of load has two rows"),
     ("docs/refusals.tsv", "eine Spitze über 1.000.000", "", "seven cells"),
-    ("docs/refusals.tsv", "25\tPeak", "29\tPeak", "rise by one"),
-    ("docs/refusals.tsv", "\tload\tnone\t", "\tload\tlane\t", "the place is one of"),
+    ("docs/refusals.tsv", "25\tPeak", "29\tPeak", "the numbers must be 1, 2, 3 and so on"),
+    ("docs/refusals.tsv", "\tload\tnone\t", "\tload\tlane\t", "the place must be one of"),
 ])
-def test_what_differs_is_named(tree, name, old, new, said):
+def test_what_differs_is_named(tree, name, old, new, message):
     assert check(tree) == ""
     change(tree, name, old, new)
-    assert said in check(tree)
+    assert message in check(tree)
 
 
-def test_a_number_in_place_of_a_name(tree):
+def test_a_number_instead_of_a_name(tree):
     for line in ("if e.number == 9:", "if e.number in (9, 10):", "raise Refused(17, 0, 0)"):
         (tree / "bindings/python/nobyaluk/other.py").write_text(f"{line}\n")
-        assert f"other.py:1: a refusal's name in place of its number: {line}" in check(tree)
+        assert f"other.py:1: use the refusal's name instead of its number: {line}" in check(tree)
     (tree / "bindings/python/nobyaluk/other.py").write_text("if e.number:\n")
     assert check(tree) == ""
 

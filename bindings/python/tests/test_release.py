@@ -86,7 +86,7 @@ def test_not_from_a_changed_tree(tree, name):
         f.write("changed\n")
     for words in ((), (REUSE,)):
         status, said = release(*words)
-        assert status == 1 and "the tree has changes that no commit has" in said and name in said
+        assert status == 1 and "the tree has uncommitted changes" in said and name in said
 
 
 def test_other_bytes(tree):

@@ -1,4 +1,4 @@
-"""Sweeps lose nothing: rows as they come, --resume, processes and clusters that are killed, signals; each as a user sees it."""
+"""Sweeps lose nothing: rows, --resume, killed processes, lost clusters and signals, each as a user sees it."""
 import csv
 import io
 import os
@@ -26,7 +26,7 @@ import os, signal, sys, time
 from nobyaluk import cli, cluster, parallel
 from nobyaluk.cli import sweep_commands
 parallel.PAYS = 0
-signal.signal(signal.SIGINT, signal.default_int_handler)  # which a shell's background job ignores, and so would the sweep
+signal.signal(signal.SIGINT, signal.default_int_handler)  # a shell's background job ignores SIGINT, and the sweep would too
 def slow(study):
     time.sleep(0.01)
     if "%(bad)s" and study.name.endswith("%(bad)s"):
@@ -39,7 +39,7 @@ sys.exit(cli.main(sys.argv[1:]))
 
 
 def children(pid):
-    """The processes of a process that are not dead."""
+    """The children of a process that are not dead."""
     found = []
     for path in Path("/proc").iterdir():
         if path.name.isdigit():
@@ -62,13 +62,13 @@ def alive(pid):
 def until(true, seconds=20):
     end = time.time() + seconds
     while not true():
-        assert time.time() < end, "waited in vain"
+        assert time.time() < end, "waited too long"
         time.sleep(0.02)
 
 
 @pytest.fixture
 def sweeping(examples):
-    """sweeping(word, ..): a sweep of 10 ms a study by two processes, when both are there."""
+    """sweeping(word, ..): starts a sweep of 10 ms per study, and waits until its two processes run."""
     started = []
 
     def start(*words, bad="", study=examples / "studies/five-cells.toml", processes=2):
@@ -104,7 +104,7 @@ LOADS = [Fraction(500 + k, 1000) for k in range(401)]
 
 @pytest.mark.parametrize("number", range(5))
 def test_a_killed_process_costs_nothing(sweeping, examples, tmp_path, two, number):
-    """Its studies are run again by another: five times of five."""
+    """Another process runs its studies again: five times of five."""
     p = sweeping("--load", "0.5:0.9:0.001", "--workers", 2, "-o", tmp_path / "a.csv")
     time.sleep(0.05 + 0.1 * number)
     os.kill(children(p.pid)[number % 2], signal.SIGKILL)
@@ -114,19 +114,19 @@ def test_a_killed_process_costs_nothing(sweeping, examples, tmp_path, two, numbe
     assert [r["total_vehicle_hours"] for r in rows] == wanted(examples, LOADS)
 
 
-def test_a_study_at_which_processes_die_is_named(sweeping, examples, tmp_path, two):
+def test_a_study_whose_processes_die_is_named(sweeping, examples, tmp_path, two):
     p = sweeping("--load", "0.5:0.9:0.001", "--workers", 2, "-o", tmp_path / "a.csv", bad=" x 0.75")
     _, err = p.communicate(timeout=60)
     rows = rows_of(tmp_path / "a.csv")
-    told = [r["refused"] for r in rows if r["refused"]]
-    assert p.returncode == 0 and told == ["two processes ended at it, the last by SIGKILL; it may need more memory than there is"] and rows[250]["refused"] == told[0]
+    faults = [r["refused"] for r in rows if r["refused"]]
+    assert p.returncode == 0 and faults == ["two processes ended while running it, the last by SIGKILL; it may need more memory than there is"] and rows[250]["refused"] == faults[0]
     right = wanted(examples, LOADS)
     assert [r["total_vehicle_hours"] for r in rows] == [*right[:250], "", *right[251:]] and "1 of 401 failed" in err
 
 
 @pytest.mark.parametrize("name, status, group", [("SIGTERM", 143, False), ("SIGTERM", 143, True), ("SIGINT", 130, True), ("SIGKILL", -9, False)])
 def test_signals_leave_no_process_and_every_row(sweeping, examples, tmp_path, two, name, status, group):
-    """And the sweep goes on where it was. Ctrl-C goes to all processes of the terminal, as a batch system's signal may."""
+    """--resume then continues the sweep. Ctrl-C goes to all processes of the terminal; a batch system's signal may too."""
     words = ("--load", "0.5:0.9:0.001", "--workers", 2, "-o", tmp_path / "a.csv")
     p = sweeping(*words)
     part = tmp_path / "a.csv.part"
@@ -140,9 +140,9 @@ def test_signals_leave_no_process_and_every_row(sweeping, examples, tmp_path, tw
     there = len(part.read_text().splitlines()) - 2
     assert 59 <= there < 401 and not (tmp_path / "a.csv").exists()
     if name != "SIGKILL":
-        assert err.splitlines()[-1] == f"nobyaluk: {part} has {there} of 401 rows; the same command with --resume goes on"
+        assert err.splitlines()[-1] == f"nobyaluk: {part} has {there} of 401 rows; the same command with --resume continues"
     first = subprocess.run([*COMMAND, examples / "studies/five-cells.toml", *map(str, words)], capture_output=True, text=True)
-    assert first.returncode == 2 and f"a sweep was interrupted after {there} rows; --resume goes on with it, --force starts anew" in first.stderr
+    assert first.returncode == 2 and f"a sweep was interrupted after {there} rows; --resume continues it, --force starts again" in first.stderr
     with open(part, "a") as f:
         f.write("0.9,12")  # a row that was cut
     began = part.read_text().splitlines()[1:-1]
@@ -155,16 +155,16 @@ def test_signals_leave_no_process_and_every_row(sweeping, examples, tmp_path, tw
 def test_resume_is_of_the_same_sweep(road, told, tmp_path):
     path, out = road("step = 20", "step = 20"), tmp_path / "a.csv"
     words = ("sweep", path, "--load", "0.9:1.1:0.1", "-o", out)
-    assert told(*words, "--resume")[0] == 0 and len(rows_of(out)) == 3  # nothing is there yet: from the first study on
+    assert told(*words, "--resume")[0] == 0 and len(rows_of(out)) == 3  # there are no rows yet: it begins with the first study
     whole = out.read_text()
     mark = f"# nobyaluk sweep {'0' * 32}\n"
     part = tmp_path / "a.csv.part"
     part.write_text(mark + "".join(whole.splitlines(True)[:3]))
     for more in ((), ("--load", "0.9:1.2:0.1")):
         status, _, err = told(*words, *more, "--resume")
-        assert status == 2 and "these are rows of another sweep, or the study has changed; --force starts anew" in err and part.exists()
+        assert status == 2 and "these are rows of another sweep, or the study has changed; --force starts again" in err and part.exists()
     assert told(*words)[0] == 2 and told(*words, "--force")[0] == 0 and out.read_text() == whole and not part.exists()
-    assert "--resume goes on with a file" in told("sweep", path, "--load", "1:2:1", "--resume")[2]
+    assert "--resume continues a file" in told("sweep", path, "--load", "1:2:1", "--resume")[2]
 
 
 def test_the_study_may_not_change_between(road, told, tmp_path, monkeypatch):
@@ -206,14 +206,14 @@ def test_rows_are_printed_as_they_come(sweeping, two):
 
 @pytest.mark.skipif(not Path("/dev/full").exists(), reason="no /dev/full")
 def test_a_full_disk(examples, tmp_path):
-    """The rows that fit stay, and a message says so."""
+    """A message names the file that could not be written."""
     command = "import resource, signal, sys; signal.signal(signal.SIGXFSZ, signal.SIG_IGN); resource.setrlimit(resource.RLIMIT_FSIZE, (900, 900)); from nobyaluk.cli import main; sys.exit(main())"
     p = subprocess.run([sys.executable, "-c", command, "sweep", examples / "studies/five-cells.toml", "--load", "0.5:0.9:0.001", "-o", tmp_path / "a.csv"], capture_output=True, text=True)
     assert p.returncode == 4 and "a.csv.part could not be written: File too large" in p.stderr and "Traceback" not in p.stderr and not (tmp_path / "a.csv").exists()
 
 
 def test_whatever_fails_is_named(examples, monkeypatch):
-    """A study that fails in an unforeseen way fails alone."""
+    """If a study fails in an unforeseen way, only it fails."""
     good = load(examples / "studies/five-cells.toml")
 
     class Bad(Study):
@@ -263,7 +263,7 @@ def test_variants_are_what_the_file_with_other_numbers_gives(examples, tmp_path,
 
 
 def toml_of(top):
-    """Tables as TOML, all in one line each."""
+    """Tables as TOML, one line each."""
 
     def value(x):
         if isinstance(x, dict):
@@ -285,7 +285,7 @@ def test_a_grid(examples, told, tmp_path):
         run = both.study(Fraction(r["meter.all.gain_kmh"]), Fraction(r["gate.capacity"])).run()
         assert r["total_vehicle_hours"] == f"{hours(run, 20).total:.4f}"
     vary = lambda *keys: told("sweep", path, *(x for key in keys for x in ("--vary", f"{key}=1:1000:1")))[2]
-    assert "is varied twice" in vary("gate.capacity", "gate.capacity") and "there 3 times" in vary("gate.capacity", "step", "cell.1.capacity")
+    assert "is varied twice" in vary("gate.capacity", "gate.capacity") and "given 3 times" in vary("gate.capacity", "step", "cell.1.capacity")
     assert "--vary makes 1,000 x 1,001 studies; a sweep has at most 1,000,000" in told("sweep", path, "--vary", "gate.capacity=1:1000:1", "--vary", "step=0:1000:1")[2]
 
 
@@ -304,7 +304,7 @@ def test_files_are_read_once(examples, told, monkeypatch):
 
 @contextmanager
 def scheduler(tmp_path, count, nanny=False):
-    """A Dask scheduler with so many workers, each a process of its own; with a nanny they are started again."""
+    """A Dask scheduler with so many workers, each a separate process; a nanny starts them again."""
     pytest.importorskip("distributed")
     with socket.socket() as s:
         s.bind(("127.0.0.1", 0))
@@ -341,7 +341,7 @@ def cluster_sweep(examples, out, address, *words):
 
 
 def test_a_lost_scheduler_and_a_killed_worker(examples, tmp_path):
-    """A killed worker costs nothing, a lost scheduler gives a message, and the sweep goes on elsewhere."""
+    """A killed worker costs nothing, a lost scheduler gives a message, and the sweep continues without it."""
     part = tmp_path / "a.csv.part"
     lines = lambda: part.read_text().count("\n") - 2 if part.exists() else 0
     with scheduler(tmp_path, 2) as (address, first, others):
@@ -356,8 +356,8 @@ def test_a_lost_scheduler_and_a_killed_worker(examples, tmp_path):
         finally:
             p.kill()
     assert p.returncode == 3 and "Traceback" not in err, err
-    told = err.strip().splitlines()[-1]
-    assert f"at {address} was lost" in told and f"{part} has {lines():,} of 10,001 rows; the same command with --resume goes on" in told, err
+    message = err.strip().splitlines()[-1]
+    assert f"at {address} was lost" in message and f"{part} has {lines():,} of 10,001 rows; the same command with --resume continues" in message, err
     again = subprocess.run([*COMMAND, examples / "studies/five-cells-alinea.toml", *SWEEP, "-o", tmp_path / "a.csv", "--resume"], capture_output=True, text=True)
     rows, one = rows_of(tmp_path / "a.csv"), load(examples / "studies/five-cells-alinea.toml")
     assert again.returncode == 0 and len(rows) == 10001 and not part.exists()
@@ -365,13 +365,13 @@ def test_a_lost_scheduler_and_a_killed_worker(examples, tmp_path):
         assert rows[k]["total_vehicle_hours"] == f"{hours(one.scaled(Fraction(5000 + k, 10000)).run(), 20).total:.4f}"
 
 
-def test_a_study_at_which_workers_of_a_cluster_die_is_named(examples, tmp_path):
+def test_a_study_whose_workers_of_a_cluster_die_is_named(examples, tmp_path):
     with scheduler(tmp_path, 1, nanny=True) as (address, _, _):
         words = ["sweep", examples / "studies/five-cells.toml", "--load", "0.8:1.2:0.1", "--scheduler", address, "-o", tmp_path / "a.csv"]
         p = subprocess.run([sys.executable, "-c", SLOW % {"bad": " x 1"}, *map(str, words)], capture_output=True, text=True, timeout=120)
     rows = rows_of(tmp_path / "a.csv")
     assert p.returncode == 0 and "1 of 5 failed" in p.stderr and "Traceback" not in p.stderr, p.stderr
-    assert [bool(r["refused"]) for r in rows] == [False, False, True, False, False] and rows[2]["refused"].startswith("workers of the cluster ended at it")
+    assert [bool(r["refused"]) for r in rows] == [False, False, True, False, False] and rows[2]["refused"].startswith("workers of the cluster ended repeatedly while running it")
 
 
 def test_a_scheduler_without_workers_and_a_wrong_address(examples, tmp_path):

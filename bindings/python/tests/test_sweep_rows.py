@@ -1,4 +1,4 @@
-"""A sweep's rows by few calls are those of each study by itself, to the byte."""
+"""A sweep's rows from few calls are those of each study run separately, to the byte."""
 import pickle
 from dataclasses import replace
 from decimal import Decimal
@@ -15,7 +15,7 @@ from nobyaluk.variants import Variants
 
 
 def compare(what, s, together=True):
-    """The rows of a sweep, which are the same by few calls, in two tasks and by itself."""
+    """The rows of a sweep; they are the same from few calls, in two tasks and separately."""
     rows, ks = SweepRows(what, s), list(range(len(what)))
     assert (rows.together is not None) == together
     found = rows.run(totals_and_queues, ks)
@@ -36,7 +36,7 @@ def test_loads(examples, name, words):
 
 
 def test_refusals_and_no_seconds(examples):
-    """Of a record whose releases are above the queues of smaller loads, and whose step has no seconds."""
+    """The record's releases are above the queues of smaller loads, and its step has no seconds."""
     s = replace(load(examples / "rocade-sud.rec"), seconds=None)
     found = compare(LoadSweep(s, Span(range(2, 14), 10)), s)
     assert [x.endswith(",\n") for x in found] == [k >= 10 for k in range(2, 14)] and found[0].startswith("0.2,,,,,,,,9 ")
@@ -77,7 +77,7 @@ def test_what_is_run_one_by_one(examples):
 
 
 def test_few_calls(examples, monkeypatch):
-    """No study is made: of 60 loads there are two calls of the engine, and of 60 gains 60, of one record."""
+    """No study is made: 60 loads take few calls of the engine, and 60 gains take 60 calls with one record."""
     calls = []
     for name in ("fill_many", "fill_longest"):
         call = getattr(library, name)

@@ -25,7 +25,7 @@ pub fn least_total(bytes: &[u8], table: &[u8], list: &mut [u32]) -> freeway::End
     freeway::run(bytes, table, list)
 }
 
-// The total time spent of a record with all lanes open, or 0 where it is refused.
+// The total time spent of a record with all lanes open, or 0 if it is refused.
 pub fn time_spent(bytes: &[u8], list: &mut [u32]) -> u64
     ensures total { λ t. ⌜ t ≡ cond (eqb (runningOf (now (bytes .entry)) [] (now (list .entry)) .number) 0)
         (min (totalOf (runningOf (now (bytes .entry)) [] (now (list .entry)) .state)) mostLong) 0 ⌝ }
@@ -40,7 +40,7 @@ pub fn time_spent(bytes: &[u8], list: &mut [u32]) -> u64
     state.total()
 }
 
-// Fills a record's releases by ALINEA at every ramp: the number of the refusal, 0 where they are filled.
+// Fills a record's releases by ALINEA at every ramp: the number of the refusal, or 0 if they are filled.
 pub fn filled(bytes: &mut [u8], gain: f64, target: f64, list: &mut [u32]) -> u8
     ensures number { λ q. ⌜ q ≡ fillingOf (replicate 64 (law.Alinea (record { gain = gain; target = target }))) (now (bytes .entry)) [] (now (list .entry)) .number ⌝ }
     ensures bytes { λ q. ⌜ now (bytes .exit)

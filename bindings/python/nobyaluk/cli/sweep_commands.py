@@ -83,9 +83,9 @@ from .running import load_study
     ],
 )
 def sweep(args: argparse.Namespace) -> int:
-    """Write the totals of many studies; 2 if all of them failed."""
+    """Write the totals of many studies; return 2 if all of them failed."""
     if sum(x is not None for x in (args.load, args.seeds, args.vary)) != 1:
-        raise StudyError("say what is swept by exactly one of --load, --seeds and --vary")
+        raise StudyError("a sweep needs exactly one of --load, --seeds and --vary")
     s = load_study(args.study, args)
     what = plan_sweep(s, args)
     rows, count = SweepRows(what, s), len(what)
@@ -93,12 +93,12 @@ def sweep(args: argparse.Namespace) -> int:
     with (
         SweepTable(args.output, rows, what.sum(s), args.resume, args.force) as table,
         raise_on_sigterm(),
-        Progress(count, "studies", table.done, bar) as say,
+        Progress(count, "studies", table.done, bar) as progress,
     ):
         try:
             for lines in run_sweep(rows, table.done, args):
                 table.add(lines)
-                say(table.done)
+                progress(table.done)
         except (NoCluster, NotWritten) as e:
             raise type(e)("; ".join(filter(None, [str(e), table.where()]))) from None
         except (KeyboardInterrupt, Terminated):
@@ -122,9 +122,9 @@ def sweep(args: argparse.Namespace) -> int:
 
 
 def run_sweep(rows: SweepRows, begin: int, args: argparse.Namespace) -> Iterator[list[str]]:
-    """Return the rows of a sweep's studies from one on, in groups.
+    """Return the rows of a sweep's studies from `begin` on, in groups.
 
-    By a cluster, or here by as many processes as pay.
+    A cluster runs them, or processes of this machine.
     """
     what, run = rows.sweep, partial(rows.run, totals_and_queues)
     if args.scheduler is None:
@@ -160,7 +160,7 @@ def plan_variants(args: argparse.Namespace) -> VariantSweep:
         )
     if len(pairs) > 2:
         raise StudyError(
-            f"--vary is there {len(pairs)} times; a sweep varies one key,"
+            f"--vary is given {len(pairs)} times; a sweep varies one key,"
             " or each pair of two keys' values"
         )
     keys = [key for key, _, _ in pairs]
