@@ -7,6 +7,8 @@ use model::State;
 use model::Weights;
 use numbers::wide;
 use outflows::Ledger;
+use passes::HELD;
+use passes::QUEUE;
 ghost use mathlib.Core.Path.{_≡_};
 ghost use Prim.Native.Nat.{min, _-_, _^_, _≤_, _<_, _+_, _*_, max};
 ghost use Rattle.model.specs.Road.{mostLong, mostCells, withoutState};
@@ -18,6 +20,7 @@ ghost use Rattle.model.specs.Move.{heldSum, queueSum, presentOf, exitsOf};
 ghost use mathlib.Core.Bool.{cond};
 ghost use Rattle.model.specs.declared.State.{State};
 ghost use Rattle.model.specs.Weights.{weightedSum, weightedPresent};
+ghost use Rattle.passes.specs.Tables.{heldCol, queueCol};
 ghost use Rattle.counts.specs.WeightBounds.{mostProduct, mostWeightedPresent, mostWeightedTotal};
 ghost use Rattle.counts.specs.WeightSums.{Waiting};
 ghost use Rattle.model.specs.Longest.{queuesOf, longestQueues};
@@ -169,24 +172,24 @@ pub fn weighted(r: Road, s: State, weights: Weights) -> u64
     )
 }
 
-// A weighted total with the weighted present of one more step, on lent columns; unchanged if no weights are wanted.
+// A weighted total with the weighted present after one more step, on lent columns; unchanged if no weights are wanted.
 pub fn added<'a, 'b>(
     total: u64,
     weighs: bool,
     n: usize,
-    gate_queue: u32,
-    held: &'a [u32; 64],
-    queue: &'a [u32; 64],
+    l: Ledger,
+    state: &'a [[u32; 64]; 4],
     places: &'b [u8; 65],
     ramps: &'b [u8; 64],
 ) -> u64
     requires { ⌜ (total ≤ mostWeightedTotal) × (n ≤ mostCells) ⌝ }
-    ensures sum { λ r. ⌜ ((s : State) → Waiting «gate_queue» (now (held .entry)) (now (queue .entry)) s
+    ensures sum { λ r. ⌜ ((s : State) → Waiting (l .«gate_queue») (heldCol (now (state .entry))) (queueCol (now (state .entry))) s
         → r ≡ total + cond weighs (weightedPresent (at (now (places .entry))) (at (now (ramps .entry))) n s) 0) ⌝ }
     ensures bound { λ r. ⌜ r ≤ total + mostWeightedPresent ⌝ }
 {
     if weighs {
-        return total + weighted_places(n, gate_queue, held, queue, places, ramps);
+        let held = &state[HELD];
+        return total + weighted_places(n, l.gate_queue, held, &state[QUEUE], places, ramps);
     }
     total
 }
@@ -195,6 +198,16 @@ pub fn added<'a, 'b>(
 pub struct AtGate {
     pub gate: u32,
     pub waiting: u32,
+}
+
+// The longest gate queues before the first step.
+pub fn no_queue() -> AtGate
+    ensures { λ g. ⌜ (g .gate ≡ 0) × (g .waiting ≡ 0) ⌝ }
+{
+    AtGate {
+        gate: 0,
+        waiting: 0,
+    }
 }
 
 fn less(a: u32, b: u32) -> u32

@@ -1,3 +1,4 @@
+pub mod Tables
 pub mod Rest
 pub mod Supplies
 pub mod Outflows

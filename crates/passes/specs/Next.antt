@@ -25,22 +25,25 @@ use Rattle.theory.specs.RulesLaws.{share-cell, cumulative-cell, length-outflows
 use Rattle.model.specs.Move.{heldOf, queueOf, cumulativeOf, movedTo, countedOf, nextOf}
 use Rattle.stepping.specs.StepNeeds.{Steppable}
 use Rattle.outflows.specs.Rooms.{Rooms}
-use Rattle.passes.specs.Rest.{restOf}
+use Rattle.outflows.specs.declared.Ledger.{Ledger}
+use Rattle.passes.specs.declared.columns.Size.{Size}
+use Rattle.passes.specs.Tables.{Table, stateIn, heldCol, queueCol, cumulativeCol, restCol, roomCol, releaseCol, waitingCol, demandCol, QueuesKept, SumsKept}
+use Rattle.passes.specs.Rest.{restOf, Remainders}
 use Rattle.passes.specs.Supplies.{NoRamp, demandIn, demand-model, Demands}
 use Rattle.passes.specs.Outflows.{Pass, passOf, outAt, placeAt, enterAt, leftAt, grownAt, restAt, Sends, SentTo}
 use Rattle.passes.specs.RampList.{Listed, listed-map}
 use Rattle.passes.specs.AddReleases.{Idle, Adds, Addable, Added, givenAt}
 
 -- what a step has ready once its releases are taken: each ramp's release and its queue after it, the rooms, the remainders and the demands
-pub record NextAsks (q : Road) (s : State) (row : List ℕ) (ramps arrivals : ℕ) (cell release waiting room rest demand : List ℕ) : Type 0 where
-  pub steppable : Steppable q s row
+pub record NextAsks (q : Road) (l : Ledger) (state : Table) (row : List ℕ) (ramps arrivals : ℕ) (cell : List ℕ) (work : Table) : Type 0 where
+  pub columns : length state ≡ 4
+  pub steppable : Steppable q (stateIn l state) row
   pub listed : Listed (NoRamp (q .ramp)) (q .n) ramps cell
-  pub releases : (k : ℕ) → k < ramps → at release k ≡ releaseAt row (at cell k)
-  pub waits : (k : ℕ) → k < ramps → at waiting k ≡ queueOf s row (at cell k)
-  pub rooms : Rooms q s row room
-  pub rests : (i : ℕ) → i < q .n → at rest i ≡ restOf (at (q .share) i) (at (s .cumulative) i)
-  pub longRest : q .n ≤ length rest
-  pub demands : (i : ℕ) → i < q .n → at demand i ≡ demandAt q s (suc i)
+  pub releases : (k : ℕ) → k < ramps → at (releaseCol work) k ≡ releaseAt row (at cell k)
+  pub waits : (k : ℕ) → k < ramps → at (waitingCol work) k ≡ queueOf (stateIn l state) row (at cell k)
+  pub rooms : Rooms q (stateIn l state) row (roomCol work)
+  pub rests : Remainders (q .n) (q .share) state
+  pub demands : (i : ℕ) → i < q .n → at (demandCol work) i ≡ demandAt q (stateIn l state) (suc i)
   pub gate : arrivals ≡ gateArrivals row
 
 -- the demands have no further precondition, and are the model's
@@ -66,8 +69,17 @@ fill-over f g h n l m e = ext-getD 0 (fillOf g n (fillOf f n l)) (fillOf h n l)
     (λ (p : i < n). fill-at g n (fillOf f n l) i p (omega (arith, length-fill f n l)) ∙ e i p ∙ sym (fill-at h n l i p m))
     (order n i))
 
-module _ {q : Road} {s : State} {row : List ℕ} {ramps arrivals : ℕ} {cell release waiting room rest demand : List ℕ}
-    (k : NextAsks q s row ramps arrivals cell release waiting room rest demand) where
+module _ {q : Road} {l : Ledger} {state : Table} {row : List ℕ} {ramps arrivals : ℕ} {cell : List ℕ} {work : Table}
+    (k : NextAsks q l state row ramps arrivals cell work) where
+  abbrev s : State
+  s = stateIn l state
+
+  abbrev room : List ℕ
+  room = roomCol work
+
+  abbrev demand : List ℕ
+  demand = demandCol work
+
   -- with the gate's outflow
   module _ {first : ℕ} (ef : first ≡ min (gateDemandOf (q .«gate_capacity») (s .«gate_queue»)) (at room 0)) where
     abbrev c : Pass
@@ -140,23 +152,28 @@ module _ {q : Road} {s : State} {row : List ℕ} {ramps arrivals : ℕ} {cell re
     unfolding gateDemandOf
     first-most = omega (arith, ef, k .steppable .input .road .gate)
 
-    pub sends-ask : Sends (q .n) (passOf first (q .share) demand room (s .held) (s .cumulative)) rest
+    pub sends-ask : Sends (q .n) (passOf first (q .share) demand room (s .held) (s .cumulative)) (restCol state)
     sends-ask = record {
       cells = k .steppable .input .road .cells;
       longHeld = k .steppable .sized .held;
-      longRest = k .longRest;
+      longRest = k .rests .long;
       longCumulative = k .steppable .sized .cumulative;
       gate = first-most;
       shares = k .steppable .input .road .share;
       demands = demand-most;
       helds = held-most;
       cumulatives = λ i l. omega (arith, k .steppable .input .state .cumulative i l, k .steppable .input .state .done);
-      rests = k .rests;
+      rests = k .rests .are;
     }
 
     -- the columns after sending
-    module _ {y₀ held₁ rest₁ cumulative₁ y : List ℕ} {sum : ℕ}
-        (h : SentTo (q .n) (passOf first (q .share) demand room (s .held) (s .cumulative)) rest y₀ held₁ rest₁ cumulative₁ y sum) where
+    module _ {y₀ y : List ℕ} {state₁ : Table} {sum : ℕ}
+        (h : SentTo (q .n) (passOf first (q .share) demand room (s .held) (s .cumulative)) (restCol state) y₀
+        (heldCol state₁) (restCol state₁) (cumulativeCol state₁) y sum)
+        (same : QueuesKept state state₁) where
+      abbrev held₁ : List ℕ
+      held₁ = heldCol state₁
+
       left-is : (i : ℕ) → i < q .n → at held₁ i ≡ leftAt c i
       left-is i l = ap (λ (x : List ℕ). at x i) (h .helds) ∙ fill-at (leftAt c) (q .n) (s .held) i l (k .steppable .sized .held)
 
@@ -187,8 +204,8 @@ module _ {q : Road} {s : State} {row : List ℕ} {ramps arrivals : ℕ} {cell re
           let d = ok .state .noRamp i l z in
           record { gives = a; waits = omega arith; queues = d }
 
-      pub adds : Adds (releaseAt row) (queueOf s row) (q .n) ramps cell release waiting held₁ (s .queue)
-      adds = record {
+      pub adds : Adds (releaseAt row) (queueOf s row) (q .n) ramps cell (releaseCol work) (waitingCol work) (heldCol state₁) (queueCol state₁)
+      adds = rw (same .queues) (record {
         cells = k .steppable .input .road .cells;
         longHeld = omega (arith, ap length (h .helds), length-fill (leftAt c) (q .n) (s .held), k .steppable .sized .held);
         longQueue = k .steppable .sized .queue;
@@ -198,15 +215,16 @@ module _ {q : Road} {s : State} {row : List ℕ} {ramps arrivals : ℕ} {cell re
         helds = λ i l. omega (arith, left-is i l, enter-most i l, held-most i l);
         rates = k .steppable .input .row .release;
         queues = λ i l. omega (arith, k .steppable .input .state .queue i l, k .steppable .input .state .done, k .steppable .input .row .arrivals i l);
-      }
+      })
 
-      pub addable : Addable (q .n) ramps sum cell release waiting held₁ (s .queue)
+      pub addable : Addable (q .n) ramps sum cell (releaseCol work) (waitingCol work) (heldCol state₁) (queueCol state₁)
       addable = record { give = releaseAt row; wait = queueOf s row; adds = adds; small = h .bound }
 
       -- the columns are the model's
-      module _ {held₂ queue₂ : List ℕ} {onRoad atRamps : ℕ}
-          (g : Added (releaseAt row) (queueOf s row) (q .n) held₁ (s .queue) held₂ queue₂ sum onRoad atRamps) where
-        held-is : held₂ ≡ fillOf (heldOf q s row (outflowsOf q s row)) (q .n) (s .held)
+      module _ {state₂ : Table} {onRoad atRamps : ℕ}
+          (g : Added (releaseAt row) (queueOf s row) (q .n) (heldCol state₁) (queueCol state₁) (heldCol state₂) (queueCol state₂) sum onRoad atRamps)
+          (kept : SumsKept state₁ state₂) where
+        held-is : heldCol state₂ ≡ fillOf (heldOf q s row (outflowsOf q s row)) (q .n) (s .held)
         unfolding outAt
         held-is =
             g .helds
@@ -224,8 +242,11 @@ module _ {q : Road} {s : State} {row : List ℕ} {ramps arrivals : ℕ} {cell re
               demand-most i l,
             ))
 
-        cumulative-is : cumulative₁ ≡ fillOf (cumulativeOf s (outflowsOf q s row)) (q .n) (s .cumulative)
-        cumulative-is = h .cumulatives ∙ fill-same (grownAt c) (cumulativeOf s (outflowsOf q s row)) (q .n) (s .cumulative)
+        queue-is : queueCol state₂ ≡ fillOf (queueOf s row) (q .n) (s .queue)
+        queue-is = g .queues ∙ ap (fillOf (queueOf s row) (q .n)) (same .queues)
+
+        cumulative-is : cumulativeCol state₂ ≡ fillOf (cumulativeOf s (outflowsOf q s row)) (q .n) (s .cumulative)
+        cumulative-is = kept .cumulatives ∙ h .cumulatives ∙ fill-same (grownAt c) (cumulativeOf s (outflowsOf q s row)) (q .n) (s .cumulative)
             (λ i l.
             let one : at (outflowsOf q s row) (i + 1) ≡ at (outflowsOf q s row) (suc i) = ap (at (outflowsOf q s row)) (add-one i) in
             omega (arith, out-is i l, one))
@@ -240,40 +261,41 @@ module _ {q : Road} {s : State} {row : List ℕ} {ramps arrivals : ℕ} {cell re
               «ramp_time» = s .«ramp_time» + atRamps;
               «gate_queue» = gateQueue;
               «gate_cumulative» = gateCumulative;
-              held = held₂;
-              queue = queue₂;
-              cumulative = cumulative₁;
+              held = heldCol state₂;
+              queue = queueCol state₂;
+              cumulative = cumulativeCol state₂;
             }) (nextOf q s row (outflowsOf q s row))
         unfolding countedOf movedTo
         next-is {gateQueue} {gateCumulative} eg ec =
             let gq : gateQueue ≡ s .«gate_queue» + gateArrivals row - at (outflowsOf q s row) 0 = omega (arith, k .gate, first-there) in
             let gc : gateCumulative ≡ s .«gate_cumulative» + at (outflowsOf q s row) 0 = omega (arith, first-there) in
             let ro = g .road (h .sums) in
-            rw (gq, gc, ro, g .ramps, held-is, g .queues, cumulative-is)
+            rw (gq, gc, ro, g .ramps, held-is, queue-is, cumulative-is)
 
-        pub rests-are : (i : ℕ) → i < q .n → at rest₁ i ≡ restOf (at (q .share) i) (at cumulative₁ i)
-        rests-are i l =
-            ap (λ (x : List ℕ). at x i) (h .rests)
-            ∙ fill-at (restAt c) (q .n) rest i l (k .longRest)
-            ∙ ap (restOf (at (q .share) i))
-            (sym (ap (λ (x : List ℕ). at x i) (h .cumulatives) ∙ fill-at (grownAt c) (q .n) (s .cumulative) i l (k .steppable .sized .cumulative)))
-
-        pub rests-long : q .n ≤ length rest₁
-        rests-long = omega (arith, ap length (h .rests), length-fill (restAt c) (q .n) rest, k .longRest)
+        pub rests-are : Remainders (q .n) (q .share) state₂
+        rests-are = record {
+          are = λ i l.
+              ap (λ (x : List ℕ). at x i) (kept .rests ∙ h .rests)
+              ∙ fill-at (restAt c) (q .n) (restCol state) i l (k .rests .long)
+              ∙ ap (restOf (at (q .share) i))
+              (sym (ap (λ (x : List ℕ). at x i) (kept .cumulatives ∙ h .cumulatives)
+              ∙ fill-at (grownAt c) (q .n) (s .cumulative) i l (k .steppable .sized .cumulative)));
+          long = omega (arith, ap length (kept .rests ∙ h .rests), length-fill (restAt c) (q .n) (restCol state), k .rests .long);
+        }
 
 -- what a step requires: it is ready on some road with the columns lent
-pub record NextLent (n gate : ℕ) (share : List ℕ) (s : State) (ramps arrivals : ℕ) (cell release waiting room rest demand y : List ℕ) : Type 0 where
+pub record NextLent (z : Size) (share cell : List ℕ) (arrivals : ℕ) (l : Ledger) (state work : Table) (y : List ℕ) : Type 0 where
   pub road : Road
   pub row : List ℕ
-  pub ready : NextAsks (sending road n gate (road .speed) share (road .capacity)) s row ramps arrivals cell release waiting room rest demand
-  pub places : length y ≡ n + 1
+  pub ready : NextAsks (sending road (z .n) (z .«gate_capacity») (road .speed) share (road .capacity)) l state row (z .ramps) arrivals cell work
+  pub places : length y ≡ z .n + 1
 
 -- what it gives: the next state, the row of outflows and the remainders
-pub record Stepped (q : Road) (s : State) (row : List ℕ) (t : State) (y rest : List ℕ) : Type 0 where
-  pub state : t ≡ nextOf q s row (outflowsOf q s row)
+pub record Stepped (q : Road) (s : State) (row : List ℕ) (t : Ledger) (state : Table) (y : List ℕ) : Type 0 where
+  pub columns : length state ≡ 4
+  pub next : stateIn t state ≡ nextOf q s row (outflowsOf q s row)
   pub outflows : y ≡ outflowsOf q s row
-  pub rests : (i : ℕ) → i < q .n → at rest i ≡ restOf (at (q .share) i) (at (t .cumulative) i)
-  pub longRest : q .n ≤ length rest
+  pub rests : Remainders (q .n) (q .share) state
 
 -- the facts about the numbers of the ledger
 pub record NextTurn (s : State) (first arrivals : ℕ) : Type 0 where
@@ -285,9 +307,9 @@ pub record NextTurn (s : State) (first arrivals : ℕ) : Type 0 where
   pub done : s .done < mostSteps
   pub total : totalOf s ≤ mostTotal mostSteps
 
-pub next-turn : {q : Road} {s : State} {row : List ℕ} {ramps arrivals : ℕ} {cell release waiting room rest demand : List ℕ} {first : ℕ}
-    → NextAsks q s row ramps arrivals cell release waiting room rest demand → first ≡ min (gateDemandOf (q .«gate_capacity») (s .«gate_queue»)) (at room 0)
-    → NextTurn s first arrivals
+pub next-turn : {q : Road} {l : Ledger} {state : Table} {row : List ℕ} {ramps arrivals : ℕ} {cell : List ℕ} {work : Table} {first : ℕ}
+    → NextAsks q l state row ramps arrivals cell work → first ≡ min (gateDemandOf (q .«gate_capacity») (l .«gate_queue»)) (at (roomCol work) 0)
+    → NextTurn (stateIn l state) first arrivals
 unfolding gateDemandOf
 next-turn k e =
     let ok = k .steppable .input in

@@ -4,9 +4,11 @@ use mathlib.Core.List.{List}
 use Prim.Native.Nat.{ℕ, zero, suc, _+_, _-_, _*_, _/_, _%_, _^_, _≤_, _<_, min}
 use native.Mathlib.Nat.{mul-le-mul, mul-add, mul-suc, mul-comm, zero-mul, le-div-iff-mul-le, le-refl}
 use native.Mathlib.Omega.{arith}
+use lib.ListN.{length}
 use Rattle.model.specs.Numbers.{at}
 use Rattle.model.specs.Flow.{whole, thousandthsOf, onwardOf, enteringOf, outflowOf}
 use Rattle.flow.specs.FlowLaws.{outflow-le, outflow-greatest, outflow-unique, outflow-whole, entering-mono, entering-whole, onward-entering, onward-whole}
+use Rattle.passes.specs.Tables.{Table, cumulativeCol, restCol}
 
 -- the remainder of b × F by 1,000: b × F less 1,000 times the onward total
 unfoldable pub restOf : ℕ → ℕ → ℕ
@@ -15,6 +17,11 @@ restOf b F = b * F - whole * onwardOf b F
 -- the same for columns
 abbrev pub restIn : List ℕ → List ℕ → ℕ → ℕ
 restIn share cumulative i = restOf (at share i) (at cumulative i)
+
+-- a state's table has the remainders of its first n cells
+pub record Remainders (n : ℕ) (share : List ℕ) (state : Table) : Type 0 where
+  pub are : (i : ℕ) → i < n → at (restCol state) i ≡ restOf (at share i) (at (cumulativeCol state) i)
+  pub long : n ≤ length (restCol state)
 
 -- the code's remainder
 pub rest-found : (b F x : ℕ) → x ≡ b * F % whole → x ≡ restOf b F

@@ -4,14 +4,16 @@ use mathlib.Core.Bool.{Bool, true, false}
 use mathlib.Core.List.{List}
 use Prim.Native.Nat.{ℕ, _+_, _*_, _≤_, _<_}
 use native.Mathlib.Omega.{arith}
-use lib.ListN.{length}
+use lib.ListN.{length, set}
 use Rattle.model.specs.Numbers.{at, fillOf}
 use Rattle.numbers.specs.RowsLaws.{length-fill}
 use Rattle.model.specs.Refusals.{FaultAnswer, fault}
 use Rattle.model.specs.Road.{mostSteps}
 use Rattle.model.specs.declared.Road.{Road}
 use Rattle.model.specs.declared.State.{State}
-use Rattle.outflows.specs.Columns.{roadOf}
+use Rattle.outflows.specs.declared.Ledger.{Ledger}
+use Rattle.passes.specs.declared.columns.Size.{Size}
+use Rattle.passes.specs.Tables.{Table, roadIn, stateIn, cellCol, demandCol, LongColumns, StoredDemands, store-demands}
 use Rattle.limits.specs.LimitsLaws.{InputOk}
 use Rattle.model.specs.Record.{numberOf, versionOf, rowStart, recordRow}
 use Rattle.fields.specs.FieldsLaws.{HoldsRow, row-at}
@@ -21,46 +23,42 @@ use Rattle.model.specs.Schedules.{outflowsOf}
 use Rattle.model.specs.Move.{nextOf}
 use Rattle.model.specs.Stepping.{releasesOf}
 use Rattle.theory.specs.StepLaws.{number-of, releases-fit, fit-releases}
-use Rattle.passes.specs.Rest.{restOf}
+use Rattle.passes.specs.Rest.{Remainders}
 use Rattle.passes.specs.Supplies.{NoRamp, demandIn}
 use Rattle.passes.specs.RampList.{Listed}
 use Rattle.passes.specs.TakeReleases.{arriveIn, giveIn}
 use Rattle.passes.specs.ReleasesFit.{Fittable, FitFound}
 use Rattle.passes.specs.Next.{NextAsks, demands-are, Stepped}
 
--- what a loop over the steps keeps for its passes: the cells with a ramp in a list, the remainders of b × F, and arrays with an entry for each cell
-pub record Arrays (r : Road) (ramps : ℕ) (cell cumulative rest room release waiting demand : List ℕ) : Type 0 where
+-- what a loop over the steps keeps for its passes: the cells with a ramp in a list, the remainders of b × F, and columns with an entry for each cell
+pub record Arrays (r : Road) (ramps : ℕ) (cell : List ℕ) (state work : Table) : Type 0 where
   pub listed : Listed (NoRamp (r .ramp)) (r .n) ramps cell
-  pub rests : (i : ℕ) → i < r .n → at rest i ≡ restOf (at (r .share) i) (at cumulative i)
-  pub longRest : r .n ≤ length rest
-  pub longRoom : r .n ≤ length room
-  pub longRelease : r .n ≤ length release
-  pub longWaiting : r .n ≤ length waiting
-  pub longDemand : r .n ≤ length demand
+  pub columns : length state ≡ 4
+  pub rests : Remainders (r .n) (r .share) state
+  pub long : LongColumns (r .n) work
 
 -- what a step requires: everything is within the limits; a step is left; the row is in the bytes; the arrays are as above; y has room for the outflows
-pub record StepAsks (bytes : List ℕ) (k : ℕ) (q : Road) (s : State) (ramps : ℕ) (cell rest room release waiting demand y : List ℕ) : Type 0 where
-  pub input : InputOk q s (recordRow bytes (q .n) k)
-  pub sized : Sized q s
-  pub left : s .done < mostSteps
+pub record StepAsks (bytes : List ℕ) (k : ℕ) (q : Road) (ramps : ℕ) (cell : List ℕ) (l : Ledger) (state work : Table) (y : List ℕ) : Type 0 where
+  pub input : InputOk q (stateIn l state) (recordRow bytes (q .n) k)
+  pub sized : Sized q (stateIn l state)
+  pub left : l .done < mostSteps
   pub holds : HoldsRow bytes (q .n) k
-  pub arrays : Arrays q ramps cell (s .cumulative) rest room release waiting demand
+  pub arrays : Arrays q ramps cell state work
   pub places : length y ≡ q .n + 1
 
 -- the same for some road with the columns lent
-pub record StepLent (bytes : List ℕ) (k n gate : ℕ) (speed wave share jam capacity : List ℕ) (s : State) (ramps : ℕ)
-    (cell rest room release waiting demand y : List ℕ) : Type 0 where
+pub record StepLent (bytes : List ℕ) (k : ℕ) (z : Size) (rates sizes : Table) (l : Ledger) (state work : Table) (y : List ℕ) : Type 0 where
   pub road : Road
-  pub asks : StepAsks bytes k (roadOf road n gate speed wave share jam capacity) s ramps cell rest room release waiting demand y
+  pub asks : StepAsks bytes k (roadIn road z rates sizes) (z .ramps) (cellCol sizes) l state work y
 
 -- what a step gives: the fault of its releases. With a fault, state and row are unchanged; without one, the next state, its outflows and the arrays
-pub record StepGives (bytes : List ℕ) (k : ℕ) (q : Road) (s : State) (ramps : ℕ) (cell y₀ : List ℕ) (f : FaultAnswer) (t : State)
-    (rest room release waiting demand y : List ℕ) : Type 0 where
-  pub says : f ≡ releasesOf q s (recordRow bytes (q .n) k)
-  pub same : (f .number ≡ 0 → ⊥) → (t ≡ s) × (y ≡ y₀)
-  pub state : f .number ≡ 0 → t ≡ nextOf q s (recordRow bytes (q .n) k) (outflowsOf q s (recordRow bytes (q .n) k))
-  pub outflows : f .number ≡ 0 → y ≡ outflowsOf q s (recordRow bytes (q .n) k)
-  pub arrays : f .number ≡ 0 → Arrays q ramps cell (t .cumulative) rest room release waiting demand
+pub record StepGives (bytes : List ℕ) (k : ℕ) (q : Road) (ramps : ℕ) (cell : List ℕ) (l₀ : Ledger) (state₀ : Table) (y₀ : List ℕ)
+    (f : FaultAnswer) (l : Ledger) (state work : Table) (y : List ℕ) : Type 0 where
+  pub says : f ≡ releasesOf q (stateIn l₀ state₀) (recordRow bytes (q .n) k)
+  pub same : (f .number ≡ 0 → ⊥) → (stateIn l state ≡ stateIn l₀ state₀) × (y ≡ y₀)
+  pub next : f .number ≡ 0 → stateIn l state ≡ nextOf q (stateIn l₀ state₀) (recordRow bytes (q .n) k) (outflowsOf q (stateIn l₀ state₀) (recordRow bytes (q .n) k))
+  pub outflows : f .number ≡ 0 → y ≡ outflowsOf q (stateIn l₀ state₀) (recordRow bytes (q .n) k)
+  pub arrays : f .number ≡ 0 → Arrays q ramps cell state work
 
 -- a row's numbers at their bytes
 module _ (bytes : List ℕ) (n k start : ℕ) (e : start ≡ rowStart (versionOf bytes) n k) where
@@ -80,13 +78,16 @@ module _ (bytes : List ℕ) (n k start : ℕ) (e : start ≡ rowStart (versionOf
       ap (λ (p : ℕ). numberOf bytes p 4) (let g : start + 4 + 8 * i + 4 ≡ rowStart (versionOf bytes) n k + 4 * (2 * i + 2) = omega arith in g)
       ∙ sym (row-at bytes n k (2 * i + 2) (omega arith))
 
-module _ {bytes : List ℕ} {k : ℕ} {q : Road} {s : State} {ramps : ℕ} {cell rest₀ room₀ release₀ waiting₀ demand₀ y₀ : List ℕ}
-    (h : StepAsks bytes k q s ramps cell rest₀ room₀ release₀ waiting₀ demand₀ y₀) where
+module _ {bytes : List ℕ} {k : ℕ} {q : Road} {ramps : ℕ} {cell : List ℕ} {l₀ : Ledger} {state₀ work₀ : Table} {y₀ : List ℕ}
+    (h : StepAsks bytes k q ramps cell l₀ state₀ work₀ y₀) where
+  abbrev s : State
+  s = stateIn l₀ state₀
+
   abbrev row : List ℕ
   row = recordRow bytes (q .n) k
 
   -- the test of the releases has no further precondition
-  pub fittable : {start : ℕ} → start ≡ rowStart (versionOf bytes) (q .n) k → Fittable bytes start q s row ramps cell room₀ release₀ waiting₀
+  pub fittable : {start : ℕ} → start ≡ rowStart (versionOf bytes) (q .n) k → Fittable bytes start q s row ramps cell work₀
   fittable {start} e = record {
     input = h .input;
     sized = h .sized;
@@ -94,55 +95,62 @@ module _ {bytes : List ℕ} {k : ℕ} {q : Road} {s : State} {ramps : ℕ} {cell
     held = omega (arith, h .holds .row);
     arrivals = arrive-row bytes (q .n) k start e;
     releases = give-row bytes (q .n) k start e;
-    longRoom = h .arrays .longRoom;
-    longRelease = h .arrays .longRelease;
-    longWaiting = h .arrays .longWaiting;
+    long = h .arrays .long;
   }
 
-  module _ {ok : Bool} {room release waiting : List ℕ} (f : FitFound ok q s row ramps cell room₀ release₀ waiting₀ room release waiting) where
+  module _ {ok : Bool} {work : Table} (f : FitFound ok q s row ramps cell work) where
     -- releases that don't fit have a fault
     some-fault : {x : FaultAnswer} → ok ≡ false → x ≡ releasesOf q s row → x .number ≡ 0 → ⊥
     some-fault z e n = f .no z (releases-fit q s row (sym (number-of e) ∙ n))
 
-    pub gives-fault : {x : FaultAnswer} → ok ≡ false → x ≡ releasesOf q s row
-        → StepGives bytes k q s ramps cell y₀ x s rest₀ room release waiting demand₀ y₀
+    pub gives-fault : {x : FaultAnswer} → ok ≡ false → x ≡ releasesOf q s row → StepGives bytes k q ramps cell l₀ state₀ y₀ x l₀ state₀ work y₀
     gives-fault z e = record {
       says = e;
       same = λ _. (refl, refl);
-      state = λ n. absurd (some-fault z e n);
+      next = λ n. absurd (some-fault z e n);
       outflows = λ n. absurd (some-fault z e n);
       arrays = λ n. absurd (some-fault z e n);
     }
 
     -- otherwise, with the demands, the step is ready
-    module _ {demand : List ℕ} (ed : demand ≡ fillOf (demandIn (q .speed) (q .capacity) (s .held)) (q .n) demand₀) where
-      pub ready : {arrivals : ℕ} → ok ≡ true → arrivals ≡ gateArrivals row → NextAsks q s row ramps arrivals cell release waiting room rest₀ demand
-      ready y e = record {
-        steppable = record { input = h .input; sized = h .sized; released = f .yes y .released; left = h .left };
+    module _ {demand : List ℕ} (ed : demand ≡ fillOf (demandIn (q .speed) (q .capacity) (s .held)) (q .n) (demandCol work)) (fits : ok ≡ true) where
+      stored : StoredDemands work (set work 3 demand) demand
+      stored = store-demands work (f .yes fits .long .columns) demand
+
+      pub ready : {arrivals : ℕ} → arrivals ≡ gateArrivals row → NextAsks q l₀ state₀ row ramps arrivals cell (set work 3 demand)
+      ready e = record {
+        columns = h .arrays .columns;
+        steppable = record { input = h .input; sized = h .sized; released = f .yes fits .released; left = h .left };
         listed = h .arrays .listed;
-        releases = f .yes y .releases;
-        waits = f .yes y .waits;
-        rooms = f .yes y .rooms;
+        releases = rw (stored .releases) (f .yes fits .releases);
+        waits = rw (stored .waits) (f .yes fits .waits);
+        rooms = rw (stored .rooms) (f .yes fits .rooms);
         rests = h .arrays .rests;
-        longRest = h .arrays .longRest;
-        demands = demands-are q s demand₀ (h .arrays .longDemand) ed;
+        demands = demands-are q s (demandCol work) (f .yes fits .long .demand) (stored .demands ∙ ed);
         gate = e;
       }
 
-      pub gives-step : {x : FaultAnswer} {t : State} {rest y : List ℕ} → ok ≡ true → x ≡ fault 0 0 → Stepped q s row t y rest
-          → StepGives bytes k q s ramps cell y₀ x t rest room release waiting demand y
-      gives-step fits e st = record {
-        says = e ∙ sym (fit-releases q s row (f .yes fits .released));
-        same = λ n. absurd (n (number-of e));
-        state = λ _. st .state;
-        outflows = λ _. st .outflows;
-        arrays = λ _. record {
-          listed = h .arrays .listed;
-          rests = st .rests;
-          longRest = st .longRest;
-          longRoom = omega (arith, h .arrays .longRoom, f .yes fits .sameRoom);
-          longRelease = omega (arith, h .arrays .longRelease, f .yes fits .sameRelease);
-          longWaiting = omega (arith, h .arrays .longWaiting, f .yes fits .sameWaiting);
-          longDemand = omega (arith, h .arrays .longDemand, ap length ed, length-fill (demandIn (q .speed) (q .capacity) (s .held)) (q .n) demand₀);
-        };
-      }
+      pub gives-step : {x : FaultAnswer} {t : Ledger} {state : Table} {y : List ℕ} → x ≡ fault 0 0 → Stepped q s row t state y
+          → StepGives bytes k q ramps cell l₀ state₀ y₀ x t state (set work 3 demand) y
+      gives-step e st =
+          let w = f .yes fits .long in
+          record {
+            says = e ∙ sym (fit-releases q s row (f .yes fits .released));
+            same = λ n. absurd (n (number-of e));
+            next = λ _. st .next;
+            outflows = λ _. st .outflows;
+            arrays = λ _. record {
+              listed = h .arrays .listed;
+              columns = st .columns;
+              rests = st .rests;
+              long = record {
+                columns = stored .columns;
+                room = omega (arith, ap length (stored .rooms), w .room);
+                release = omega (arith, ap length (stored .releases), w .release);
+                waiting = omega (arith, ap length (stored .waits), w .waiting);
+                demand =
+                    omega (arith, ap length (stored .demands ∙ ed), length-fill (demandIn (q .speed) (q .capacity) (s .held)) (q .n) (demandCol work), w .demand);
+                came = omega (arith, ap length (stored .came), w .came);
+              };
+            };
+          }

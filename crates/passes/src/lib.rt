@@ -1,12 +1,31 @@
 // One step in passes over columns, in 32 bits: supplies, releases, demands, then outflows and move. Of b x F only the remainder by 1,000 is needed.
 mod at_ramps;
+mod columns;
 mod sending;
 
-pub use at_ramps::ramp_cells;
+pub use columns::CAME;
+pub use columns::CAPACITY;
+pub use columns::CELL;
+pub use columns::CUMULATIVE;
+pub use columns::DEMAND;
+pub use columns::HELD;
+pub use columns::JAM;
+pub use columns::QUEUE;
+pub use columns::RELEASE;
+pub use columns::REST;
+pub use columns::ROOM;
+pub use columns::SHARE;
+pub use columns::SPEED;
+pub use columns::Size;
+pub use columns::WAITING;
+pub use columns::WAVE;
+pub use columns::list_ramps;
+pub use columns::of_state;
+pub use columns::rates;
+pub use columns::sizes;
 use model::Fault;
 use model::Refusal;
 use outflows::Ledger;
-pub use sending::remainders;
 ghost use mathlib.Core.Path.{_≡_};
 ghost use mathlib.Core.List.{List};
 ghost use Prim.Native.Nat.{ℕ, min};
@@ -17,7 +36,8 @@ ghost use Rattle.model.specs.Stepping.{releasesOf};
 ghost use Rattle.fields.specs.FieldsLaws.{HoldsRow};
 ghost use Rattle.model.specs.Record.{recordRow};
 ghost use Rattle.outflows.specs.declared.Ledger.{Ledger};
-ghost use Rattle.outflows.specs.Columns.{roadOf, sending, supplying, stateOf};
+ghost use Rattle.outflows.specs.Columns.{sending, supplying};
+ghost use Rattle.passes.specs.Tables.{roadIn, stateIn, jamCol, capacityCol, cellCol};
 ghost use Rattle.passes.specs.Supplies.{supplyIn, demandIn, Supplies, Demands};
 ghost use Rattle.passes.specs.Next.{NextAsks, NextLent, Stepped};
 ghost use Rattle.passes.specs.Step.{StepAsks, StepLent, StepGives};
@@ -55,7 +75,7 @@ pub fn demands(
     speed: &[u16; 64],
     capacity: &[u32; 64],
     held: &[u32; 64],
-    demand: &mut [u32; 64],
+    demand: &mut [u32; 65],
 )
     requires { ⌜ Demands count (now speed) (now held) ⌝ }
     ensures { λ _. ⌜ now (demand .exit)
@@ -74,15 +94,13 @@ fn fault<'a, 'b>(
     n: usize,
     k: usize,
     wave: &'a [u16; 64],
-    jam: &'a [u32; 64],
-    capacity: &'a [u32; 64],
-    held: &'b [u32; 64],
-    queue: &'b [u32; 64],
+    sizes: &'a [[u32; 64]; 3],
+    state: &'b [[u32; 64]; 4],
 ) -> Fault
     requires { ⌜ HoldsRow (now bytes) n k ⌝ }
-    ensures { λ q. ⌜ ((r : Road) (l : Ledger) (cumulative : List ℕ) → faultAnswer q
-        ≡ releasesOf (supplying r n (now (wave .entry)) (now (jam .entry)) (now (capacity .entry)))
-        (stateOf l (now (held .entry)) (now (queue .entry)) cumulative) (recordRow (now (bytes .entry)) n k)) ⌝ }
+    ensures { λ q. ⌜ ((r : Road) (l : Ledger) → faultAnswer q
+        ≡ releasesOf (supplying r n (now (wave .entry)) (jamCol (now (sizes .entry))) (capacityCol (now (sizes .entry))))
+        (stateIn l (now (state .entry))) (recordRow (now (bytes .entry)) n k)) ⌝ }
 {
     let numbers = 1 + 2 * n;
     let row = fields::row(bytes, n, k);
@@ -90,10 +108,10 @@ fn fault<'a, 'b>(
     outflows::lent::releases(
         n,
         wave,
-        jam,
-        capacity,
-        held,
-        queue,
+        &sizes[JAM],
+        &sizes[CAPACITY],
+        &state[HELD],
+        &state[QUEUE],
         &row[..numbers],
         &mut room,
     )
@@ -101,36 +119,38 @@ fn fault<'a, 'b>(
 
 // A step whose releases are taken and whose demands are known: outflows, move and count.
 pub fn next(
-    n: usize,
-    gate_capacity: u32,
+    size: Size,
     share: &[u16; 64],
-    l: Ledger,
-    ramps: usize,
+    cell: &[u32; 64],
     arrivals: u32,
-    cell: &[usize; 64],
-    release: &[u32; 64],
-    waiting: &[u32; 64],
-    room: &[u32; 65],
-    demand: &[u32; 64],
-    held: &mut [u32; 64],
-    queue: &mut [u32; 64],
-    cumulative: &mut [u32; 64],
-    rest: &mut [u32; 64],
+    l: Ledger,
+    work: &[[u32; 65]; 5],
+    state: &mut [[u32; 64]; 4],
     y: &mut [u32],
 ) -> Ledger
-    requires { ⌜ NextLent n «gate_capacity» (now share) (stateOf l (now held) (now queue) (now cumulative)) ramps arrivals
-        (now cell) (now release) (now waiting) (now room) (now rest) (now demand) (now y) ⌝ }
+    requires { ⌜ NextLent size (now share) (now cell) arrivals l (now state) (now work) (now y) ⌝ }
     ensures { λ t. ⌜ ((r : Road) (row : List ℕ)
-        → NextAsks (sending r n «gate_capacity» (r .speed) (now (share .entry)) (r .capacity))
-        (stateOf l (now (held .entry)) (now (queue .entry)) (now (cumulative .entry))) row ramps arrivals
-        (now (cell .entry)) (now (release .entry)) (now (waiting .entry)) (now (room .entry)) (now (rest .entry)) (now (demand .entry))
-        → Stepped (sending r n «gate_capacity» (r .speed) (now (share .entry)) (r .capacity))
-        (stateOf l (now (held .entry)) (now (queue .entry)) (now (cumulative .entry))) row
-        (stateOf t (now (held .exit)) (now (queue .exit)) (now (cumulative .exit))) (now (y .exit)) (now (rest .exit))) ⌝ }
+        → NextAsks (sending r (size .n) (size .«gate_capacity») (r .speed) (now (share .entry)) (r .capacity)) l (now (state .entry)) row
+        (size .ramps) arrivals (now (cell .entry)) (now (work .entry))
+        → Stepped (sending r (size .n) (size .«gate_capacity») (r .speed) (now (share .entry)) (r .capacity)) (stateIn l (now (state .entry))) row
+        t (now (state .exit)) (now (y .exit))) ⌝ }
 {
-    let first = least(flow::gate_demand(gate_capacity, l.gate_queue), room[0]);
-    let sent = sending::send(n, share, demand, room, first, held, rest, cumulative, y);
-    let sums = at_ramps::add_releases(n, ramps, cell, release, waiting, sent, held, queue);
+    let n = size.n;
+    let rooms = &work[ROOM];
+    let first = least(
+        flow::gate_demand(size.gate_capacity, l.gate_queue),
+        rooms[0],
+    );
+    let sent = sending::send(n, share, &work[DEMAND], rooms, first, state, y);
+    let sums = at_ramps::add_releases(
+        n,
+        size.ramps,
+        cell,
+        &work[RELEASE],
+        &work[WAITING],
+        sent,
+        state,
+    );
     let queued = l.gate_queue + arrivals - first;
     Ledger {
         done: l.done + 1,
@@ -148,70 +168,67 @@ pub struct Outcome {
     pub ledger: Ledger,
 }
 
-// Step `k` of a record on a road and a state that are lent column by column; `y` receives its outflows. A fault leaves state and row unchanged.
+// Step `k` of a record on a road and a state that are lent as tables of columns; `y` receives its outflows. A fault leaves state and row unchanged.
 pub fn step<'a>(
     bytes: &[u8],
     k: usize,
-    n: usize,
-    gate_capacity: u32,
-    speed: &'a [u16; 64],
-    wave: &'a [u16; 64],
-    share: &'a [u16; 64],
-    jam: &'a [u32; 64],
-    capacity: &'a [u32; 64],
-    ramps: usize,
-    cell: &[usize; 64],
+    size: Size,
+    rates: &'a [[u16; 64]; 3],
+    sizes: &'a [[u32; 64]; 3],
     l: Ledger,
-    held: &mut [u32; 64],
-    queue: &mut [u32; 64],
-    cumulative: &mut [u32; 64],
-    rest: &mut [u32; 64],
-    room: &mut [u32; 65],
-    release: &mut [u32; 64],
-    waiting: &mut [u32; 64],
-    demand: &mut [u32; 64],
+    state: &mut [[u32; 64]; 4],
+    work: &mut [[u32; 65]; 5],
     y: &mut [u32],
 ) -> Outcome
-    requires { ⌜ StepLent (now bytes) k n «gate_capacity» (now speed) (now wave) (now share) (now jam) (now capacity) (stateOf l (now held) (now queue) (now cumulative))
-        ramps (now cell) (now rest) (now room) (now release) (now waiting) (now demand) (now y) ⌝ }
+    requires { ⌜ StepLent (now bytes) k size (now rates) (now sizes) l (now state) (now work) (now y) ⌝ }
     ensures { λ p. ⌜ ((r : Road)
-        → StepAsks (now (bytes .entry)) k (roadOf r n «gate_capacity» (now (speed .entry)) (now (wave .entry)) (now (share .entry)) (now (jam .entry)) (now (capacity .entry)))
-        (stateOf l (now (held .entry)) (now (queue .entry)) (now (cumulative .entry))) ramps (now (cell .entry))
-        (now (rest .entry)) (now (room .entry)) (now (release .entry)) (now (waiting .entry)) (now (demand .entry)) (now (y .entry))
-        → StepGives (now (bytes .entry)) k
-        (roadOf r n «gate_capacity» (now (speed .entry)) (now (wave .entry)) (now (share .entry)) (now (jam .entry)) (now (capacity .entry)))
-        (stateOf l (now (held .entry)) (now (queue .entry)) (now (cumulative .entry))) ramps (now (cell .entry)) (now (y .entry)) (faultAnswer (p .fault))
-        (stateOf (p .ledger) (now (held .exit)) (now (queue .exit)) (now (cumulative .exit)))
-        (now (rest .exit)) (now (room .exit)) (now (release .exit)) (now (waiting .exit)) (now (demand .exit)) (now (y .exit))) ⌝ }
+        → StepAsks (now (bytes .entry)) k (roadIn r size (now (rates .entry)) (now (sizes .entry))) (size .ramps) (cellCol (now (sizes .entry)))
+        l (now (state .entry)) (now (work .entry)) (now (y .entry))
+        → StepGives (now (bytes .entry)) k (roadIn r size (now (rates .entry)) (now (sizes .entry))) (size .ramps) (cellCol (now (sizes .entry)))
+        l (now (state .entry)) (now (y .entry)) (faultAnswer (p .fault)) (p .ledger) (now (state .exit)) (now (work .exit)) (now (y .exit))) ⌝ }
 {
+    let n = size.n;
     let start = fields::row_start(fields::version(bytes), n, k);
-    supplies(n, wave, jam, capacity, held, room);
-    let fits = at_ramps::take_releases(bytes, start, n, ramps, cell, queue, room, release, waiting);
+    supplies(
+        n,
+        &rates[WAVE],
+        &sizes[JAM],
+        &sizes[CAPACITY],
+        &state[HELD],
+        &mut work[ROOM],
+    );
+    let fits = at_ramps::take_releases(
+        bytes,
+        start,
+        n,
+        size.ramps,
+        &sizes[CELL],
+        &state[QUEUE],
+        work,
+    );
     if !fits {
-        let found = fault(bytes, n, k, wave, jam, capacity, held, queue);
+        let found = fault(bytes, n, k, &rates[WAVE], sizes, state);
         return Outcome {
             fault: found,
             ledger: l,
         };
     }
     let arrivals = fields::number(bytes, start, fields::NUMBER_SIZE);
-    demands(n, speed, capacity, held, demand);
-    let ledger = next(
+    demands(
         n,
-        gate_capacity,
-        share,
-        l,
-        ramps,
+        &rates[SPEED],
+        &sizes[CAPACITY],
+        &state[HELD],
+        &mut work[DEMAND],
+    );
+    let ledger = next(
+        size,
+        &rates[SHARE],
+        &sizes[CELL],
         arrivals,
-        cell,
-        release,
-        waiting,
-        room,
-        demand,
-        held,
-        queue,
-        cumulative,
-        rest,
+        l,
+        work,
+        state,
         y,
     );
     let none = Fault {

@@ -1,4 +1,7 @@
 // The pass that computes the outflows and moves the cells, one after the other.
+use crate::CUMULATIVE;
+use crate::HELD;
+use crate::REST;
 ghost use mathlib.Core.Path.{_≡_};
 ghost use Prim.Native.Nat.{ℕ, _+_, _≤_};
 ghost use lib.ListN.{length};
@@ -6,6 +9,7 @@ ghost use Rattle.model.specs.Flow.{whole};
 ghost use Rattle.model.specs.Road.{mostRate, mostCells};
 ghost use Rattle.model.specs.Numbers.{fillOf};
 ghost use Rattle.passes.specs.Rest.{restOf, restIn, Sent};
+ghost use Rattle.passes.specs.Tables.{heldCol, cumulativeCol, restCol, QueuesKept};
 ghost use Rattle.passes.specs.Outflows.{passOf, Sends, SentTo};
 
 // What a place sends in a step: its outflow, what enters the next cell, and the next remainder of b x F by 1,000.
@@ -67,35 +71,35 @@ fn outflow_by_rest(share: u16, rest: u32, demand: u32, room: u32) -> Flow
     }
 }
 
-// Outflows and move of all cells, without their releases. Returns the sum of the held counts afterwards; `rest` holds the remainders of b x F by 1,000.
+// Outflows and move of all cells, without their releases. Returns the sum of the held counts afterwards.
 pub fn send(
     n: usize,
     share: &[u16; 64],
-    demand: &[u32; 64],
+    demand: &[u32; 65],
     room: &[u32; 65],
     first: u32,
-    held: &mut [u32; 64],
-    rest: &mut [u32; 64],
-    cumulative: &mut [u32; 64],
+    state: &mut [[u32; 64]; 4],
     y: &mut [u32],
 ) -> u32
-    requires { ⌜ Sends n (passOf first (now share) (now demand) (now room) (now held) (now cumulative)) (now rest)
-        × (length (now y) ≡ n + 1) ⌝ }
-    ensures { λ sum. ⌜ SentTo n (passOf first (now (share .entry)) (now (demand .entry)) (now (room .entry)) (now (held .entry)) (now (cumulative .entry)))
-        (now (rest .entry)) (now (y .entry)) (now (held .exit)) (now (rest .exit)) (now (cumulative .exit)) (now (y .exit)) sum ⌝ }
+    requires { ⌜ Sends n (passOf first (now share) (now demand) (now room) (heldCol (now state)) (cumulativeCol (now state))) (restCol (now state))
+        × ((length (now state) ≡ 4) × (length (now y) ≡ n + 1)) ⌝ }
+    ensures { λ sum. ⌜ SentTo n (passOf first (now (share .entry)) (now (demand .entry)) (now (room .entry)) (heldCol (now (state .entry)))
+        (cumulativeCol (now (state .entry)))) (restCol (now (state .entry))) (now (y .entry))
+        (heldCol (now (state .exit))) (restCol (now (state .exit))) (cumulativeCol (now (state .exit))) (now (y .exit)) sum ⌝ }
+    ensures kept { λ sum. ⌜ QueuesKept (now (state .entry)) (now (state .exit)) ⌝ }
 {
     y[0] = first;
     let mut entering = first;
     let mut on_road: u32 = 0;
     let mut i = 0;
     while i < n {
-        let s = outflow_by_rest(share[i], rest[i], demand[i], room[i + 1]);
+        let s = outflow_by_rest(share[i], state[REST][i], demand[i], room[i + 1]);
         let outflow = s.outflow;
-        let left = held[i] + entering - outflow;
+        let left = state[HELD][i] + entering - outflow;
         y[i + 1] = outflow;
-        cumulative[i] = cumulative[i] + outflow;
-        held[i] = left;
-        rest[i] = s.rest;
+        state[CUMULATIVE][i] = state[CUMULATIVE][i] + outflow;
+        state[HELD][i] = left;
+        state[REST][i] = s.rest;
         on_road = on_road + left;
         entering = s.entering;
         i += 1;

@@ -6,21 +6,22 @@ use Rattle.model.specs.Flow.{gateDemandOf}
 use Rattle.model.specs.declared.Road.{Road}
 use Rattle.model.specs.declared.State.{State}
 use Rattle.model.specs.Numbers.{at}
-use Rattle.outflows.specs.Columns.{sending, stateOf}
-use Rattle.passes.specs.Next.{sends-ask, adds, addable, row-sent, next-is, rests-are, rests-long, NextTurn, next-turn}
+use Rattle.outflows.specs.Columns.{sending}
+use Rattle.passes.specs.Tables.{stateIn, roomCol}
+use Rattle.passes.specs.Next.{sends-ask, adds, addable, row-sent, next-is, rests-are, NextTurn, next-turn}
 use Rattle.passes.proofs.next.Statement.{statement}
 use Rattle.passes.proofs.next.Tie as tie
 use borrow.Author.Needs.{needs}
 
 -- places of the code: the arguments from the gate's outflow, and each call from the next
 abbrev A : tie.After-least → tie.Start
-A c = c .before .before .before .before
+A c = c .before .before .before .before .before
 
 abbrev Gate : tie.After-send → tie.After-least
-Gate c = c .before .before .before .before .before
+Gate c = c .before .before .before .before
 
 abbrev Sent : tie.After-add-releases → tie.After-send
-Sent c = c .before .before .before .before .before
+Sent c = c .before .before .before .before .before .before
 
 abbrev to-count : tie.After-struct-known6 → tie.After-struct-known
 to-count c = c .before .before .before .before .before
@@ -29,16 +30,16 @@ to-count c = c .before .before .before .before .before
 abbrev On : tie.Start → Road → Road
 On c r =
     let a = c .args in
-    sending r (a .n) (a .gate-capacity) (r .speed) (a .share .now) (r .capacity)
+    sending r (a .size .n) (a .size .«gate_capacity») (r .speed) (a .share .now) (r .capacity)
 
 abbrev From : tie.Start → State
-From c = let a = c .args in stateOf (a .l) (a .held .now) (a .queue .now) (a .cumulative .now)
+From c = let a = c .args in stateIn (a .l) (a .state .now)
 
 -- the gate's outflow
 first : (c : tie.After-least) →
     let a = A c .args in
-    c .least .result ≡ min (gateDemandOf (a .gate-capacity) (a .l .«gate_queue»)) (at (a .room .now) 0)
-first c = c .least .ensures ∙ ap (λ (x : ℕ). min x (at (A c .args .room .now) 0)) (c .before .before .gate-demand .ensures)
+    c .least .result ≡ min (gateDemandOf (a .size .«gate_capacity») (a .l .«gate_queue»)) (at (roomCol (a .work .now)) 0)
+first c = c .least .ensures ∙ ap (λ (x : ℕ). min x (at (roomCol (A c .args .work .now)) 0)) (c .before .before .gate-demand .ensures)
 
 -- the facts about the numbers of the ledger
 known : (c : tie.After-least) → NextTurn (From (A c)) (c .least .result) (A c .args .arrivals)
@@ -46,14 +47,15 @@ known c = next-turn (A c .pre .ready) (first c)
 
 send-requires : tie.Need-send-requires
 send-requires c κs =
-    let g = c .before .before .before .before in
+    let g = c .before .before .before in
     let p = A g .pre in
-    (sends-ask (p .ready) (first g), p .places)
+    (sends-ask (p .ready) (first g), (p .ready .columns, p .places))
 
 add-releases-requires : tie.Need-add-releases-requires
 add-releases-requires c κs =
-    let t = c .before .before .before .before in
-    addable (A (Gate t) .pre .ready) (first (Gate t)) (t .send .ensures)
+    let t = c .before .before .before .before .before in
+    let e = t .send .ensures in
+    (addable (A (Gate t) .pre .ready) (first (Gate t)) (e .0) (e .1), e .1 .columns)
 
 -- the facts about the numbers of the count: those of the ledger, and the sums
 turn : (c : tie.After-struct-known) → NextTurn (From (A (Gate (Sent (c .before))))) (Gate (Sent (c .before)) .least .result)
@@ -66,44 +68,52 @@ add-queued c = omega (arith, turn c)
 sub-queued : tie.Need-sub-queued
 sub-queued c = omega (arith, turn c)
 
-add-done : tie.Need-add-t32
+add-done : tie.Need-add-t34
 add-done c = omega (arith, turn (c .before))
 
-cast-queued : tie.Need-cast-t33
+cast-queued : tie.Need-cast-t35
 cast-queued c = omega (arith, turn (c .before))
 
-add-gate-time : tie.Need-add-t34
+add-gate-time : tie.Need-add-t36
 add-gate-time c = omega (arith, turn (c .before .before))
 
-cast-on-road : tie.Need-cast-t35
-cast-on-road c = let k = c .before .before .before in omega (arith, k .before .add-releases .ensures .1)
+cast-on-road : tie.Need-cast-t37
+cast-on-road c = let k = c .before .before .before in omega (arith, k .before .add-releases .ensures .1 .1)
 
-add-road-time : tie.Need-add-t36
-add-road-time c = let k = c .before .before .before .before in omega (arith, turn k .total, k .before .add-releases .ensures .1)
+add-road-time : tie.Need-add-t38
+add-road-time c = let k = c .before .before .before .before in omega (arith, turn k .total, k .before .add-releases .ensures .1 .1)
 
-add-ramp-time : tie.Need-add-t37
-add-ramp-time c = let k = to-count (c .before) in omega (arith, turn k .total, k .before .add-releases .ensures .1)
+add-ramp-time : tie.Need-add-t39
+add-ramp-time c = let k = to-count (c .before) in omega (arith, turn k .total, k .before .add-releases .ensures .1 .1)
 
-add-cumulative : tie.Need-add-t24
+add-cumulative : tie.Need-add-t20
 add-cumulative c = let k = turn (to-count (c .before .before)) in omega (arith, k .cumulative, k .small)
+
+same-length : tie.Need-same-length
+same-length c =
+    let a = to-count (c .before .before) .before in
+    search (needs, a .before .before .before .before .before .y .given)
 
 returns : tie.Need-returns
 returns c r row k =
     let a = to-count (c .before .before) .before in
     let t = Sent a in
     let b = first (Gate t) in
-    let h = t .send .ensures in
-    let g = a .add-releases .ensures .0 _ _ (adds k b h) in
+    let h = t .send .ensures .0 in
+    let same = t .send .ensures .1 in
+    let e = a .add-releases .ensures in
+    let g = e .0 _ _ (adds k b h same) in
     record {
-      state = next-is k b h g refl refl;
-      outflows = row-sent k b h (A (Gate t) .pre .places);
-      rests = rests-are k b h g;
-      longRest = rests-long k b h g;
+      columns = e .1 .0 .columns;
+      next = next-is k b h same g (e .1 .0) refl refl;
+      outflows = row-sent k b h same (A (Gate t) .pre .places);
+      rests = rests-are k b h same g (e .1 .0);
     }
 
 pub next-spec : {M : Type 1} → statement M
 next-spec =
     tie.close
     (tie.spec
-    (λ c κs. search needs) (λ c. search needs) (λ c κs. search needs) send-requires add-releases-requires add-queued sub-queued add-done
-    cast-queued add-gate-time cast-on-road add-road-time add-ramp-time add-cumulative (λ c. search needs) returns)
+    (λ c. search needs) (λ c κs. search needs) (λ c. search needs) (λ c κs. search needs) (λ c. search needs) send-requires (λ c. search needs)
+    (λ c. search needs) add-releases-requires add-queued sub-queued add-done cast-queued add-gate-time cast-on-road add-road-time add-ramp-time
+    add-cumulative same-length returns)

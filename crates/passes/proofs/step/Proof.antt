@@ -4,7 +4,7 @@ use Prim.Native.Nat.{ℕ}
 use native.Mathlib.Omega.{arith}
 use Rattle.model.specs.declared.Road.{Road}
 use Rattle.model.specs.declared.State.{State}
-use Rattle.outflows.specs.Columns.{roadOf, stateOf}
+use Rattle.passes.specs.Tables.{roadIn, stateIn, cellCol}
 use Rattle.model.specs.Record.{versionOf, rowStart, recordRow}
 use Rattle.model.specs.Flow.{gateArrivals}
 use Rattle.passes.specs.ReleasesFit.{FitFound, supplies-ask, takes-ask, fit-found}
@@ -20,52 +20,49 @@ abbrev A : tie.After-row-start → tie.Start
 A c = c .before .before .before .before
 
 abbrev Start : tie.After-supplies → tie.After-row-start
-Start c = c .before .before .before
+Start c = c .before .before .before .before .before .before
 
 abbrev Supplied : tie.After-take-releases → tie.After-supplies
-Supplied c = c .before .before .before .before .before
+Supplied c = c .before .before .before .before
 
 abbrev Arrived : tie.After-demands → tie.After-number
-Arrived c = c .before .before .before
+Arrived c = c .before .before .before .before .before
 
-abbrev to-demands : tie.After-next-arg9 → tie.After-demands
-to-demands c = let a = c .before .before .before .before in a .before .before .before .before .before
+abbrev to-demands : tie.After-next-arg5 → tie.After-demands
+to-demands c = c .before .before .before .before .before
 
 -- any road with the columns that were lent, and the state
 abbrev On : tie.Start → Road → Road
-On c r =
-    let a = c .args in
-    roadOf r (a .n) (a .gate-capacity) (a .speed .now) (a .wave .now) (a .share .now) (a .jam .now) (a .capacity .now)
+On c r = let a = c .args in roadIn r (a .size) (a .rates .now) (a .sizes .now)
 
 abbrev From : tie.Start → State
-From c = let a = c .args in stateOf (a .l) (a .held .now) (a .queue .now) (a .cumulative .now)
+From c = let a = c .args in stateIn (a .l) (a .state .now)
 
 abbrev Asked : tie.Start → Road → Type 0
 Asked c r =
     let a = c .args in
-    StepAsks (a .bytes .now) (a .k) (On c r) (From c) (a .ramps) (a .cell .now) (a .rest .now) (a .room .now) (a .release .now) (a .waiting .now) (a .demand .now) (a .y .now)
+    StepAsks (a .bytes .now) (a .k) (On c r) (a .size .ramps) (cellCol (a .sizes .now)) (a .l) (a .state .now) (a .work .now) (a .y .now)
 
-start : (c : tie.After-row-start) → let a = A c .args in c .row-start .result ≡ rowStart (versionOf (a .bytes .now)) (a .n) (a .k)
-start c = let a = A c .args in c .row-start .ensures ∙ ap (λ (v : ℕ). rowStart v (a .n) (a .k)) (c .before .version .ensures)
+start : (c : tie.After-row-start) → let a = A c .args in c .row-start .result ≡ rowStart (versionOf (a .bytes .now)) (a .size .n) (a .k)
+start c = let a = A c .args in c .row-start .ensures ∙ ap (λ (v : ℕ). rowStart v (a .size .n) (a .k)) (c .before .version .ensures)
 
 -- the results of the test of the releases
 found : (c : tie.After-take-releases) (r : Road) → Asked (A (Start (Supplied c))) r →
     let s = A (Start (Supplied c)) in
     let a = s .args in
-    let x = c .take-releases .last .1 .1 .1 .1 .1 .1 in
-    FitFound (c .take-releases .result) (On s r) (From s) (recordRow (a .bytes .now) (a .n) (a .k)) (a .ramps) (a .cell .now)
-    (a .room .now) (a .release .now) (a .waiting .now) (x .0) (x .1 .0) (x .1 .1 .0)
+    FitFound (c .take-releases .result) (On s r) (From s) (recordRow (a .bytes .now) (a .size .n) (a .k)) (a .size .ramps) (cellCol (a .sizes .now))
+    (c .take-releases .last .1 .1 .1 .1 .1 .1 .0)
 found c r h =
     let s = Supplied c in
     fit-found (fittable h (start (Start s))) (s .supplies .ensures) (c .take-releases .ensures)
 
 arrives : (c : tie.After-number) →
     let a = A (Start (Supplied (c .before .before))) .args in
-    c .number .result ≡ gateArrivals (recordRow (a .bytes .now) (a .n) (a .k))
+    c .number .result ≡ gateArrivals (recordRow (a .bytes .now) (a .size .n) (a .k))
 arrives c =
     let s = Start (Supplied (c .before .before)) in
     let a = A s .args in
-    c .number .ensures .0 ∙ gate-row (a .bytes .now) (a .n) (a .k) (s .row-start .result) (start s)
+    c .number .ensures .0 ∙ gate-row (a .bytes .now) (a .size .n) (a .k) (s .row-start .result) (start s)
 
 version-requires : tie.Need-version-requires
 version-requires c κs = omega (arith, c .before .before .pre .asks .holds .row)
@@ -74,16 +71,16 @@ row-start-requires : tie.Need-row-start-requires
 row-start-requires c κs =
     let s = c .before .before .before in
     let a = s .args in
-    let e : rowStart (c .version .result) (a .n) (a .k) ≡ rowStart (versionOf (a .bytes .now)) (a .n) (a .k) =
-    ap (λ (v : ℕ). rowStart v (a .n) (a .k)) (c .version .ensures) in
+    let e : rowStart (c .version .result) (a .size .n) (a .k) ≡ rowStart (versionOf (a .bytes .now)) (a .size .n) (a .k) =
+    ap (λ (v : ℕ). rowStart v (a .size .n) (a .k)) (c .version .ensures) in
     omega (arith, e, s .pre .asks .holds .row, s .good .0)
 
 supplies-requires : tie.Need-supplies-requires
-supplies-requires c κs = let w = c .before .before in supplies-ask (fittable (A w .pre .asks) (start w))
+supplies-requires c κs = let w = c .before .before .before .before .before in supplies-ask (fittable (A w .pre .asks) (start w))
 
 take-releases-requires : tie.Need-take-releases-requires
 take-releases-requires c κs =
-    let s = c .before .before .before .before in
+    let s = c .before .before .before in
     takes-ask (fittable (A (Start s) .pre .asks) (start (Start s))) (s .supplies .ensures)
 
 fault-requires : tie.Need-fault-requires
@@ -93,7 +90,7 @@ returns : tie.Need-returns
 returns c r h =
     let t = c .before .before .before in
     let s = A (Start (Supplied (t .before))) in
-    gives-fault h (found (t .before) r h) (not-true _ (t .if1 .taken)) (c .fault .ensures (On s r) (s .args .l) (s .args .cumulative .now))
+    gives-fault h (found (t .before) r h) (not-true _ (t .if1 .taken)) (c .fault .ensures (On s r) (s .args .l))
 
 number-requires : tie.Need-number-requires
 number-requires c κs =
@@ -101,7 +98,9 @@ number-requires c κs =
     (omega arith, omega (arith, start w, A w .pre .asks .holds .row))
 
 demands-requires : tie.Need-demands-requires
-demands-requires c κs = demands-ask (A (Start (Supplied (c .before .before .before .before))) .pre .asks .input)
+demands-requires c κs =
+    let m = c .before .before .before .before in
+    demands-ask (A (Start (Supplied (m .before .before))) .pre .asks .input)
 
 next-requires : tie.Need-next-requires
 next-requires c κs =
@@ -133,5 +132,7 @@ pub step-spec : {M : Type 1} → statement M
 step-spec =
     tie.close
     (tie.spec
-    version-requires row-start-requires supplies-requires take-releases-requires fault-requires returns number-requires demands-requires next-requires
+    version-requires row-start-requires (λ c. search needs) (λ c. search needs) (λ c. search needs) (λ c. search needs) (λ c. search needs)
+    supplies-requires (λ c. search needs) (λ c. search needs) take-releases-requires (λ c. search needs) fault-requires returns number-requires (λ c. search needs)
+    (λ c. search needs) (λ c. search needs) (λ c. search needs) demands-requires (λ c. search needs) (λ c. search needs) next-requires
     (λ c. search needs) returns-2)

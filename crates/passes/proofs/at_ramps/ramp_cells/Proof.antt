@@ -50,9 +50,12 @@ returns c =
     let h = p .loop .inv .1 .1 in
     (subst (λ (i : ℕ). Listed (NoRamp (p .before .args .ramp .now)) i (p .loop .count) (p .loop .cell)) e (h .0), (h .1, p .loop .inv .0))
 
+cast-cell : tie.Need-cast-cell Inv-loop μ-loop
+cast-cell c = omega arith
+
 pub ramp-cells-spec : {M : Type 1} → statement M
 ramp-cells-spec =
     tie.close
     (tie.spec
-    Inv-loop μ-loop loop-holds (λ c. search needs) (λ c. search needs) (λ c. omega arith) (λ c. omega arith) (λ c. omega arith) (λ c. search needs)
-    (λ c. search needs) loop-again returns)
+    Inv-loop μ-loop loop-holds (λ c. search needs) (λ c. search needs) cast-cell (λ c. omega arith) (λ c. omega arith) (λ c. omega arith)
+    (λ c. search needs) (λ c. search needs) loop-again returns)

@@ -12,11 +12,11 @@ use Rattle.passes.proofs.at_ramps.take_releases.Tie as tie
 use borrow.Author.Needs.{needs}
 
 abbrev Inv-loop : tie.InvT-loop
-Inv-loop bytes start n ramps cell queue room₀ release₀ waiting₀ k₀ room release waiting k =
-    Upto ramps k × Taking bytes start ramps cell queue room₀ release₀ waiting₀ room release waiting k
+Inv-loop bytes start n ramps cell queue work₀ k₀ work k =
+    Upto ramps k × Taking bytes start ramps cell queue work₀ work k
 
 abbrev μ-loop : tie.MeasureT-loop
-μ-loop bytes start n ramps cell queue room₀ release₀ waiting₀ k₀ room release waiting k = ramps - k
+μ-loop bytes start n ramps cell queue work₀ k₀ work k = ramps - k
 
 -- places of the code: the arguments from the loop; a turn's start from its cell; its cell from the places after it
 abbrev A : tie.At-loop Inv-loop μ-loop → tie.Start Inv-loop μ-loop
@@ -61,6 +61,9 @@ never e = let z : _≡_ {A = ℕ} 0 1 = cc in omega arith
 loop-holds : tie.Need-loop-holds Inv-loop μ-loop
 loop-holds c = (upto-none (c .before .pre .listed) (c .before .pre .cells), taking-none (c .before .pre))
 
+cast-i : tie.Need-cast-i Inv-loop μ-loop
+cast-i c = omega (arith, known (c .before))
+
 add-from : tie.Need-add-from Inv-loop μ-loop
 add-from c = omega (arith, known (In c))
 
@@ -91,8 +94,8 @@ number-requires-2 c κs = (omega arith, omega (arith, known (In (c .before .befo
 mul-supply : tie.Need-mul-supply Inv-loop μ-loop
 mul-supply c = omega (arith, known (In (c .before .before .before)))
 
-element-copy-out-supply : tie.Need-element-copy-out-supply Inv-loop μ-loop
-element-copy-out-supply c = let t = In (c .before .before .before) in omega (arith, known t, t .before .loop .inv .0)
+index-2-supply : tie.Need-index-2-supply Inv-loop μ-loop
+index-2-supply c = let t = In (c .before .before .before) in omega (arith, known t, t .before .loop .inv .0)
 
 returns : tie.Need-returns Inv-loop μ-loop
 returns c =
@@ -114,11 +117,11 @@ returns-2 c =
           (λ f. omega (arith, f .supply, gives (s .before), room-here (A (t .before) .pre) (t .before .loop .inv .1) (t .loop-test .taken), c .if2 .taken));
     }
 
-mul-room : tie.Need-mul-room Inv-loop μ-loop
-mul-room c = omega (arith, known (In (Cell (c .before .before))))
+mul-work : tie.Need-mul-work Inv-loop μ-loop
+mul-work c = omega (arith, known (In (Cell (c .before .before))))
 
-element-write-room : tie.Need-element-write-room Inv-loop μ-loop
-element-write-room c = let t = In (Cell (c .before .before)) in omega (arith, known t, t .before .loop .inv .0)
+index-2-work : tie.Need-index-2-work Inv-loop μ-loop
+index-2-work c = let t = In (Cell (c .before .before)) in omega (arith, known t, t .before .loop .inv .0)
 
 loop-again : tie.Need-loop-again Inv-loop μ-loop
 loop-again c =
@@ -141,6 +144,7 @@ pub take-releases-spec : {M : Type 1} → statement M
 take-releases-spec =
     tie.close
     (tie.spec
-    Inv-loop μ-loop loop-holds (λ c. search needs) (λ c. search needs) add-from mul-from add-from-2 number-requires mul-most element-copy-out-most
-    add-most add-number number-requires-2 mul-supply element-copy-out-supply returns returns-2 mul-room element-write-room (λ c. search needs)
-    (λ c. search needs) (λ c. search needs) (λ c. search needs) (λ c. search needs) (λ c. search needs) loop-again returns-3)
+    Inv-loop μ-loop loop-holds (λ c. search needs) (λ c. search needs) cast-i add-from mul-from add-from-2 number-requires mul-most
+    element-copy-out-most add-most add-number number-requires-2 mul-supply (λ c. search needs) index-2-supply returns returns-2 mul-work
+    (λ c. search needs) index-2-work (λ c. search needs) (λ c. search needs) (λ c. search needs) (λ c. search needs) (λ c. search needs)
+    (λ c. search needs) (λ c. search needs) (λ c. search needs) loop-again returns-3)
