@@ -6,6 +6,7 @@ use native.Mathlib.Omega.{arith}
 use lib.ListN.{length, getD, set}
 use Rattle.model.specs.declared.Road.{Road}
 use Rattle.model.specs.declared.State.{State}
+use Rattle.model.specs.Schedules.{withCapacity}
 use Rattle.outflows.specs.declared.Ledger.{Ledger}
 use Rattle.outflows.specs.Columns.{roadOf, stateOf}
 use Rattle.passes.specs.declared.columns.Size.{Size}
@@ -80,6 +81,28 @@ four-columns P f = one-more P (λ a. three-columns (λ t. P (a ∷ t)) (f a))
 
 pub five-columns : (P : Table → Type 0) → ((a b c d e : List ℕ) → P (a ∷ b ∷ c ∷ d ∷ e ∷ [])) → (t : Table) → length t ≡ 5 → P t
 five-columns P f = one-more P (λ a. four-columns (λ t. P (a ∷ t)) (f a))
+
+-- the tables of a road are its columns, with the list of its cells with a ramp
+pub record RoadTables (r : Road) (z : Size) (rates sizes : Table) (cell : List ℕ) : Type 0 where
+  pub columns : length sizes ≡ 3
+  pub road : roadIn r z rates sizes ≡ r
+  pub cells : cellCol sizes ≡ cell
+
+pub road-tables : (r : Road) {z : Size} {rates sizes : Table} (cell list : List ℕ) → rates ≡ r .speed ∷ r .wave ∷ r .share ∷ []
+    → sizes ≡ r .jam ∷ r .capacity ∷ list ∷ [] → (z .n ≡ r .n) × (z .«gate_capacity» ≡ r .«gate_capacity») → RoadTables r z rates (set sizes 2 cell) cell
+road-tables r cell list er es ez = rw (er, es) (record { columns = refl; road = rw (ez .0, ez .1) refl; cells = refl })
+
+-- a step's capacities are stored
+pub record StoredCapacities (r : Road) (z : Size) (rates sizes sizes₁ : Table) (capacity : List ℕ) : Type 0 where
+  pub columns : length sizes₁ ≡ 3
+  pub road : roadIn r z rates sizes₁ ≡ withCapacity (roadIn r z rates sizes) capacity
+  pub cells : cellCol sizes₁ ≡ cellCol sizes
+
+pub store-capacities : (r : Road) (z : Size) (rates sizes : Table) → length sizes ≡ 3 → (capacity : List ℕ)
+    → StoredCapacities r z rates sizes (set sizes 1 capacity) capacity
+store-capacities r z rates sizes e capacity = three-columns (λ t. StoredCapacities r z rates t (set t 1 capacity) capacity)
+    (λ a b c. record { columns = refl; road = refl; cells = refl })
+    sizes e
 
 -- the columns of the passes have an entry for each of n cells
 pub record LongColumns (n : ℕ) (work : Table) : Type 0 where

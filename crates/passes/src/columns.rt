@@ -1,12 +1,14 @@
 // The columns that a step works on, in tables: the rates and the counts of a road, the columns of a state, and those that the passes fill.
 use model::Road;
 use model::State;
+use outflows::Ledger;
 ghost use mathlib.Core.Path.{_≡_};
 ghost use mathlib.Core.List.{[], _∷_};
 ghost use Prim.Native.Nat.{_≤_};
 ghost use lib.ListN.{length};
 ghost use Rattle.model.specs.Numbers.{fillOf};
 ghost use Rattle.model.specs.Road.{mostCells, zeros};
+ghost use Rattle.passes.specs.Tables.{stateIn};
 ghost use Rattle.passes.specs.Supplies.{NoRamp};
 ghost use Rattle.passes.specs.RampList.{Listed, AtRamps};
 ghost use Rattle.passes.specs.Rest.{restIn};
@@ -95,4 +97,14 @@ pub fn of_state(r: Road, s: State) -> [[u32; 64]; 4]
     let queue = s.queue;
     let cumulative = s.cumulative;
     [held, queue, cumulative, rest]
+}
+
+// The state of a ledger and a table of columns.
+pub fn to_state(l: Ledger, state: [[u32; 64]; 4]) -> State
+    ensures { λ s. ⌜ s ≡ stateIn l state ⌝ }
+{
+    let held = state[HELD];
+    let queue = state[QUEUE];
+    let cumulative = state[CUMULATIVE];
+    l.state(held, queue, cumulative)
 }

@@ -23,6 +23,7 @@ pub use columns::list_ramps;
 pub use columns::of_state;
 pub use columns::rates;
 pub use columns::sizes;
+pub use columns::to_state;
 use model::Fault;
 use model::Refusal;
 use outflows::Ledger;

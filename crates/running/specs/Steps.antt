@@ -16,6 +16,8 @@ use Rattle.theory.specs.StepLaws.{number-of}
 use Rattle.theory.specs.RunsLaws.{StudyOk, ReachedState, StepOf, step-road, step-input, step-sized, step-left}
 use Rattle.model.specs.Record.{recordRow}
 use Rattle.fields.specs.FieldsLaws.{HoldsRow}
+use Rattle.outflows.specs.declared.Ledger.{Ledger}
+use Rattle.passes.specs.Tables.{Table, stateIn}
 use Rattle.passes.specs.Step.{Arrays, StepAsks}
 use Rattle.model.specs.Running.{runSays, firstStep, EndAnswer, ended, runEnd}
 use Rattle.theory.specs.SchedulesLaws.{ends-at, ends-all, run-reached}
@@ -91,9 +93,9 @@ module _ {a : Study} where
       }
 
 -- the passes of a turn require only the arrays and a row
-pub passes-ask : {a : Study} {u : State} {k : ℕ} {q : Road} {bytes : List ℕ} {ramps : ℕ} {cell rest room release waiting demand y : List ℕ}
-    → RanTurn a u k q (recordRow bytes (q .n) k) → HoldsRow bytes (q .n) k → Arrays q ramps cell (u .cumulative) rest room release waiting demand
-    → length y ≡ q .n + 1 → StepAsks bytes k q u ramps cell rest room release waiting demand y
+pub passes-ask : {a : Study} {l : Ledger} {state work : Table} {k : ℕ} {q : Road} {bytes : List ℕ} {ramps : ℕ} {cell y : List ℕ}
+    → RanTurn a (stateIn l state) k q (recordRow bytes (q .n) k) → HoldsRow bytes (q .n) k → Arrays q ramps cell state work
+    → length y ≡ q .n + 1 → StepAsks bytes k q ramps cell l state work y
 passes-ask t holds arrays places = record {
   input = step-input (this-step t);
   sized = step-sized (this-step t);

@@ -10,6 +10,9 @@ use model::Tallied;
 use model::Weighed;
 use model::Weights;
 use outflows::Ledger;
+use passes::CAPACITY;
+use passes::CELL;
+use passes::QUEUE;
 ghost use mathlib.Core.Path.{_≡_};
 ghost use mathlib.Core.Bool.{true};
 ghost use Rattle.model.specs.Numbers.{at};
@@ -61,83 +64,50 @@ fn run_rows(
     let n = r.n;
     let places = n + 1;
     let capacity = r.capacity;
-    let mut road = r;
-    let mut cell = [0usize; 64];
-    let ramps = passes::ramp_cells(n, &road.ramp, &mut cell);
-    let mut held = s.held;
-    let mut queue = s.queue;
-    let mut cumulative = s.cumulative;
+    let rates = passes::rates(r);
+    let mut sizes = passes::sizes(r);
+    let size = passes::list_ramps(r, &mut sizes[CELL]);
+    let mut state = passes::of_state(r, s);
+    let mut work = [[0u32; 65]; 5];
     let mut l = Ledger::of(s);
-    let mut rest = [0u32; 64];
-    passes::remainders(n, &road.share, &cumulative, &mut rest);
-    let mut room = [0u32; 65];
-    let mut release = [0u32; 64];
-    let mut waiting = [0u32; 64];
-    let mut demand = [0u32; 64];
-    let mut gate = AtGate {
-        gate: 0,
-        waiting: 0,
-    };
+    let mut gate = counts::no_queue();
     let mut most = [0u32; 64];
-    let mut weighted: u64 = 0;
+    let mut total: u64 = 0;
     let mut k = 0;
     let mut to = 0;
     while k < steps {
         if table.len() != 0 {
             let open_now = lanes::step_capacities(capacity, table, n, k);
-            road.capacity = open_now;
+            sizes[CAPACITY] = open_now;
         }
         let end = to + places;
-        let step = passes::step(
-            bytes,
-            k,
-            road.n,
-            road.gate_capacity,
-            &road.speed,
-            &road.wave,
-            &road.share,
-            &road.jam,
-            &road.capacity,
-            ramps,
-            &cell,
-            l,
-            &mut held,
-            &mut queue,
-            &mut cumulative,
-            &mut rest,
-            &mut room,
-            &mut release,
-            &mut waiting,
-            &mut demand,
-            &mut out[to..end],
-        );
+        let y = &mut out[to..end];
+        let step = passes::step(bytes, k, size, &rates, &sizes, l, &mut state, &mut work, y);
         let fault = step.fault;
         let refusal = fault.refusal;
         if refusal.number() != 0 {
-            let state = l.state(held, queue, cumulative);
-            let ended = Ended::at_step(refusal, k, fault.place, r, state);
-            return tallied(ended, gate, most, weighted);
+            let ended = Ended::at_step(refusal, k, fault.place, r, passes::to_state(l, state));
+            return tallied(ended, gate, most, total);
         }
         let next = step.ledger;
-        weighted = counts::added(
-            weighted,
+        total = counts::added(
+            total,
             weighs,
             n,
-            next.gate_queue,
-            &held,
-            &queue,
+            next,
+            &state,
             &weights.places,
             &weights.ramps,
         );
         if longs {
-            gate = counts::raised(gate, l, next, n, &queue, &mut most);
+            gate = counts::raised(gate, l, next, n, &state[QUEUE], &mut most);
         }
         l = next;
         to = end;
         k += 1;
     }
-    let ended = Ended::complete(r, l.state(held, queue, cumulative));
-    tallied(ended, gate, most, weighted)
+    let ended = Ended::complete(r, passes::to_state(l, state));
+    tallied(ended, gate, most, total)
 }
 
 // A refusal that names no state, without a step done.

@@ -6,7 +6,7 @@ use mathlib.Core.Bool.{true, true≢false}
 use mathlib.Core.Logic.{inl, inr}
 use mathlib.Core.List.{List}
 use Prim.Native.Nat.{ℕ, _+_, _-_, _≤_}
-use lib.ListN.{length, take, drop}
+use lib.ListN.{length, take, drop, set}
 use Rattle.numbers.specs.TablesLaws.{part-length}
 use Rattle.model.specs.declared.Road.{Road}
 use Rattle.model.specs.declared.State.{State}
@@ -15,9 +15,11 @@ use Rattle.model.specs.Schedules.{Study, places, withCapacity, engineAfter}
 use Rattle.model.specs.Record.{recordRow}
 use Rattle.fields.specs.FieldsLaws.{HoldsRow}
 use Rattle.lanes.specs.LanesLaws.{rows-within}
-use Rattle.theory.specs.OpenRoad.{OnRoad, Turned, on-road, turned-road, turned-on}
+use Rattle.model.specs.Road.{zeros}
+use Rattle.theory.specs.OpenRoad.{stepRoad, OnRoad, Turned, on-road, turned-road, turned-on}
 use Rattle.outflows.specs.declared.Ledger.{Ledger}
-use Rattle.outflows.specs.Columns.{stateOf}
+use Rattle.outflows.specs.Columns.{stateOf, ledgerOf}
+use Rattle.passes.specs.Tables.{Table, roadIn, stateIn, cellCol, road-tables, store-capacities}
 use Rattle.model.specs.Reading.{studyBy}
 use Rattle.model.specs.Listing.{mostOutflows}
 use Rattle.model.specs.Running.{EndAnswer, ended, endAnswer, runEnd}
@@ -38,59 +40,54 @@ use borrow.Author.Needs.{needs}
 use native.Mathlib.Omega.{arith}
 
 abbrev Inv-loop : tie.InvT-loop
-Inv-loop bytes table r steps weighs longs out₀ weights _ _ _ _ cell ramps held₀ queue₀ sent₀ l₀ _ _ _ _ _ _ _ _ _ _
-    out road held queue sent l rest room release waiting demand gate most total k to =
-    let a = studyBy bytes table r (stateOf l₀ held₀ queue₀ sent₀) steps in
-    RowsInList a out₀ out (stateOf l held queue sent) k to
-    × (OnRoad a road × (Totalled weighs (at (weights .places)) (at (weights .ramps)) a total k
-    × (Arrays r ramps cell sent rest room release waiting demand
+Inv-loop bytes table r steps weighs longs out₀ weights _ _ _ rates _ size state₀ _ l₀ _ _ _ _ _ out sizes state work l gate most total k to =
+    let a = studyBy bytes table r (stateIn l₀ state₀) steps in
+    RowsInList a out₀ out (stateIn l state) k to
+    × ((OnRoad a (roadIn r size rates sizes) × (length sizes ≡ 3)) × (Totalled weighs (at (weights .places)) (at (weights .ramps)) a total k
+    × (Arrays r (size .ramps) (cellCol sizes) state work
     × Raised longs (r .n) (engineAfter a) (queuesOf (gate .gate) (gate .waiting) most) k)))
 
 abbrev μ-loop : tie.MeasureT-loop
-μ-loop bytes table r steps weighs longs out₀ weights _ _ _ _ cell ramps held₀ queue₀ sent₀ l₀ _ _ _ _ _ _ _ _ _ _
-    out road held queue sent l rest room release waiting demand gate most total k to =
-    steps - k
+μ-loop bytes table r steps weighs longs out₀ weights _ _ _ rates _ size state₀ _ l₀ _ _ _ _ _ out sizes state work l gate most total k to = steps - k
 
--- places of the code: the arguments and the ledger from the loop, a turn's start from its test of the releases, and the test from the places after it
-abbrev Listing : tie.After-of Inv-loop μ-loop → tie.After-ramp-cells Inv-loop μ-loop
-Listing c = c .before .before .before .before
+-- places of the code: the arguments and the ledger from the loop, a turn's start from its step, and the step from the places after it
+abbrev Listing : tie.After-of Inv-loop μ-loop → tie.After-list-ramps Inv-loop μ-loop
+Listing c = c .before .before
 
-abbrev Begun : tie.After-ramp-cells Inv-loop μ-loop → tie.Start Inv-loop μ-loop
+abbrev Begun : tie.After-list-ramps Inv-loop μ-loop → tie.Start Inv-loop μ-loop
 Begun c = let h = c .before .before .before .before in h .before .before .before .before
 
-abbrev Held : tie.After-remainders Inv-loop μ-loop → tie.After-of Inv-loop μ-loop
-Held c = c .before .before .before .before .before
-
 abbrev L : tie.At-loop Inv-loop μ-loop → tie.After-of Inv-loop μ-loop
-L c = Held (c .before)
+L c = c .before .before
 
 abbrev A : tie.At-loop Inv-loop μ-loop → tie.Start Inv-loop μ-loop
 A c = Begun (Listing (L c))
 
-abbrev Lent : tie.After-demand Inv-loop μ-loop → tie.Joined1 Inv-loop μ-loop
-Lent c = let a = c .before .before .before .before .before in let b = a .before .before .before .before .before in b .before .before .before .before .before
+abbrev Lent : tie.After-work Inv-loop μ-loop → tie.Joined1 Inv-loop μ-loop
+Lent c = c .before .before .before .before .before
 
 abbrev Step : tie.After-step Inv-loop μ-loop → tie.Joined1 Inv-loop μ-loop
-Step c = Lent (c .before .before)
+Step c = Lent (c .before)
 
 abbrev Made-step : tie.After-number Inv-loop μ-loop → tie.After-step Inv-loop μ-loop
 Made-step c = c .before .before .before .before
 
 abbrev to-passed : tie.After-added-arg2 Inv-loop μ-loop → tie.Else2 Inv-loop μ-loop
-to-passed c = let a = c .before .before .before in a .before .before .before
+to-passed c = c .before .before .before .before .before
 
--- the study with the ledger that the loop starts with, which is the arguments'; and the state of the columns
+-- the study with the ledger and the columns that the loop starts with, which are the arguments'
 abbrev Of : tie.After-of Inv-loop μ-loop → Study
 Of c =
     let a = Begun (Listing c) .args in
-    studyBy (a .bytes .now) (a .table .now) (a .r) (stateOf (c .of .result) (a .s .held) (a .s .queue) (a .s .cumulative)) (a .steps)
+    studyBy (a .bytes .now) (a .table .now) (a .r) (stateIn (c .of .result) (c .before .of-state .result)) (a .steps)
 
 begins : (c : tie.After-of Inv-loop μ-loop) →
     let a = Begun (Listing c) .args in
     Of c ≡ studyBy (a .bytes .now) (a .table .now) (a .r) (a .s) (a .steps)
 begins c =
     let a = Begun (Listing c) .args in
-    ap (λ (l : Ledger). studyBy (a .bytes .now) (a .table .now) (a .r) (stateOf l (a .s .held) (a .s .queue) (a .s .cumulative)) (a .steps)) (c .of .ensures)
+    ap (λ (l : Ledger). studyBy (a .bytes .now) (a .table .now) (a .r) (stateIn l (c .before .of-state .result)) (a .steps)) (c .of .ensures)
+    ∙ ap (λ (t : Table). studyBy (a .bytes .now) (a .table .now) (a .r) (stateIn (ledgerOf (a .s)) t) (a .steps)) (c .before .of-state .ensures)
 
 runnable : (c : tie.After-of Inv-loop μ-loop) → Runnable (Begun (Listing c) .args .bytes .now) (Of c) (Begun (Listing c) .args .out .now)
 runnable c =
@@ -98,33 +95,51 @@ runnable c =
     subst (λ (a : Study). Runnable (b .args .bytes .now) a (b .args .out .now)) (sym (begins c)) (b .pre)
 
 abbrev Now : tie.At-loop Inv-loop μ-loop → State
-Now c = let p = c .loop in stateOf (p .l) (p .held) (p .queue) (p .cumulative)
+Now c = stateIn (c .loop .l) (c .loop .state)
 
--- the road of the turn: with the capacities of its step, or unchanged with an empty table
-turned : (c : tie.Joined1 Inv-loop μ-loop) →
+-- the record's road, with the columns of the loop's tables
+abbrev Rates : tie.After-list-ramps Inv-loop μ-loop → Table
+Rates c = c .before .before .before .rates .result
+
+abbrev On : tie.At-loop Inv-loop μ-loop → Table → Road
+On c sizes = let z = Listing (L c) in roadIn (A c .args .r) (z .list-ramps .result) (Rates z) sizes
+
+-- the tables of the turn: with the capacities of its step, or unchanged with an empty table of lanes
+opened : (c : tie.Joined1 Inv-loop μ-loop) →
     let l = c .before .before in
-    Turned (Of (L l)) (l .loop .road) (l .loop .k) (c .if1 .road)
-turned c =
+    Turned (Of (L l)) (On l (l .loop .sizes)) (l .loop .k) (On l (c .if1 .sizes))
+    × ((length (c .if1 .sizes) ≡ 3) × (cellCol (c .if1 .sizes) ≡ cellCol (l .loop .sizes)))
+opened c =
     let l = c .before .before in
-    record {
-      before = l .loop .inv .1 .0;
-      came = elim (c .if1 .came) [
-        | inl p ↦ inl (p .0 .taken, p .2 ∙ ap (withCapacity (l .loop .road)) (p .1 .ensures))
-        | inr p ↦ inr (p .0 .left, p .1)
-      ];
-    }
+    let before = l .loop .inv .1 .0 in
+    let sizes = l .loop .sizes in
+    elim (c .if1 .came) [
+      | inl p ↦
+          let e = p .2 ∙ ap (set sizes 1) (p .1 .ensures) in
+          let st = store-capacities (A l .args .r) (Listing (L l) .list-ramps .result) (Rates (Listing (L l))) sizes (before .1)
+          (stepRoad (Of (L l)) (l .loop .k) .capacity) in (
+            record { before = before .0; came = inl (p .0 .taken, ap (On l) e ∙ st .road) },
+            (ap length e ∙ st .columns, ap cellCol e ∙ st .cells),
+          )
+      | inr p ↦
+          (record { before = before .0; came = inr (p .0 .left, ap (On l) (p .1)) }, (ap length (p .1) ∙ before .1, ap cellCol (p .1)))
+    ]
+
+turned : (c : tie.Joined1 Inv-loop μ-loop) → let l = c .before .before in Turned (Of (L l)) (On l (l .loop .sizes)) (l .loop .k) (On l (c .if1 .sizes))
+turned c = opened c .0
 
 holds : (c : tie.In-loop Inv-loop μ-loop) → HoldsRow (A (c .before) .args .bytes .now) (A (c .before) .args .r .n) (c .before .loop .k)
 holds c = A (c .before) .pre .readable .row (c .before .loop .k) (c .loop-test .taken)
 
 -- the road's cells are the record's
-same-cells : (c : tie.Joined1 Inv-loop μ-loop) → c .if1 .road .n ≡ A (c .before .before) .args .r .n
+same-cells : (c : tie.Joined1 Inv-loop μ-loop) → let l = c .before .before in On l (c .if1 .sizes) .n ≡ A l .args .r .n
 same-cells c = ap (λ (x : Road). x .n) (turned-on (turned c) .other)
 
 -- the facts about a turn
 turn : (c : tie.Joined1 Inv-loop μ-loop) →
     let l = c .before .before in
-    RanTurn (Of (L l)) (Now l) (l .loop .k) (c .if1 .road) (recordRow (A l .args .bytes .now) (c .if1 .road .n) (l .loop .k))
+    let q = On l (c .if1 .sizes) in
+    RanTurn (Of (L l)) (Now l) (l .loop .k) q (recordRow (A l .args .bytes .now) (q .n) (l .loop .k))
 turn c =
     let l = c .before .before in
     record {
@@ -177,27 +192,41 @@ Part c = let p = c .before .before .loop in take (p .to + places (Of (L (c .befo
 asked : (c : tie.Joined1 Inv-loop μ-loop) →
     let l = c .before .before in
     let p = l .loop in
-    let r = Listing (L l) .ramp-cells in
-    StepAsks (A l .args .bytes .now) (p .k) (c .if1 .road) (Now l) (r .result) (r .last .1 .1 .0) (p .rest) (p .room) (p .release) (p .waiting) (p .demand) (Part c)
+    StepAsks (A l .args .bytes .now) (p .k) (On l (c .if1 .sizes)) (Listing (L l) .list-ramps .result .ramps) (cellCol (c .if1 .sizes))
+    (p .l) (p .state) (p .work) (Part c)
 asked c =
     let l = c .before .before in
     let p = l .loop in
     passes-ask (turn c) (subst (λ (n : ℕ). HoldsRow (A l .args .bytes .now) n (p .k)) (sym (same-cells c)) (holds (c .before)))
-    (arrays-on (turned-on (turned c)) (p .inv .1 .1 .1 .0)) (same-places (turn c) (part-length (p .out) (p .to) (places (Of (L l))) (fits (c .before))))
+    (rw (opened c .1 .1) (arrays-on (turned-on (turned c)) (p .inv .1 .1 .1 .0)))
+    (same-places (turn c) (part-length (p .out) (p .to) (places (Of (L l))) (fits (c .before))))
 
-add-places : tie.Need-add-places Inv-loop μ-loop
-add-places c = search needs
+list-ramps-requires : tie.Need-list-ramps-requires Inv-loop μ-loop
+list-ramps-requires c κs =
+    let s = c .before in
+    let b = s .before .before .before .before in
+    (b .before .before .pre .readable .ok .road .cells, ap (λ (t : Table). length (cellCol t)) (s .sizes .ensures))
 
-ramp-cells-requires : tie.Need-ramp-cells-requires Inv-loop μ-loop
-ramp-cells-requires c κs = let b = c .before .before .before .before in (b .before .before .before .pre .readable .ok .road .cells, refl)
-
-remainders-requires : tie.Need-remainders-requires Inv-loop μ-loop
-remainders-requires c κs = Begun (Listing (c .before .before .before .before)) .pre .readable .ok .road .cells
+of-state-requires : tie.Need-of-state-requires Inv-loop μ-loop
+of-state-requires c κs = Begun c .pre .readable .ok .road .cells
 
 loop-holds : tie.Need-loop-holds Inv-loop μ-loop
 loop-holds c =
-    let o = Held c in
-    (made-none, (on-road, (totalled-none _ _ _ _, (arrays-start (runnable o .readable .ok) (Listing o .ramp-cells .ensures .0) (c .remainders .ensures), raised-none _ _ _))))
+    let o = c .before in
+    let z = Listing o in
+    let s = z .before .before in
+    let e = z .list-ramps .ensures in
+    let t = road-tables (Begun z .args .r) {z = z .list-ramps .result} (z .list-ramps .last .1 .0) zeros (s .before .rates .ensures) (s .sizes .ensures) (e .0) in
+    let g = c .no-queue .ensures in (
+      made-none,
+      (
+        (rw (t .road) on-road, t .columns),
+        (
+          totalled-none _ _ _ _,
+          (rw (t .cells) (arrays-start (Begun z .args .s) (runnable o .readable .ok) (e .1 .0) (o .before .of-state .ensures)), rw (g .0, g .1) (raised-none _ _ _)),
+        ),
+      ),
+    )
 
 step-capacities-requires : tie.Need-step-capacities-requires Inv-loop μ-loop
 step-capacities-requires c κs =
@@ -214,33 +243,21 @@ step-capacities-requires c κs =
 add-end : tie.Need-add-end Inv-loop μ-loop
 add-end c = omega (arith, small (c .before))
 
-mul-step : tie.Need-mul-step Inv-loop μ-loop
-mul-step c = omega (arith, small (Lent c .before))
+mul-y : tie.Need-mul-y Inv-loop μ-loop
+mul-y c = omega (arith, small (c .before))
 
-sub-step : tie.Need-sub-step Inv-loop μ-loop
-sub-step c = search needs
-
-part-step-start : tie.Need-part-step-start Inv-loop μ-loop
-part-step-start c = search needs
-
-part-step-end : tie.Need-part-step-end Inv-loop μ-loop
-part-step-end c = omega (arith, fits (Lent c .before))
+part-y-end : tie.Need-part-y-end Inv-loop μ-loop
+part-y-end c = omega (arith, fits (c .before))
 
 step-requires : tie.Need-step-requires Inv-loop μ-loop
-step-requires c κs = let j = Lent (c .before) in record { road = j .if1 .road; asks = asked j }
-
-state-requires : tie.Need-state-requires Inv-loop μ-loop
-state-requires c κs = search needs
-
-at-step-requires : tie.Need-at-step-requires Inv-loop μ-loop
-at-step-requires c κs = search needs
+step-requires c κs = let j = Lent c in record { road = A (j .before .before) .args .r; asks = asked j }
 
 same-length-fault : tie.Need-same-length Inv-loop μ-loop
 same-length-fault c =
     let m = Made-step (c .before .before .before .before) in
     let j = Step m in
     let p = j .before .before .loop in
-    let gave = m .step .ensures (j .if1 .road) (asked j) in
+    let gave = m .step .ensures (A (j .before .before) .args .r) (asked j) in
     ap length (part-back (p .out) (p .to) (places (Of (L (j .before .before)))) (gave .same (faulty (c .before .before .before)) .1)) ∙ list-kept (j .before .before)
 
 returns : tie.Need-returns Inv-loop μ-loop
@@ -252,12 +269,12 @@ returns c =
     let l = j .before .before in
     let p = l .loop in
     let q = m .step .result .fault in
-    let gave = m .step .ensures (j .if1 .road) (asked j) in
+    let gave = m .step .ensures (A (j .before .before) .args .r) (asked j) in
     let n = faulty d in
     let same = gave .same n in
     let e = ap endAnswer (t .0 ∙ c .before .at-step .ensures)
     ∙ ap (λ (u : State). ended (refusalNumber (q .refusal)) (p .k) (q .place) (A l .args .r) u)
-    (c .before .before .state .ensures ∙ ap (λ (u : State). stateOf (p .l) (u .held) (u .queue) (u .cumulative)) (same .0)) in
+    (c .before .before .to-state .ensures ∙ ap (λ (u : State). stateOf (p .l) (u .held) (u .queue) (u .cumulative)) (same .0)) in
     ends (L l) (ends-fault (turn j) (gave .says) n e) (part-back (p .out) (p .to) (places (Of (L l))) (same .1) ∙ table-fault (p .inv .0) (turn j) (gave .says) n)
     (t .1 .1 ∙ totalled-end _ _ _ _ (p .inv .1 .1 .0) (steps-fault (turn j) (gave .says) n))
     (λ asked. t .1 .0 ∙ raised-end _ _ _ (p .inv .1 .1 .1 .1) (steps-fault (turn j) (gave .says) n) asked)
@@ -288,14 +305,14 @@ loop-again c =
     let m = Made-step (d .before) in
     let j = Step m in
     let p = j .before .before .loop in
-    let gave = m .step .ensures (j .if1 .road) (asked j) in
+    let gave = m .step .ensures (A (j .before .before) .args .r) (asked j) in
     let z = faultless d in
-    let made = made-more (p .inv .0) (turn j) (gave .says) z (gave .state z) (gave .outflows z) in
+    let made = made-more (p .inv .0) (turn j) (gave .says) z (gave .next z) (gave .outflows z) in
     let e = joined .before .added .ensures in
     let on = turned-on (turned j) in (
       made,
       (
-        on,
+        (on, opened j .1 .0),
         (
           totalled-more _ _ _ _ (p .inv .1 .1 .0) (made .ran) (e .0 _ (record { atGate = refl; onRoad = refl; atRamps = refl })) (e .1),
           (
@@ -311,12 +328,6 @@ loop-again c =
       ),
     )
 
-state-requires-2 : tie.Need-state-requires-2 Inv-loop μ-loop
-state-requires-2 c κs = search needs
-
-complete-requires : tie.Need-complete-requires Inv-loop μ-loop
-complete-requires c κs = search needs
-
 same-length-end : tie.Need-same-length-2 Inv-loop μ-loop
 same-length-end c = list-kept (c .before .before .before .before)
 
@@ -324,7 +335,7 @@ returns-2 : tie.Need-returns-2 Inv-loop μ-loop
 returns-2 c =
     let t = c .tallied2 .ensures in
     let l = c .before .before .before .before in
-    let e = ap endAnswer (t .0 ∙ c .before .complete .ensures) ∙ ap (λ (u : State). ended 0 0 0 (A l .args .r) u) (c .before .before .state2 .ensures) in
+    let e = ap endAnswer (t .0 ∙ c .before .complete .ensures) ∙ ap (λ (u : State). ended 0 0 0 (A l .args .r) u) (c .before .before .to-state2 .ensures) in
     let ran = l .loop .inv .0 .ran in
     ends (L l) (ends-ran ran (search needs) e) (table-end (l .loop .inv .0) (search needs))
     (t .1 .1 ∙ totalled-end _ _ _ _ (l .loop .inv .1 .1 .0) (steps-all ran (search needs)))
@@ -334,33 +345,8 @@ pub run-rows-spec : {M : Type 1} → statement M
 run-rows-spec =
     tie.close
     (tie.spec
-    Inv-loop
-    μ-loop
-    add-places
-    ramp-cells-requires
-    (λ c κs. search needs)
-    remainders-requires
-    loop-holds
-    step-capacities-requires
-    add-end
-    mul-step
-    sub-step
-    part-step-start
-    part-step-end
-    step-requires
-    (λ c κs. search needs)
-    state-requires
-    at-step-requires
-    (λ c κs. search needs)
-    same-length-fault
-    returns
-    added-requires
-    raised-requires
-    add-k
-    loop-less
-    loop-again
-    state-requires-2
-    complete-requires
-    (λ c κs. search needs)
-    same-length-end
-    returns-2)
+    Inv-loop μ-loop (λ c. search needs) (λ c κs. search needs) (λ c κs. search needs) (λ c. search needs) list-ramps-requires of-state-requires
+    (λ c κs. search needs) (λ c κs. search needs) loop-holds step-capacities-requires (λ c. search needs) add-end mul-y (λ c. search needs)
+    (λ c. search needs) part-y-end step-requires (λ c κs. search needs) (λ c κs. search needs) (λ c κs. search needs) (λ c κs. search needs)
+    same-length-fault returns added-requires (λ c. search needs) raised-requires add-k loop-less loop-again (λ c κs. search needs) (λ c κs. search needs)
+    (λ c κs. search needs) same-length-end returns-2)
