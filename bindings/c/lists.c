@@ -84,7 +84,7 @@ static void many(const uint8_t *given, size_t bytes) {
                 nobyaluk_longest l = laws ? nobyaluk_fill_longest(single, bytes, kinds, N, numbers, 3 * N, lanes, count, other, TABLE)
                                           : nobyaluk_run_longest(single, bytes, lanes, count, other, TABLE);
                 nobyaluk_answer e = {l.ended.number, l.ended.step, l.ended.place, l.ended.state.gate_time, l.ended.state.road_time,
-                                     l.ended.state.ramp_time, l.ended.exits, l.gate, l.waiting, {0}};
+                                     l.ended.state.ramp_time, l.ended.total, l.ended.exits, l.ended.present, l.gate, l.waiting, {0}};
                 for (int i = 0; i < 64; i++) e.ramps[i] = l.ramps[i];
                 hold("a study's entry", !memcmp(&e, &entries[k], sizeof e));
                 hold("the refused study", (k == 2) == (e.number == 6));

@@ -12,9 +12,11 @@ use crate::model::{self, Road};
 use crate::record;
 
 /// Numbers of a study's entry: the refusal's number, step and place, gate, road and ramp
-/// time, exits, the longest gate queue, the longest without the step's arrivals, and the
-/// longest queue of each cell's ramp.
-pub const ENTRY: usize = 9 + Road::MAX_CELLS;
+/// time, the total, exits, present, the longest gate queue, the longest without the step's
+/// arrivals, and the longest queue of each cell's ramp.
+pub const ENTRY: usize = BEFORE_RAMPS + Road::MAX_CELLS;
+
+const BEFORE_RAMPS: usize = 11;
 
 /// Refusal 27, with the place of its list.
 const COUNTS: u32 = 27;
@@ -95,18 +97,20 @@ fn put_arrivals(record: &mut [u8], n: usize, table: &[u32]) {
 fn entry_of(answer: &Answer, queues: &Queues) -> [u64; ENTRY] {
     let Answer { road, state, .. } = answer;
     let mut entry = [0; ENTRY];
-    entry[..9].copy_from_slice(&[
+    entry[..BEFORE_RAMPS].copy_from_slice(&[
         u64::from(answer.number),
         answer.step as u64,
         answer.place as u64,
         state.gate_time,
         state.road_time,
         state.ramp_time,
+        u64::try_from(state.total()).expect("a run's total has at most 49 bits"),
         model::exits(road, state),
+        model::present(road, state),
         u64::from(queues.gate),
         u64::from(queues.waiting),
     ]);
-    for (number, &longest) in entry[9..].iter_mut().zip(&queues.ramps) {
+    for (number, &longest) in entry[BEFORE_RAMPS..].iter_mut().zip(&queues.ramps) {
         *number = u64::from(longest);
     }
     entry

@@ -52,7 +52,7 @@ pub const STREET_INPUT: u32 = 24;
 pub const PEAK: u32 = 25;
 /// more cells or bytes than the caller takes (the exercise program: 8 cells and 4,096 bytes)
 pub const CALLER_LIMITS: u32 = 26;
-/// the arrivals are no whole number of tables (list 1), or the answers have fewer than 73 numbers a study (list 2)
+/// the arrivals are no whole number of tables (list 1), or the answers have fewer than 75 numbers a study (list 2)
 pub const MANY_LENGTHS: u32 = 27;
 
 /// A row of the table: the refusal, the operations that give it with these words, the words.
@@ -133,7 +133,7 @@ const ROWS: [Row; 37] = [
     (CALLER_LIMITS, &["read_within"],
         "more cells or bytes than the caller takes (the exercise program: 8 cells and 4,096 bytes)"),
     (MANY_LENGTHS, &["run_many", "fill_many"],
-        "the arrivals are no whole number of tables (list 1), or the answers have fewer than 73 numbers a study (list 2)"),
+        "the arrivals are no whole number of tables (list 1), or the answers have fewer than 75 numbers a study (list 2)"),
 ];
 
 /// The words of a refusal for an operation, by its name in C; if this one never gives it, the words for another.

@@ -21,7 +21,7 @@ CELLS, STEPS, BYTES, RATE, START, SECONDS, WHOLE = (
     1000,
 )
 MOST_OUTFLOWS = 8_799  # of T x (n + 1) in a record that reads
-ENTRY = 73  # numbers of a study's entry among the answers of run_many and fill_many
+ENTRY = 75  # numbers of a study's entry among the answers of run_many and fill_many
 
 _u8, _u16, _u32, _u64, _size = (
     ctypes.c_uint8,
@@ -316,7 +316,9 @@ class Answer(ctypes.Structure):
         ("gate_time", _u64),
         ("road_time", _u64),
         ("ramp_time", _u64),
+        ("total", _u64),
         ("exits", _u64),
+        ("present", _u64),
         ("gate", _u64),
         ("waiting", _u64),
         ("ramps", _u64 * CELLS),
@@ -381,7 +383,7 @@ def _function(name: str, result: Any, *arguments: Any) -> Any:
     return f
 
 
-VERSION = 1  # of the structs and arguments of the boundary
+VERSION = 2  # of the structs and arguments of the boundary
 if (_found := _function("version", _u32)()) != VERSION:
     raise ImportError(
         f"the engine's library has boundary {_found}, and this package needs {VERSION}: build it"

@@ -195,10 +195,8 @@ class Batch:
         data = engine.record_data(record)
         self.record = np.frombuffer(data, np.uint8).copy()  # the engine writes arrivals into it
 
-    def answers(
-        self, make: Loads | Seeds, numbers: Sequence[int]
-    ) -> Iterator[tuple[np.ndarray, np.ndarray]]:
-        """Yield the entries of studies and their arrivals, call by call."""
+    def answers(self, make: Loads | Seeds, numbers: Sequence[int]) -> Iterator[np.ndarray]:
+        """Yield the entries of studies, call by call."""
         size = self.steps * (self.n + 1)
         most = max(1, min(MOST, TABLES // (4 * size), len(numbers)))
         tables = _buffer(most * size).reshape(most, self.steps, self.n + 1)
@@ -206,7 +204,7 @@ class Batch:
         for at in range(0, len(numbers), most):
             some = tables[: len(numbers) - at]
             make.fill(numbers[at : at + most], some)
-            yield self.call(some), some
+            yield self.call(some)
 
     def call(self, tables: np.ndarray) -> np.ndarray:
         """Return the entries of studies with these arrivals."""
@@ -226,27 +224,25 @@ class Batch:
     def totals(
         self, make: Loads | Seeds, members: Sequence[Member], queues: bool
     ) -> Iterator[Totals]:
-        """Yield the totals of studies; present is the start plus arrivals less exits."""
-        start, seconds = self.base.record.start, self.base.seconds
-        started = start.gate_queue + sum(start.held[: self.n]) + sum(start.queue[: self.n])
+        """Yield the totals of studies."""
+        seconds = self.base.seconds
         operation = "run" if self.laws is None else "fill"
-        found, arrived = [], []
-        for answers, tables in self.answers(make, [x.number for x in members]):
+        found: list[list[int]] = []
+        for answers in self.answers(make, [x.number for x in members]):
             found += short_entries(answers, self.n).tolist()
-            arrived += _sums(tables.reshape(len(tables), -1))
-        for member, entry, came in zip(members, found, arrived):
-            number, step, place, gate, road, ramp, exits, waiting, longest = entry
+        for member, entry in zip(members, found):
+            number, step, place, gate, road, ramp, total, exits, present, waiting, longest = entry
             if number:
                 yield Totals(member.name, refused=Refused(number, step, place, operation))
                 continue
             yield Totals(
                 member.name,
-                gate + road + ramp,
+                total,
                 gate,
                 road,
                 ramp,
                 exits,
-                started + came - exits,
+                present,
                 None,
                 waiting if queues else None,
                 longest if queues else None,
@@ -268,7 +264,7 @@ class ManyArrivals:
         for at in alone:
             numbers[at] = 0
         answers = self.batch.answers(self.make, numbers)
-        return np.concatenate([short_entries(x, self.batch.n) for x, _ in answers]), alone
+        return np.concatenate([short_entries(x, self.batch.n) for x in answers]), alone
 
 
 class ManyLaws:
@@ -298,25 +294,22 @@ class ManyLaws:
         a = library.fill_longest(*lend(batch.record), *given, *outflows())
         e = a.ended
         s = e.state
-        times = s.gate_time, s.road_time, s.ramp_time
-        return (e.number, e.step, e.place, *times, e.exits, a.waiting, max(a.ramps[:]))
+        times = s.gate_time, s.road_time, s.ramp_time, e.total
+        counts = e.exits, e.present, a.waiting, max(a.ramps[:])
+        return (e.number, e.step, e.place, *times, *counts)
 
 
-SHORT = 9  # number, step, place; gate, road, ramp time; exits; longest queues of gate and ramps
+# A short entry: number, step, place; gate, road and ramp time, total; exits, present; the longest
+# queues of gate and ramps.
+SHORT = 11
 
 
 def short_entries(answers: np.ndarray, n: int) -> np.ndarray:
     """Return the columns of entries of n cells that a table needs; changes the entries."""
     out = answers[:, :SHORT]
-    out[:, 7] = out[:, 8]  # the gate's queue without the step's arrivals
-    np.max(answers[:, SHORT : SHORT + n], axis=1, out=out[:, 8])
+    out[:, 9] = out[:, 10]  # the gate's queue without the step's arrivals
+    np.max(answers[:, SHORT : SHORT + n], axis=1, out=out[:, 10])
     return out
-
-
-def _sums(tables: np.ndarray) -> list[int]:
-    """Return the sum of each table, in 32 bits if every sum fits, which is faster."""
-    narrow = int(tables.max()) * tables.shape[1] < BITS
-    return tables.sum(axis=1, dtype=np.uint32 if narrow else np.uint64).tolist()
 
 
 def _buffer(count: int) -> np.ndarray:

@@ -283,7 +283,7 @@ _ROWS: list[tuple[Refusal, str, str, str]] = [
         Refusal.MANY_LENGTHS,
         "run_many fill_many",
         "list",
-        "the arrivals are no whole number of tables (list 1), or the answers have fewer than 73 "
+        "the arrivals are no whole number of tables (list 1), or the answers have fewer than 75 "
         "numbers a study (list 2)",
     ),
 ]

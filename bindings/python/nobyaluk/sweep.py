@@ -102,9 +102,9 @@ class SweepRows:
 
     def lines(self, ks: Sequence[int], entries: np.ndarray) -> list[str]:
         """Return the rows of short entries."""
-        texts, (gate, road, ramp) = self.sweep.texts(ks), entries[:, 3:6].T * self.factor
-        columns = [gate + road + ramp, gate, road, ramp]
-        for whole, part in zip(*np.divmod(entries[:, [7, 8, 6]].T, 1000)):  # queues and exits
+        texts = self.sweep.texts(ks)
+        columns = list(entries[:, [6, 3, 4, 5]].T * self.factor)  # total, gate, road, ramp
+        for whole, part in zip(*np.divmod(entries[:, [9, 10, 7]].T, 1000)):  # queues and exits
             columns += [whole, THOUSANDTHS[part]]
         out = [ROW % row for row in zip(texts, *[x.tolist() for x in columns])]
         for at in np.flatnonzero(entries[:, 0]).tolist():
@@ -124,13 +124,9 @@ class SweepRows:
         if t.seconds is not self.seconds:  # variants of one study share this object
             self.seconds, self.factor = t.seconds, summary.per_hour(t.seconds)[0]
         factor = self.factor
-        gate, road, ramp = t.gate * factor, t.road * factor, t.ramp * factor
         weighted = [f"{(t.weighted or 0) * factor:.4f}"] if self.weighed else []
         numbers = [
-            f"{gate + road + ramp:.4f}",
-            f"{gate:.4f}",
-            f"{road:.4f}",
-            f"{ramp:.4f}",
+            *(f"{x * factor:.4f}" for x in (t.total, t.gate, t.road, t.ramp)),
             (t.longest_gate_queue or 0) / 1000,
             (t.longest_ramp_queue or 0) / 1000,
             t.exits / 1000,

@@ -171,3 +171,19 @@ def test_a_task_of_a_cluster(examples):
     s = load(examples / "studies/rocade-sud-alinea.toml")
     group = [partial(s.scaled, Fraction(k, 10)) for k in (5, 10)]
     assert [fields(t) for t in pickle.loads(cluster._packed(pickle.dumps(partial(parallel.run_group, totals)), pickle.dumps(group))[1])] == [fields(t) for t in alone(totals, group)]
+
+
+def test_total_and_present_are_the_engines(examples, monkeypatch):
+    """Python computes neither: other numbers in the entries go into totals and hours as they are."""
+    call = many.Batch.call
+
+    def other(batch, tables):
+        entries = call(batch, tables)
+        entries[:, 6], entries[:, 8] = 7, 9
+        return entries
+
+    monkeypatch.setattr(many.Batch, "call", other)
+    s = load(examples / "studies/five-cells.toml")
+    (t,) = parallel.run_group(totals, [partial(s.scaled, 1)])
+    assert (t.total, t.present) == (7, 9) and t.gate + t.road + t.ramp == s.run().total
+    assert nobyaluk.hours(t, 3_600).total == 7 / 1000

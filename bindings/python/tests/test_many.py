@@ -119,7 +119,7 @@ def test_a_cluster(examples, loads, wanted, capsys):
         path = str(examples / "studies/five-cells-alinea.toml")
         assert main(["sweep", path, "--load", "0.6:1.39:0.01", "--scheduler", cluster.scheduler_address]) == 0
     rows = rows_of(capsys.readouterr().out)
-    assert [r["total_vehicle_hours"] for r in rows] == [f"{x * 20 / 3_600_000:.4f}" for x in wanted]
+    assert [r["total_vehicle_hours"] for r in rows] == [f"{x * (20 / 3_600_000):.4f}" for x in wanted]
 
 
 def test_a_sweep_of_the_steps_seconds(examples, road, capsys):

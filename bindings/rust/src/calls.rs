@@ -206,7 +206,7 @@ fn studies(record: &[u8], arrivals: &[u32]) -> Vec<Study> {
 /// let record = std::fs::read("../../examples/printed-run.rec")?;
 /// let loads: Vec<u32> = (1..=3).flat_map(|load| [300 * load, 0, 100 * load].repeat(3)).collect();
 /// let studies = nobyaluk::run_many(&record, &[], &loads)?;
-/// assert!(studies.iter().all(|study| study.number == 0) && studies[0].gate_time < studies[2].gate_time);
+/// assert!(studies.iter().all(|study| study.number == 0) && studies[0].total < studies[2].total);
 /// # Ok::<(), Box<dyn std::error::Error>>(())
 /// ```
 pub fn run_many(record: &[u8], lanes: &[u8], arrivals: &[u32]) -> Result<Vec<Study>, Refused> {

@@ -208,6 +208,7 @@ pub fn fill_kinds_on(
 /// let arrivals = [[1_000, 0, 500].repeat(3), [0; 9].to_vec()].concat();
 /// lent::run_many(&mut record, &[], &arrivals, &mut [0; 9], &mut studies).into_result()?;
 /// assert_eq!(studies.map(|a| a.gate_time), [6_532, 1_642]);
+/// assert_eq!((studies[0].total, studies[0].exits, studies[0].present), (33_098, 3_701, 11_299));
 /// # Ok::<(), Box<dyn std::error::Error>>(())
 /// ```
 pub fn run_many(

@@ -56,7 +56,7 @@ pub enum Refusal {
     Peak,
     /// 26: more cells or bytes than the caller takes (the exercise program: 8 cells and 4,096 bytes).
     CallerLimits,
-    /// 27: the arrivals are no whole number of tables (list 1), or the answers have fewer than 73 numbers a study (list 2).
+    /// 27: the arrivals are no whole number of tables (list 1), or the answers have fewer than 75 numbers a study (list 2).
     ManyLengths,
     /// A number that this version of the crate has no name for.
     Unknown(u64),
@@ -231,5 +231,5 @@ pub(crate) const ROWS: [Row; 37] = [
     (R::CallerLimits, &[O::ReadWithin], Where::None,
         "more cells or bytes than the caller takes (the exercise program: 8 cells and 4,096 bytes)"),
     (R::ManyLengths, &[O::RunMany, O::FillMany], Where::List,
-        "the arrivals are no whole number of tables (list 1), or the answers have fewer than 73 numbers a study (list 2)"),
+        "the arrivals are no whole number of tables (list 1), or the answers have fewer than 75 numbers a study (list 2)"),
 ];

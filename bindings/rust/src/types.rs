@@ -1,7 +1,7 @@
 //! Structs of the boundary, as bindings/c/nobyaluk.h has them, and its limits.
 
 /// The version of the structs and arguments below; [`version`](crate::version) gives the linked library's.
-pub const VERSION: u32 = 1;
+pub const VERSION: u32 = 2;
 /// The most cells of a road.
 pub const CELLS: usize = 64;
 /// The most steps of a record.
@@ -233,8 +233,12 @@ pub struct Study {
     pub road_time: u64,
     /// Time spent at the ramps, in part-steps.
     pub ramp_time: u64,
+    /// Total time spent: gate, road and ramp time together.
+    pub total: u64,
     /// What has left the system, in parts.
     pub exits: u64,
+    /// What is in the system, in parts.
+    pub present: u64,
     /// The longest gate queue, in parts.
     pub gate: u64,
     /// The longest gate queue without the step's arrivals, in parts.
@@ -254,7 +258,9 @@ impl Study {
         gate_time: 0,
         road_time: 0,
         ramp_time: 0,
+        total: 0,
         exits: 0,
+        present: 0,
         gate: 0,
         waiting: 0,
         ramps: [0; CELLS],

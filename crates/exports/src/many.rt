@@ -18,7 +18,7 @@ fn many_of(a: Fault) -> NobyalukMany
     }
 }
 
-// Runs a record with each of many tables of arrivals; an entry of 73 numbers per study.
+// Runs a record with each of many tables of arrivals; an entry of 75 numbers per study.
 #[no_mangle]
 pub extern "C" fn nobyaluk_run_many(
     bytes: &mut [u8],

@@ -1,15 +1,15 @@
 -- The loops of an entry: the longest queues of the ramps stored in it, and its numbers put into their part of the answers. Assumes nothing.
 use mathlib.Core.Path.{_≡_, refl, sym, ap, _∙_}
 use mathlib.Core.List.{List, _∷_}
-use Prim.Native.Nat.{ℕ, suc, _+_, _≤_, _<_}
+use Prim.Native.Nat.{ℕ, suc, _+_, _≤_, _<_, min}
 use native.Mathlib.Omega.{arith}
 use lib.ListN.{length, set}
 use lib.Seq.{ext-getD}
 use Rattle.model.specs.Numbers.{at, fillOf}
 use Rattle.numbers.specs.RowsLaws.{fill-at, fill-more, length-fill}
 use Rattle.numbers.specs.Zeros.{length-zeros}
-use Rattle.model.specs.Road.{zeros}
-use Rattle.model.specs.Move.{exitsOf}
+use Rattle.model.specs.Road.{zeros, mostLong, totalOf}
+use Rattle.model.specs.Move.{presentOf, exitsOf}
 use Rattle.model.specs.Running.{EndAnswer}
 use Rattle.model.specs.Longest.{Queues, queuesOf}
 use Rattle.model.specs.Many.{entrySize, answerEntry}
@@ -26,11 +26,13 @@ abbrev firstRamps : EndAnswer → ℕ → ℕ → List ℕ → ℕ → List ℕ
 firstRamps e gate waiting ramps i = answerEntry e (queuesOf gate waiting (fillOf (at ramps) i zeros))
 
 -- the numbers before those of the ramps, as the code stores them
-pub entry-start : (e : EndAnswer) (gate waiting : ℕ) {number exits : ℕ} → number ≡ e .number → exits ≡ exitsOf (e .road) (e .state)
-    → number ∷ e .step ∷ e .place ∷ e .state .«gate_time» ∷ e .state .«road_time» ∷ e .state .«ramp_time» ∷ exits ∷ gate ∷ waiting ∷ zeros
+pub entry-start : (e : EndAnswer) (gate waiting : ℕ) {number total exits present : ℕ} → number ≡ e .number → total ≡ min (totalOf (e .state)) mostLong
+    → exits ≡ exitsOf (e .road) (e .state) → present ≡ presentOf (e .road) (e .state)
+    → number ∷ e .step ∷ e .place ∷ e .state .«gate_time» ∷ e .state .«road_time» ∷ e .state .«ramp_time»
+    ∷ total ∷ exits ∷ present ∷ gate ∷ waiting ∷ zeros
     ≡ answerEntry e (queuesOf gate waiting zeros)
 unfolding answerEntry
-entry-start e gate waiting n x = rw (n, x) refl
+entry-start e gate waiting n t x p = rw (n, t, x, p) refl
 
 -- the loop over the ramps: an entry without their queues has become one with those of the first i
 pub record RampsPut (ramps start r : List ℕ) (i : ℕ) : Type 0 where
@@ -41,20 +43,20 @@ pub ramps-none : {ramps start : List ℕ} → RampsPut ramps start start 0
 unfolding fillOf
 ramps-none = record { within = omega arith; entry = λ e gate waiting h. h }
 
--- number 9 + i of an entry is the queue of the ramp at i
+-- number 11 + i of an entry is the queue of the ramp at i
 set-ramp : (e : EndAnswer) (gate waiting : ℕ) (l : List ℕ) (i x : ℕ)
-    → set (answerEntry e (queuesOf gate waiting l)) (9 + i) x ≡ answerEntry e (queuesOf gate waiting (set l i x))
+    → set (answerEntry e (queuesOf gate waiting l)) (11 + i) x ≡ answerEntry e (queuesOf gate waiting (set l i x))
 unfolding answerEntry
 set-ramp e gate waiting l i x =
-    let n : 9 + i ≡ suc (suc (suc (suc (suc (suc (suc (suc (suc i)))))))) = omega arith in
+    let n : 11 + i ≡ suc (suc (suc (suc (suc (suc (suc (suc (suc (suc (suc i)))))))))) = omega arith in
     rw n refl
 
 module _ {ramps start r : List ℕ} {i : ℕ} (h : RampsPut ramps start r i) where
-  pub ramps-more : i < 64 → {x : ℕ} → x ≡ at ramps i → RampsPut ramps start (set r (9 + i) x) (i + 1)
+  pub ramps-more : i < 64 → {x : ℕ} → x ≡ at ramps i → RampsPut ramps start (set r (11 + i) x) (i + 1)
   ramps-more l {x} ex = record {
     within = omega arith;
     entry = λ e gate waiting s.
-        ap (λ (y : List ℕ). set y (9 + i) x) (h .entry e gate waiting s)
+        ap (λ (y : List ℕ). set y (11 + i) x) (h .entry e gate waiting s)
         ∙ set-ramp e gate waiting (fillOf (at ramps) i zeros) i x
         ∙ ap (λ (y : ℕ). answerEntry e (queuesOf gate waiting (set (fillOf (at ramps) i zeros) i y))) ex
         ∙ ap (λ (y : List ℕ). answerEntry e (queuesOf gate waiting y)) (sym (fill-more (at ramps) i zeros));

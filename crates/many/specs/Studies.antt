@@ -37,7 +37,7 @@ table-small {bytes} {n = n} {T = T} studies =
     let t : T ≤ 1440 = omega (arith, studies .steps, w .steps) in
     (k, omega (arith, mul-le-mul t k))
 
--- an entry has 73 numbers if there is a queue for each of 64 ramps
+-- an entry has 75 numbers if there is a queue for each of 64 ramps
 pub length-entry : (e : EndAnswer) (q : Queues) → length (q .ramps) ≡ 64 → length (answerEntry e q) ≡ entrySize
 unfolding answerEntry
 length-entry e q h = omega (arith, h)

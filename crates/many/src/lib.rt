@@ -19,9 +19,9 @@ ghost use Rattle.many.specs.Studies.{Studies};
 ghost use Rattle.many.specs.Whole.{Found};
 
 // How many numbers an entry has, and how many come before those of the ramps.
-const ENTRY: usize = 73;
+const ENTRY: usize = 75;
 
-const RAMPS: usize = 9;
+const RAMPS: usize = 11;
 
 // Puts the arrivals of a row's places, gate first.
 fn put_row(bytes: &mut [u8], version: u8, n: usize, t: usize, row: &[u32])
@@ -56,23 +56,27 @@ fn put_arrivals(bytes: &mut [u8], n: usize, steps: usize, table: &[u32])
 }
 
 // The entry of an answer.
-fn entry(a: Longest) -> [u64; 73]
+fn entry(a: Longest) -> [u64; 75]
     ensures { λ r. ⌜ r ≡ answerEntry (endAnswer (a .ended)) (longestQueues a) ⌝ }
 {
     let ended = a.ended;
     let refusal = ended.refusal;
     let state = ended.state;
     let ramps = a.ramps;
-    let mut r = [0u64; 73];
+    let exits = counts::exits(ended.road, state);
+    let present = counts::present(ended.road, state);
+    let mut r = [0u64; 75];
     r[0] = refusal.number() as u64;
     r[1] = ended.step as u64;
     r[2] = ended.place as u64;
     r[3] = state.gate_time;
     r[4] = state.road_time;
     r[5] = state.ramp_time;
-    r[6] = counts::exits(ended.road, state);
-    r[7] = a.gate as u64;
-    r[8] = a.waiting as u64;
+    r[6] = state.total();
+    r[7] = exits;
+    r[8] = present;
+    r[9] = a.gate as u64;
+    r[10] = a.waiting as u64;
     let mut i = 0;
     while i < Road::CELLS {
         r[RAMPS + i] = wide(ramps[i]);
@@ -82,7 +86,7 @@ fn entry(a: Longest) -> [u64; 73]
 }
 
 // Puts an entry into its part of the answers.
-fn put_entry(part: &mut [u64], entry: [u64; 73])
+fn put_entry(part: &mut [u64], entry: [u64; 75])
     requires { ⌜ length (now part) ≡ entrySize ⌝ }
     ensures { λ _. ⌜ now (part .exit) ≡ entry ⌝ }
 {

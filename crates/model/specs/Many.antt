@@ -1,11 +1,12 @@
 -- docs/MODEL.md, 'Many studies': one record, the arrivals of each study put into it in turn, and an entry of numbers per study. Assumes nothing.
 use mathlib.Core.List.{List, [], _∷_}
-use Prim.Native.Nat.{ℕ, zero, suc, _+_, _*_, _-_, _/_, _%_}
+use Prim.Native.Nat.{ℕ, zero, suc, _+_, _*_, _-_, _/_, _%_, min}
 use lib.Dec.{leb, eqb}
 use lib.ListN.{length}
 use Rattle.model.specs.declared.Law.{Law}
 use Rattle.model.specs.Numbers.{at, unless, rowAt, frontOf}
-use Rattle.model.specs.Move.{exitsOf}
+use Rattle.model.specs.Road.{mostLong, totalOf}
+use Rattle.model.specs.Move.{presentOf, exitsOf}
 use Rattle.model.specs.Refusals.{FaultAnswer, fault}
 use Rattle.model.specs.Reading.{readingOf}
 use Rattle.model.specs.Running.{EndAnswer, runningOf, listAfter}
@@ -55,10 +56,10 @@ studyRecord bytes arrivals k = withStudyArrivals bytes arrivals k bytes
 abbrev pub studyCount : List ℕ → List ℕ → ℕ
 studyCount bytes arrivals = length arrivals / recordArrivals bytes
 
--- an entry has 73 numbers: the refusal's number, step and place; gate, road and ramp time; exits; the longest gate queue, with and without
--- the arrivals of the step; and the longest queue of each of 64 ramps
+-- an entry has 75 numbers: the refusal's number, step and place; gate, road and ramp time, and the three together, at most the greatest number
+-- of 64 bits; exits; present; the longest gate queue, with and without the arrivals of the step; and the longest queue of each of 64 ramps
 abbrev pub entrySize : ℕ
-entrySize = 73
+entrySize = 75
 
 unfoldable pub answerEntry : EndAnswer → Queues → List ℕ
 answerEntry e q =
@@ -68,7 +69,9 @@ answerEntry e q =
     ∷ e .state .«gate_time»
     ∷ e .state .«road_time»
     ∷ e .state .«ramp_time»
+    ∷ min (totalOf (e .state)) mostLong
     ∷ exitsOf (e .road) (e .state)
+    ∷ presentOf (e .road) (e .state)
     ∷ q .gate
     ∷ q .waiting
     ∷ q .ramps

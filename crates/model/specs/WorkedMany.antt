@@ -37,18 +37,18 @@ tables =
 
 -- room for three entries
 abbrev room : List ℕ
-room = replicate 219 0
+room = replicate 225 0
 
 -- each entry without the ramps past cell 2
 abbrev shown : List ℕ → ℕ → List ℕ
-shown answers k = take 11 (rowAt answers 73 k)
+shown answers k = take 13 (rowAt answers 75 k)
 
 -- running: each study's own answer, and the last study's outflows and arrivals with the record's releases
 pub record RunEntries : Type 0 where
   pub answer : manyFault sample tables room ≡ fault 0 0
-  pub first : shown (runAnswers sample [] tables still room) 0 ≡ 0 ∷ 0 ∷ 0 ∷ 6532 ∷ 20866 ∷ 5700 ∷ 3701 ∷ 2500 ∷ 1500 ∷ 0 ∷ 2100 ∷ []
-  pub refused : shown (runAnswers sample [] tables still room) 1 ≡ 6 ∷ 0 ∷ 1 ∷ 0 ∷ 0 ∷ 0 ∷ 0 ∷ 0 ∷ 0 ∷ 0 ∷ 0 ∷ []
-  pub last : shown (runAnswers sample [] tables still room) 2 ≡ 0 ∷ 0 ∷ 0 ∷ 1642 ∷ 19756 ∷ 5200 ∷ 3701 ∷ 1500 ∷ 1500 ∷ 0 ∷ 3100 ∷ []
+  pub first : shown (runAnswers sample [] tables still room) 0 ≡ 0 ∷ 0 ∷ 0 ∷ 6532 ∷ 20866 ∷ 5700 ∷ 33098 ∷ 3701 ∷ 11299 ∷ 2500 ∷ 1500 ∷ 0 ∷ 2100 ∷ []
+  pub refused : shown (runAnswers sample [] tables still room) 1 ≡ 6 ∷ 0 ∷ 1 ∷ 0 ∷ 0 ∷ 0 ∷ 0 ∷ 0 ∷ 0 ∷ 0 ∷ 0 ∷ 0 ∷ 0 ∷ []
+  pub last : shown (runAnswers sample [] tables still room) 2 ≡ 0 ∷ 0 ∷ 0 ∷ 1642 ∷ 19756 ∷ 5200 ∷ 26598 ∷ 3701 ∷ 9299 ∷ 1500 ∷ 1500 ∷ 0 ∷ 3100 ∷ []
   pub outflows : runLists sample [] tables still room ≡ 1500 ∷ 934 ∷ 1000 ∷ 1358 ∷ 933 ∷ 1000 ∷ 142 ∷ 934 ∷ 1000 ∷ []
   pub arrivals : recordRow (runRecord sample tables room) 2 2 ≡ 0 ∷ 0 ∷ 0 ∷ 2500 ∷ 300 ∷ []
 
@@ -63,7 +63,8 @@ run-entries = record { answer = refl; first = refl; refused = refl; last = refl;
 
 -- filling by the laws of 'Filling': the refused study leaves the releases of the first study, and the last study leaves its own
 pub record FillEntries : Type 0 where
-  pub last : shown (fillAnswers laws sample [] tables still room) 2 ≡ 0 ∷ 0 ∷ 0 ∷ 1625 ∷ 18937 ∷ 5940 ∷ 3736 ∷ 1500 ∷ 1500 ∷ 0 ∷ 3355 ∷ []
+  pub last : shown (fillAnswers laws sample [] tables still room) 2
+      ≡ 0 ∷ 0 ∷ 0 ∷ 1625 ∷ 18937 ∷ 5940 ∷ 26502 ∷ 3736 ∷ 9264 ∷ 1500 ∷ 1500 ∷ 0 ∷ 3355 ∷ []
   pub kept : recordRow (recordAfterFillings laws sample [] tables still 2) 2 1 ≡ 1000001 ∷ 0 ∷ 0 ∷ 0 ∷ 215 ∷ []
   pub arrivals : recordRow (fillRecord laws sample [] tables still room) 2 2 ≡ 0 ∷ 0 ∷ 0 ∷ 2500 ∷ 330 ∷ []
 
@@ -77,13 +78,13 @@ unfolding sample header upstream downstream row tables readingBy oneOf numberOf 
     frontOf concatOf rowAt longestOne longestOf longestFill putArrivals putArrivalRows answerEntry manyFault fillAnswers recordAfterFillings fillRecord
 fill-entries = record { last = refl; kept = refl; arrivals = refl }
 
--- 27: eight numbers are no table of nine, and 218 leave no room for three entries; the lent lists are unchanged
+-- 27: eight numbers are no table of nine, and 224 leave no room for three entries; the lent lists are unchanged
 pub record Lengths : Type 0 where
   pub arrivals : manyFault sample (replicate 8 0) room ≡ fault 27 1
-  pub answers : manyFault sample tables (replicate 218 0) ≡ fault 27 2
+  pub answers : manyFault sample tables (replicate 224 0) ≡ fault 27 2
   pub none : manyFault sample [] [] ≡ fault 0 0
   pub unread : manyFault [] tables room ≡ fault 1 0
-  pub unchanged : runAnswers sample [] tables still (replicate 218 7) ≡ replicate 218 7
+  pub unchanged : runAnswers sample [] tables still (replicate 224 7) ≡ replicate 224 7
 
 pub lengths : Lengths
 unfolding sample header upstream downstream row tables readingBy oneOf numberOf secondsSize fillOf listOf firstFrom firstOf placeOk rowOk manyFault runAnswers

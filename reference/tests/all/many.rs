@@ -7,7 +7,7 @@ use reference::fill::Laws;
 use reference::longest;
 use reference::many::{fill_many, run_many, ENTRY};
 use reference::meter::Law;
-use reference::model::{exits, Road};
+use reference::model::{present, Road};
 
 const UNTOUCHED: u64 = u64::MAX;
 
@@ -57,6 +57,7 @@ fn random_table(draft: &Draft, dice: &mut Dice) -> Vec<u32> {
 /// A study's entry from running or filling its own record.
 fn entry((answer, queues): (reference::answer::Answer, longest::Queues)) -> Vec<u64> {
     let state = &answer.state;
+    let (total, exits) = sums(&answer);
     let mut numbers = vec![
         u64::from(answer.number),
         answer.step as u64,
@@ -64,7 +65,9 @@ fn entry((answer, queues): (reference::answer::Answer, longest::Queues)) -> Vec<
         state.gate_time,
         state.road_time,
         state.ramp_time,
-        exits(&answer.road, state),
+        total,
+        exits,
+        present(&answer.road, state),
         u64::from(queues.gate),
         u64::from(queues.waiting),
     ];
@@ -201,9 +204,9 @@ fn a_refused_study_leaves_the_others_alone() {
     assert_eq!(number, (0, 0));
     let entries: Vec<_> = answers.chunks(ENTRY).collect();
     let first = [
-        0, 0, 0, 6_532, 20_866, 5_700, 3_701, 2_500, 1_500, 0, 2_100, 0,
+        0, 0, 0, 6_532, 20_866, 5_700, 33_098, 3_701, 11_299, 2_500, 1_500, 0, 2_100, 0,
     ];
-    assert_eq!(entries[0][..12], first);
+    assert_eq!(entries[0][..14], first);
     assert_eq!(entries[1][..4], [6, 0, 2, 0]);
     assert!(entries[1][3..].iter().all(|&number| number == 0));
     assert_eq!(entries[2][..3], [0, 0, 0]);
@@ -217,7 +220,9 @@ fn a_refused_study_leaves_the_others_alone() {
     // Step 1 has 299 waiting and would release 300; the state is that after step 0.
     assert_eq!(entries[3][..3], [9, 1, 2]);
     assert_eq!(entries[3][3..6], [2_500, 6_566, 0]);
-    assert_eq!(entries[3][6..9], [1_000 + 234, 2_500, 1_500]);
+    // Of 9,000 at the start and 1,300 that arrived, 1,234 have left.
+    assert_eq!(entries[3][6..9], [9_066, 1_000 + 234, 9_066]);
+    assert_eq!(entries[3][9..11], [2_500, 1_500]);
 }
 
 #[test]

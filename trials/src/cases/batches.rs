@@ -342,7 +342,12 @@ pub fn random(k: usize, dice: &mut Dice) -> Batch {
 
 /// The widest road, the most steps, and as many studies as a list holds.
 fn largest(all: &mut Vec<Batch>, dice: &mut Dice) {
-    for (n, steps, count) in [(64, 3, 20), (64, 124, 1), (1, 1_440, 3), (1, 1, 123)] {
+    for (n, steps, count) in [
+        (64, 3, 20),
+        (64, 124, 1),
+        (1, 1_440, 3),
+        (1, 1, MAX_LIST / ENTRY),
+    ] {
         let mut draft = samples::even(n, steps);
         draft.cells[n - 1].ramp = 1;
         draft.cells[n - 1].queue = 400;

@@ -158,7 +158,7 @@ fn rust_layout() -> Vec<String> {
         layout!("nobyaluk_loaded", Loaded, number last),
         layout!("nobyaluk_wanted_answer", Wanted, number found),
         layout!("nobyaluk_released", Released, number place),
-        layout!("nobyaluk_answer", Study, number step place gate_time road_time ramp_time exits gate waiting ramps),
+        layout!("nobyaluk_answer", Study, number step place gate_time road_time ramp_time total exits present gate waiting ramps),
         layout!("nobyaluk_many", Many, number place),
         layout!("nobyaluk_row_answer", Row, numbers),
     ].concat()
