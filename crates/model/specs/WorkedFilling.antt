@@ -1,6 +1,7 @@
 -- docs/MODEL.md, 'Filling': the printed run's record, filled by ALINEA at its ramp, and compared with the schedule that sends nothing. Assumes nothing.
 use mathlib.Core.Path.{_≡_, refl}
 use mathlib.Core.List.{List, [], _∷_}
+use Prim.Native.Nat.{ℕ}
 use lib.Ieee.{round, add, sub, mul, le, ofInt}
 use Rattle.model.specs.declared.Law.{Law}
 use Rattle.model.specs.declared.Law.the-variants as law
@@ -14,7 +15,7 @@ use Rattle.model.specs.Record.{numberOf, secondsSize, bytesOf}
 use Rattle.model.specs.Limits.{placeOk, rowOk}
 use Rattle.model.specs.Reading.{readingBy}
 use Rattle.model.specs.Stepping.{lowestOf, tableFault}
-use Rattle.model.specs.Running.{endOf, openingOf}
+use Rattle.model.specs.Running.{EndAnswer, endOf, openingOf}
 use Rattle.model.specs.Judging.{outflowFaultAt, verdictOf, judgingOf}
 use Rattle.model.specs.Meter.{alineaOf, wishOf, wholeBelow, lawFinite, lawOk, lawFaultOf}
 use Rattle.model.specs.Filling.{releaseOf, grantedAt, filledRow, meteredOf}
@@ -28,11 +29,13 @@ use Rattle.model.specs.WorkedWishes.{number}
 unfoldable pub laws : List Law
 laws = law.Fixed (number 0 1) ∷ law.Alinea (record { gain = number 1 10; target = number 5000 1 }) ∷ []
 
+-- of an answer: the refusal's number, total and ramp time
+abbrev shown : EndAnswer → List ℕ
+shown e = e .number ∷ totalOf (e .state) ∷ e .state .«ramp_time» ∷ []
+
 -- filling makes all three steps, with these outflows and this total
 pub record SampleFills : Type 0 where
-  pub number : fillingOf laws sample [] still .number ≡ 0
-  pub total : totalOf (fillingOf laws sample [] still .state) ≡ 33002
-  pub rampTime : fillingOf laws sample [] still .state .«ramp_time» ≡ 6440
+  pub answer : shown (fillingOf laws sample [] still) ≡ 0 ∷ 33002 ∷ 6440 ∷ []
   pub outflows : filledList laws sample [] still ≡ 1500 ∷ 1000 ∷ 1000 ∷ 1375 ∷ 1047 ∷ 1000 ∷ 1293 ∷ 894 ∷ 1000 ∷ []
 
 pub fills : SampleFills
@@ -42,15 +45,10 @@ unfolding sample header upstream downstream row readingBy oneOf numberOf seconds
     capacityAt demandAt mostReleaseAt shareAt cumulativeAt movedTo countedOf outflowsOf lowestOf tableFault roadAt engineAfter
     laws number round add sub mul le ofInt alineaOf wishOf wholeBelow lawFinite lawOk lawFaultOf
     releasedRow releaseOf grantedAt filledRow meteredOf meteredFrom fillingOf filledList frontOf concatOf
-fills = record { number = refl; total = refl; rampTime = refl; outflows = refl }
+fills = record { answer = refl; outflows = refl }
 
 -- judging accepts the schedule that sends nothing for the filled record, with the larger total and the same ramp time
-pub record Rival : Type 0 where
-  pub judged : judgingOf (recordAfter laws sample [] still) [] still .number ≡ 0
-  pub total : totalOf (judgingOf (recordAfter laws sample [] still) [] still .state) ≡ 40500
-  pub rampTime : judgingOf (recordAfter laws sample [] still) [] still .state .«ramp_time» ≡ 6440
-
-pub rival : Rival
+pub rival : shown (judgingOf (recordAfter laws sample [] still) [] still) ≡ 0 ∷ 40500 ∷ 6440 ∷ []
 unfolding sample header upstream downstream row readingBy oneOf numberOf secondsSize
     thousandthsOf demandOf gateDemandOf supplyOf roomOf onwardOf enteringOf greatestOf outflowOf
     sumOf fillOf listOf firstFrom firstOf firstFault placeOk rowOk
@@ -58,4 +56,4 @@ unfolding sample header upstream downstream row readingBy oneOf numberOf seconds
     laws number round add sub mul le ofInt alineaOf wishOf wholeBelow lawFinite lawOk lawFaultOf
     releasedRow releaseOf grantedAt filledRow meteredOf meteredFrom fillingOf recordAfter filledBytes putTable putReleases placed bytesOf
     scheduleAfter rowAt endOf openingOf judgingOf
-rival = record { judged = refl; total = refl; rampTime = refl }
+rival = refl

@@ -13,7 +13,7 @@ use Rattle.model.specs.Record.{numberOf, secondsSize}
 use Rattle.model.specs.Limits.{placeOk, rowOk}
 use Rattle.model.specs.Reading.{readingBy}
 use Rattle.model.specs.Stepping.{lowestOf, tableFault}
-use Rattle.model.specs.Running.{endOf, openingOf, runningOf}
+use Rattle.model.specs.Running.{EndAnswer, endOf, openingOf, runningOf}
 
 -- a number of two bytes with this high and low byte, and one of four with this low byte
 unfoldable pub two : ℕ → ℕ → List ℕ
@@ -45,17 +45,17 @@ hastened speed = header 100 2 ++ (cell speed (two 3 232) 0 1 0 ++ (cell (two 3 2
 abbrev pub list : List ℕ
 list = replicate 6 0
 
+-- of an answer: the refusal's number, step and place, and the total
+abbrev shown : EndAnswer → List ℕ
+shown e = e .number ∷ e .step ∷ e .place ∷ totalOf (e .state) ∷ []
+
 pub record RaisedNumbers : Type 0 where
   -- with share 0 and with share 1000 the run is not refused, and the total is 0 and 1
-  pub left : runningOf (shared (two 0 0)) [] list .number ≡ 0
-  pub gone-on : runningOf (shared (two 3 232)) [] list .number ≡ 0
-  pub small : totalOf (runningOf (shared (two 0 0)) [] list .state) ≡ 0
-  pub large : totalOf (runningOf (shared (two 3 232)) [] list .state) ≡ 1
-  -- with speed 500 cell 2 is empty when the release comes; with speed 1000 step 1 is refused with 10 at cell 2
+  pub left : shown (runningOf (shared (two 0 0)) [] list) ≡ 0 ∷ 0 ∷ 0 ∷ 0 ∷ []
+  pub gone-on : shown (runningOf (shared (two 3 232)) [] list) ≡ 0 ∷ 0 ∷ 0 ∷ 1 ∷ []
+  -- with speed 500 cell 2 is empty when the release comes; with speed 1000 step 1 is refused with 10 at cell 2, and the total is that of step 0
   pub slow : runningOf (hastened (two 1 244)) [] list .number ≡ 0
-  pub fast : runningOf (hastened (two 3 232)) [] list .number ≡ 10
-  pub step : runningOf (hastened (two 3 232)) [] list .step ≡ 1
-  pub place : runningOf (hastened (two 3 232)) [] list .place ≡ 2
+  pub fast : shown (runningOf (hastened (two 3 232)) [] list) ≡ 10 ∷ 1 ∷ 2 ∷ 2 ∷ []
 
 pub raised-numbers : RaisedNumbers
 unfolding two four header cell row shared hastened readingBy oneOf numberOf secondsSize
@@ -63,4 +63,4 @@ unfolding two four header cell row shared hastened readingBy oneOf numberOf seco
     sumOf fillOf listOf firstFrom firstOf firstFault placeOk rowOk
     capacityAt demandAt mostReleaseAt shareAt cumulativeAt movedTo countedOf outflowsOf lowestOf
     tableFault roadAt engineAfter endOf openingOf runningOf
-raised-numbers = record { left = refl; gone-on = refl; small = refl; large = refl; slow = refl; fast = refl; step = refl; place = refl }
+raised-numbers = record { left = refl; gone-on = refl; slow = refl; fast = refl }
