@@ -1,4 +1,6 @@
 """Numbers, lists and bytes as the C boundary takes them, each tested before it is passed on."""
+import ctypes
+import math
 import operator
 from typing import Any
 
@@ -62,6 +64,19 @@ def freeze(a: np.ndarray) -> np.ndarray:
     if isinstance(a.base, bytes) and not a.flags.writeable:
         return a
     return np.ndarray(a.shape, a.dtype, a.tobytes())
+
+
+_new_bytes = ctypes.pythonapi.PyBytes_FromStringAndSize  # given None, it leaves them unset
+_new_bytes.restype, _new_bytes.argtypes = ctypes.py_object, (ctypes.c_char_p, ctypes.c_ssize_t)
+
+
+def make_frozen(*shape: int, dtype: type = np.uint32) -> np.ndarray:
+    """Return a read-only array over new bytes, for a call of the engine that sets all of them.
+
+    Only then may anybody else have it. `freeze` returns it without a copy.
+    """
+    size = math.prod(shape) * np.dtype(dtype).itemsize
+    return np.ndarray(shape, dtype, _new_bytes(None, size))
 
 
 def lend(a: np.ndarray) -> tuple[int, int]:

@@ -11,28 +11,31 @@ import ctypes
 from collections.abc import Iterator, Mapping
 from dataclasses import dataclass
 from functools import cached_property
+from itertools import chain
 from typing import Any, NamedTuple
 
 import numpy as np
 
 from . import engine, library
-from .arrays import freeze, lend, to_array, to_bytes
+from .arrays import freeze, lend, make_frozen, to_array, to_bytes
 from .engine import BaseRecord, Law, LongestQueues, Record, Refused, Road, Run, Start, State
 from .errors import StudyError
 from .refusals import Refusal
 
 MOST_STEPS = 17_280  # of a study: 24 hours in steps of 5 s
 
+Lent = tuple[int, int]  # a list's address and count, as the C boundary takes it
+
 
 class Stretch(NamedTuple):
-    """Rows that one record holds: the first step, the number of steps, and the record.
+    """Rows that one record holds: the first step, the number of steps, and the record's bytes.
 
     The record's own start is checked and then ignored.
     """
 
     begin: int
     steps: int
-    data: bytes
+    data: np.ndarray
 
     @property
     def anew(self) -> bool:
@@ -43,6 +46,10 @@ class Stretch(NamedTuple):
         """Return the table of lanes for these steps only."""
         at = n * (1 + self.begin)
         return table and table[:n] + table[at : at + n * self.steps]
+
+    def lend(self, table: int, n: int) -> Lent:
+        """Return the part of a table of outflows or counts that has these steps."""
+        return table + 4 * (n + 1) * self.begin, (n + 1) * self.steps
 
 
 @dataclass(frozen=True, eq=False, repr=False)
@@ -131,10 +138,13 @@ class LongRecord(BaseRecord):
             As by judging, with the step counted from the study's start.
         """
         w, zs = _Whole(self, lanes), to_array(outflow)
+        if zs.size != w.outflow.size:
+            raise Refused(Refusal.SCHEDULE_LENGTH, 0, 0, "history_on")
         held, queue = (np.empty(w.outflow.shape, np.uint32) for _ in range(2))
-        for s, own, rows in w.stretches():
-            lists = (*lend(zs[rows]), *lend(held[rows]), *lend(queue[rows]))
-            e = library.history_on(s.data, len(s.data), own, len(own), w.state, *lists)
+        tables = [lend(x)[0] for x in (zs, held, queue)]
+        for s, own, _ in w.stretches():
+            lists = chain.from_iterable(s.lend(x, w.n) for x in tables)
+            e = library.history_on(*lend(s.data), own, len(own), w.state, *lists)
             w.take(s, e, "history_on")
         return held, queue
 
@@ -154,7 +164,7 @@ class _FilledRecord(LongRecord):
         out = np.empty((self.steps, 1 + 2 * n), np.uint32)
         for s in self.stretches:
             lent = lend(out[s.begin : s.begin + s.steps])
-            library.rows(s.data, len(s.data), n, s.steps, *lent)
+            library.rows(*lend(s.data), n, s.steps, *lent)
         return freeze(out)
 
 
@@ -180,7 +190,7 @@ def _written(road: Road, rows: np.ndarray) -> Iterator[Stretch]:
             if a.number:
                 place = a.place + k if a.number == Refusal.RATES else a.place
                 raise Refused(a.number, 0, place, "write")
-            yield Stretch(k, len(some), target[: a.count].tobytes())
+            yield Stretch(k, len(some), np.frombuffer(target[: a.count].tobytes(), np.uint8))
 
 
 def make_record(road: Road, start: Start, rows: Any) -> Record | LongRecord:
@@ -212,66 +222,75 @@ def add_up(record: BaseRecord, ends: list[State]) -> tuple[State, int, int, int]
 
     The last state has the steps and times of all parts, and the cumulative outflows of the last.
     """
-    road, last = record.road, ends[-1]
+    road, last = record.road, _last_state(record, ends)
+    total, exits = (sum(engine.total(x) for x in ends), sum(engine.exits(road, x) for x in ends))
+    return last, total, engine.present(road, last), exits
+
+
+def _last_state(record: BaseRecord, ends: list[State]) -> State:
+    """Return the last state of a study from its parts' last states."""
+    last = ends[-1]
     if len(ends) > 1:
         last = last.copy()
         last.done = record.steps
         for name in ("gate_time", "road_time", "ramp_time"):
             setattr(last, name, sum(getattr(x, name) for x in ends))
-    total, exits = (sum(engine.total(x) for x in ends), sum(engine.exits(road, x) for x in ends))
-    return last, total, engine.present(road, last), exits
+    return last
 
 
 class _Whole:
-    """The results of all stretches: outflows, the parts' last states and the longest queues."""
+    """The results of all stretches: outflows, the parts' ends and the longest queues."""
 
     def __init__(self, record: LongRecord, lanes: bytes) -> None:
-        n, lanes = record.road.n, to_bytes(lanes)
-        if lanes and len(lanes) != n * (record.steps + 1):
+        n, steps, lanes = record.road.n, record.steps, to_bytes(lanes)
+        if lanes and len(lanes) != n * (steps + 1):
             raise Refused(Refusal.LANES_LENGTH, 0, 0, "run_on")
-        self.record, self.n, self.lanes, self.ends = record, n, lanes, [record.start]
-        self.outflow = np.empty((record.steps, n + 1), np.uint32)
-        self.gate = self.waiting = 0
-        self.ramps = np.zeros(engine.CELLS, np.uint32)
+        self.record, self.n, self.lanes = record, n, lanes
+        self.state, self.ends = record.start, [library.Ended()]  # to go on from; of each part
+        self.outflow = make_frozen(steps, n + 1)
+        self.longest: list[library.Longest] = []  # of each stretch
         for s in record.stretches if lanes else ():  # lanes are refused before a step is
             own = s.lanes(lanes, n)
-            e = library.judge(s.data, len(s.data), own, len(own), None, 0)
+            e = library.judge(*lend(s.data), own, len(own), None, 0)
             if e.number != Refusal.SCHEDULE_LENGTH:
                 raise Refused(e.number, e.step, e.place, "judge")
 
-    @property
-    def state(self) -> State:
-        """The state to go on from."""
-        return self.ends[-1]
-
-    def stretches(self) -> Iterator[tuple[Stretch, bytes, slice]]:
-        """Yield each stretch with its lanes and its rows.
+    def stretches(self) -> Iterator[tuple[Stretch, bytes, Lent]]:
+        """Yield each stretch with its lanes and its outflows.
 
         A part starts from what the one before left.
         """
+        outflow = lend(self.outflow)[0]
         for s in self.record.stretches:
             if s.anew:
-                self.ends.append(start_anew(self.state))
-            yield s, s.lanes(self.lanes, self.n), slice(s.begin, s.begin + s.steps)
+                self.state = start_anew(self.state)
+                self.ends.append(library.Ended())
+            yield s, s.lanes(self.lanes, self.n), s.lend(outflow, self.n)
 
     def take(self, s: Stretch, e: library.Ended, operation: str) -> None:
         """Store a stretch's end, or raise Refused with the step counted from the study's start."""
         if e.number:
             step = e.step + s.begin if e.number in engine.BROKEN_RULES else e.step
             raise Refused(e.number, step, e.place, operation)
-        self.ends[-1] = e.state
+        self.ends[-1], self.state = e, e.state
 
     def take_longest(self, s: Stretch, a: library.Longest, operation: str) -> None:
         """Store a stretch's end and longest queues."""
         self.take(s, a.ended, operation)
-        self.gate, self.waiting = max(self.gate, a.gate), max(self.waiting, a.waiting)
-        np.maximum(self.ramps, np.frombuffer(a.ramps, np.uint32), out=self.ramps)
+        self.longest.append(a)
+
+    def whole(self) -> tuple[State, int, int, int]:
+        """Return the last state, total, present and exits of the study; see `add_up`."""
+        ends = self.ends
+        last = _last_state(self.record, [e.state for e in ends])
+        return last, sum(e.total for e in ends), ends[-1].present, sum(e.exits for e in ends)
 
     def run(self, record: LongRecord, weighted: int | None = None) -> Run:
         """Return the run of the whole."""
-        longest = LongestQueues(self.gate, self.waiting, tuple(self.ramps[: self.n].tolist()))
-        whole = add_up(record, self.ends)
-        return Run(record, self.lanes, self.outflow, *whole, weighted, longest=longest)
+        found = np.frombuffer(b"".join(self.longest), np.uint32).reshape(len(self.longest), -1)
+        gate, waiting, *ramps = found[:, : 2 + self.n].max(axis=0).tolist()
+        longest = LongestQueues(gate, waiting, tuple(ramps))
+        return Run(record, self.lanes, self.outflow, *self.whole(), weighted, longest=longest)
 
 
 def run_long(record: LongRecord, lanes: bytes = b"", weights: tuple[Any, Any] | None = None) -> Run:
@@ -299,9 +318,8 @@ def run_long(record: LongRecord, lanes: bytes = b"", weights: tuple[Any, Any] | 
     w = _Whole(record, lanes)
     given = engine.make_weights(w.n, *weights) if weights else engine.Weights()
     weighted = 0
-    for s, own, rows in w.stretches():
-        out = lend(w.outflow[rows])
-        a = library.run_on(s.data, len(s.data), own, len(own), given, w.state, *out)
+    for s, own, out in w.stretches():
+        a = library.run_on(*lend(s.data), own, len(own), given, w.state, *out)
         w.take_longest(s, a.longest, "run_on")
         weighted += a.weighted
     return w.run(record, weighted if weights else None)
@@ -342,16 +360,17 @@ def fill_long(
     kinds, numbers = engine.encode_laws(laws)
     engine.check_laws(record, laws)
     w, given = _Whole(record, lanes), (kinds.tobytes(), engine.CELLS, *lend(numbers))
-    past, stretches = library.Progress(), []
-    lent, _ = lend(scratch := np.empty(engine.BYTES, np.uint8))  # which the engine fills
-    for s, own, at in w.stretches():
-        past.state, size = w.state, len(s.data)
-        ctypes.memmove(lent, s.data, size)
-        out = lend(w.outflow[at])
-        a = library.fill_on(lent, size, *given, own, len(own), past, *out)
+    past, stretches, end = library.Progress(), [], 0
+    block = make_frozen(sum(s.data.size for s in record.stretches), dtype=np.uint8)
+    for s, own, out in w.stretches():
+        past.state, data = w.state, block[end : end + s.data.size]
+        at, size = lend(data)
+        ctypes.memmove(at, lend(s.data)[0], size)
+        a = library.fill_on(at, size, *given, own, len(own), past, *out)
         w.take_longest(s, a.longest, "fill_on")
         past.releases, past.entries = a.releases, a.entries
-        stretches.append(s._replace(data=scratch[:size].tobytes()))
+        stretches.append(Stretch(s.begin, s.steps, data))
+        end += size
     filled = _FilledRecord.__new__(_FilledRecord)
     filled.__dict__.update(road=record.road, start=record.start, stretches=stretches)
     return run_long(filled, lanes, weights) if weights else w.run(filled)
@@ -385,7 +404,7 @@ def judge(record: BaseRecord, schedule: Any, lanes: bytes = b"") -> Run:
     w, stopped = _follow(record, schedule, lanes)
     if stopped:
         raise stopped
-    return Run(record, w.lanes, w.outflow, *add_up(record, w.ends))
+    return Run(record, w.lanes, w.outflow, *w.whole())
 
 
 def state_before(record: BaseRecord, schedule: Any, lanes: bytes = b"") -> State:
@@ -406,12 +425,11 @@ def _follow(record: BaseRecord, schedule: Any, lanes: bytes) -> tuple[_Whole, Re
     w, zs = _Whole(record, lanes), to_array(schedule)
     if zs.size != w.outflow.size:
         raise Refused(Refusal.SCHEDULE_LENGTH, 0, 0, "judge_on")
-    w.outflow[:] = zs.reshape(w.outflow.shape)
-    for s, own, rows in w.stretches():
-        lent = lend(w.outflow[rows])
-        e = library.judge_on(s.data, len(s.data), own, len(own), w.state, *lent)
+    w.outflow = freeze(zs.reshape(w.outflow.shape))
+    for s, own, lent in w.stretches():
+        e = library.judge_on(*lend(s.data), own, len(own), w.state, *lent)
         if e.number in engine.BROKEN_RULES:
-            w.ends[-1] = e.state
+            w.state = e.state
             return w, Refused(e.number, e.step + s.begin, e.place, "judge_on")
         w.take(s, e, "judge_on")
     return w, None

@@ -10,7 +10,7 @@ here is made separately, so that its fault has the usual message.
 """
 import math
 import threading
-from collections.abc import Callable, Iterator, Mapping, Sequence
+from collections.abc import Callable, Iterator, Sequence
 from fractions import Fraction
 from functools import partial
 from typing import Any, NamedTuple
@@ -19,7 +19,7 @@ import numpy as np
 
 from . import engine, library
 from .arrays import lend, to_bytes, to_unsigned
-from .engine import Law, Record, Refused
+from .engine import Record, Refused
 from .errors import StudyError
 from .study import Study, load_factor, load_name, seed_name, times_factor
 from .totals import Totals, outflows, totals, totals_and_queues
@@ -268,29 +268,35 @@ class ManyArrivals:
 
 
 class ManyLaws:
-    """The studies of a sweep that differ in the numbers of their laws."""
+    """The studies of a sweep that differ in the numbers of their laws.
 
-    def __init__(self, base: Study, laws: Callable[[int], Mapping[int, Law]]) -> None:
-        self.batch, self.laws = Batch(base), laws
+    The laws are converted once. `set_numbers` sets what differs, for all studies of a call; a
+    number that is out of its limits is nan.
+    """
+
+    def __init__(
+        self, base: Study, set_numbers: Callable[[Sequence[int], np.ndarray], None]
+    ) -> None:
+        self.batch, self.set_numbers = Batch(base), set_numbers
+        kinds, numbers = engine.encode_laws(base.laws)
+        self.kinds, self.numbers = kinds.tobytes(), numbers.ravel()
 
     def entries(self, ks: Sequence[int]) -> tuple[np.ndarray, list[int]]:
         """Return the short entries of studies, and which of them must be made separately."""
-        laws: list[tuple[np.ndarray, np.ndarray] | None] = []
-        for k in ks:
-            try:
-                laws.append(engine.encode_laws(self.laws(k)))
-            except Exception:  # noqa: BLE001 run separately, it gives its message
-                laws.append(None)
-        found = [(0,) * SHORT if x is None else self.entry(*x) for x in laws]
-        return np.array(found, np.uint64), [at for at, x in enumerate(laws) if x is None]
+        laws = np.tile(self.numbers, (len(ks), 1))
+        self.set_numbers(ks, laws)
+        alone, (first, _) = np.isnan(laws).any(axis=1).tolist(), lend(laws)
+        rows = range(first, first + laws.nbytes, laws.strides[0])
+        found = [(0,) * SHORT if out else self.entry(at) for at, out in zip(rows, alone)]
+        return np.array(found, np.uint64), [at for at, out in enumerate(alone) if out]
 
-    def entry(self, kinds: np.ndarray, numbers: np.ndarray) -> tuple[int, ...]:
-        """Return the short entry of the study with these laws of the same ramps.
+    def entry(self, numbers: int) -> tuple[int, ...]:
+        """Return the short entry of the study whose laws have the numbers at this address.
 
         Releases that the study before left in the record have no effect.
         """
-        batch = self.batch
-        given = (kinds.tobytes(), engine.CELLS, *lend(numbers), batch.lanes, len(batch.lanes))
+        batch, count = self.batch, self.numbers.size
+        given = (self.kinds, engine.CELLS, numbers, count, batch.lanes, len(batch.lanes))
         a = library.fill_longest(*lend(batch.record), *given, *outflows())
         e = a.ended
         s = e.state

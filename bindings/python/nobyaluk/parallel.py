@@ -6,7 +6,7 @@ A call of the engine releases Python's lock and the engine keeps no state, so th
 parallel. A run is short, though: if Python also makes the variants, processes are faster. They
 receive studies as the bytes of records, and variants as recipes.
 """
-import time
+import math
 from collections import deque
 from collections.abc import Callable, Iterable, Iterator
 from concurrent.futures import Executor, Future, ThreadPoolExecutor
@@ -20,10 +20,12 @@ from .engine import Refused
 from .errors import StudyError
 from .study import Study, load
 from .totals import Totals, totals, totals_and_queues
-from .workers import Batches, Lost, Run, Workers, processors
+from .workers import Batches, Lost, Run, Workers, processors, timed
 
 PATROL = 5  # seconds between two checks of a cluster while waiting for its answer
-PAYS = 0.25  # processes are started if more than these seconds of work are left
+START = 0.025  # seconds for starting and ending a process; two took 20 to 50 ms
+COLD = 0.1  # seconds by which a first call may take longer than the next ones
+TIMED = 0.005  # seconds of calls after which the time of the studies left is estimated
 
 
 Recipe = Callable[[], Study]  # as functools.partial(study.scaled, 1.05)
@@ -182,22 +184,46 @@ def spread(
     return spread_run(studies, count, partial(run_group, each), lost_totals, workers)
 
 
+class Estimate:
+    """The time of studies, by calls that were timed; of a first call only what exceeds COLD."""
+
+    def __init__(self) -> None:
+        self.calls, self.studies, self.seconds = 0, 0, 0.0
+
+    def took(self, count: int, seconds: float) -> None:
+        """Note that a call took so many seconds for so many studies."""
+        self.calls += 1
+        if self.calls == 1:
+            seconds -= COLD
+        if seconds > 0:
+            self.studies, self.seconds = self.studies + count, self.seconds + seconds
+
+    def pays(self, left: int, processes: int) -> bool:
+        """Return whether so many processes end the studies left sooner, with starting them."""
+        if self.seconds < TIMED:
+            return False
+        each, most = self.seconds / self.studies, math.ceil(left / processes)
+        return (left - most) * each > START * processes
+
+
 def spread_run(
     items: Iterable[Any], count: int, run: Run, lost: Lost, workers: int | None = None
 ) -> Iterator[list[Any]]:
     """Return what `run` gives for so many items, in groups and in order.
 
-    This process runs them; it starts other processes if enough work is left. There are at most as
-    many as processors and items. `lost` gives the answer for an item whose processes die.
+    This process runs them; it starts other processes if the time of its own calls says that this
+    pays. There are at most as many as processors and items. `lost` gives the answer for an item
+    whose processes die.
     """
     most, batches, done = min(workers or processors(), processors(), count), Batches(items), 0
+    estimate = Estimate()
     while group := batches.next():
-        began = time.perf_counter()
-        out = run(group)
-        batches.took(len(out), time.perf_counter() - began)
+        seconds, out = timed(partial(run, group))
+        batches.took(len(out), seconds)
+        estimate.took(len(out), seconds)
         done += len(out)
         yield out
-        if most > 1 and (count - done) * batches.each > PAYS:
+        if most > 1 and estimate.pays(count - done, most):
             with Workers(most, run, lost) as pool:
                 yield from pool.map(batches)
             return

@@ -6,6 +6,8 @@ from fractions import Fraction
 from functools import partial
 from typing import Any
 
+import numpy as np
+
 from . import __version__, engine, many
 from .many import ManyArrivals, ManyLaws
 from .spans import Span
@@ -141,10 +143,20 @@ class VariantSweep(Sweep):
 
     def together(self) -> ManyLaws | None:
         """Return what fills the record by many laws, if only their numbers differ."""
-        base = self.variants.base
-        if not (self.variants.only_laws and base.laws and many.fits(base)):
+        variants, base = self.variants, self.variants.base
+        if not (variants.only_laws and base.laws and many.fits(base) and variants.law_numbers):
             return None
-        return ManyLaws(base, lambda k: self.variants.laws(self.values(k)))
+        return ManyLaws(base, self.set_numbers)
+
+    def set_numbers(self, ks: Sequence[int], laws: np.ndarray) -> None:
+        """Set the numbers of laws that differ, a row for each study; nan for one out of limits."""
+        left, at = np.array(ks), list[np.ndarray]()
+        for axis in reversed(self.axes):  # as `positions`
+            left, own = np.divmod(left, len(axis))
+            at.insert(0, own)
+        for x in self.variants.law_numbers:
+            numbers = self.axes[x.key].times(at[x.key], x.factor, x.low)
+            laws[:, x.places] = numbers[:, np.newaxis]
 
 
 def _raise_fault(e: Exception) -> Study:

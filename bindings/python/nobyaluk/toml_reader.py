@@ -212,6 +212,19 @@ class MeterTable(NamedTuple):
     cells: list[int]
 
 
+class LawKey(NamedTuple):
+    """The key that gives a number of a law: its value times the factor is in the engine's unit.
+
+    If it counts by length, that is divided by the length of the ramp's cell. The value is at least
+    `low`.
+    """
+
+    key: str
+    factor: Fraction = Fraction(1)
+    by_length: bool = False
+    low: int = 0
+
+
 class StudyReader:
     """Turns a study's TOML into the fields of a Study.
 
@@ -714,9 +727,31 @@ class StudyReader:
         return laws
 
     def laws_of(self, meter: MeterTable, road: engine.Road) -> dict[int, tuple]:
-        """Return the laws of a meter's ramps, by cell."""
-        of = self.law(meter.table, meter.law, road)
-        return {cell: of(cell) for cell in meter.cells}
+        """Return the laws of a meter's ramps by cell, in parts and parts a step.
+
+        The table's numbers are read once for all its ramps. The road gives those that it lacks.
+        """
+        table, keys = self.law_keys(meter)
+        exact = {name: table.number(x.key, low=x.low) * x.factor for name, x in keys.items()}
+        given = {name: float(x) for name, x in exact.items() if not keys[name].by_length}
+
+        def number(name: str, cell: int) -> float:
+            if name in given:
+                return given[name]
+            if name in exact:
+                return float(exact[name] / self.length(meter, cell))
+            return float(_by_road(name, road, cell - 1))
+
+        kind = "fixed" if meter.law == "open" else meter.law
+        names = engine.TAKES[kind]
+        return {cell: (kind, *(number(x, cell) for x in names)) for cell in meter.cells}
+
+    def length(self, meter: MeterTable, cell: int) -> Fraction:
+        """Return the length of a ramp's cell, which a gain in km/h needs."""
+        length = self.lengths[cell - 1]
+        if length is None:
+            raise meter.table.fault("gain_kmh", f"needs the `length` of cell {cell}")
+        return length
 
     def meters(self, tabled: list[str], planned: bool) -> Iterator[MeterTable]:
         """Yield the tables of [meter], each with its law and the cells of its ramps.
@@ -762,53 +797,26 @@ class StudyReader:
             ramps = left if name == "all" else [name]
             yield MeterTable(name, m, law, [self.ramps[ramp] for ramp in ramps])
 
-    def law(self, m: TomlTable, law: str, road: engine.Road) -> Callable[[int], tuple]:
-        """Return a function from a ramp's cell to its law, in parts and parts a step.
-
-        The table's numbers are read once for all its ramps.
-        """
+    def law_keys(self, meter: MeterTable) -> tuple[TomlTable, dict[str, LawKey]]:
+        """Return the table with a law's numbers, and the key of each number that it has."""
+        m, law = meter.table, meter.law
         if "parts" in m:
-            return _always(_own_numbers(m, law))
-        if law == "open":
-            return _always(("fixed", float(engine.RATE)))
+            return _own_numbers(m, law)
+        rate, count = self.step_seconds / 3600 * 1000, Fraction(1000)
+        keys: dict[str, LawKey] = {}
         if law == "alinea":
-            return self.alinea(m, road)
-        rate = self.step_seconds / 3600 * 1000
-        if law == "fixed":
-            return _always(("fixed", float(m.number("rate") * rate)))
-        capacity = float(m.number("capacity") * rate) if "capacity" in m else None
-        critical = float(m.number("critical") * 1000) if "critical" in m else None
-        least = float(m.number("least") * rate)
-        return lambda cell: (
-            "demand-capacity",
-            float(road.capacity[cell - 1]) if capacity is None else capacity,
-            float(_critical(road, cell - 1)) if critical is None else critical,
-            least,
-        )
-
-    def alinea(self, m: TomlTable, road: engine.Road) -> Callable[[int], tuple]:
-        """Return a function from a ramp's cell to its ALINEA: gain and target."""
-        if ("gain_kmh" in m) == ("gain" in m):
-            raise m.fault("gain", "(a step) or `gain_kmh` (km/h) is needed, one of the two")
-        gain = float(m.number("gain")) if "gain" in m else None
-        km = m.number("gain_kmh") * self.step_seconds / 3600 if gain is None else Fraction(0)
-        target = (
-            None
-            if m.values.get("target", "critical") == "critical"
-            else float(m.number("target") * 1000)
-        )
-
-        def of(cell: int) -> tuple:
-            length = self.lengths[cell - 1]
-            if gain is None and length is None:
-                raise m.fault("gain_kmh", f"needs the `length` of cell {cell}")
-            return (
-                "alinea",
-                float(km / (length or 1)) if gain is None else gain,
-                float(_critical(road, cell - 1)) if target is None else target,
-            )
-
-        return of
+            if ("gain_kmh" in m) == ("gain" in m):
+                raise m.fault("gain", "(a step) or `gain_kmh` (km/h) is needed, one of the two")
+            speed = LawKey("gain_kmh", self.step_seconds / 3600, by_length=True)
+            keys["gain"] = LawKey("gain") if "gain" in m else speed
+            if m.values.get("target", "critical") != "critical":
+                keys["target"] = LawKey("target", count)
+        elif law == "fixed":
+            keys["rate"] = LawKey("rate", rate)
+        elif law == "demand-capacity":
+            given = {"capacity": rate, "critical": count, "least": rate}
+            keys = {x: LawKey(x, by) for x, by in given.items() if x in m or x == "least"}
+        return m, keys
 
     def works(self, road: engine.Road) -> bytes:
         """Return the table of lanes: lanes built, then lanes open in each step."""
@@ -896,9 +904,11 @@ def _name(c: TomlTable, key: str, given: Any) -> str:
     return name
 
 
-def _always(law: tuple) -> Callable[[int], tuple]:
-    """Return a function that gives this law at every cell."""
-    return lambda cell: law
+def _by_road(name: str, road: engine.Road, i: int) -> int:
+    """Return a law's number that no key gives, at a ramp of the cell at i; open takes any rate."""
+    if name == "rate":
+        return engine.RATE
+    return road.capacity[i] if name == "capacity" else _critical(road, i)
 
 
 def _critical(road: engine.Road, i: int) -> int:
@@ -907,11 +917,14 @@ def _critical(road: engine.Road, i: int) -> int:
     return (2 * engine.WHOLE * road.capacity[i] + speed) // (2 * speed) if speed else 0
 
 
-def _own_numbers(m: TomlTable, law: str) -> tuple:
-    """Return a law in the engine's own numbers: parts a step, parts, and a gain a step."""
+def _own_numbers(m: TomlTable, law: str) -> tuple[TomlTable, dict[str, LawKey]]:
+    """Return the table of a law's numbers in the engine's own units, and their keys.
+
+    The units are parts a step, parts, and for a gain a step.
+    """
     for key in m.values.keys() - {"law", "parts"}:
         raise m.fault(key, "is also in `parts`, in the engine's own numbers; keep one")
     if law == "open":
         raise m.fault("parts", "belongs to another law; open takes nothing else")
     raw = TomlTable(m.values["parts"], f"{m.where} parts", engine.TAKES[law])
-    return law, *(float(raw.number(key, low=-(10**30))) for key in engine.TAKES[law])
+    return raw, {key: LawKey(key, low=-(10**30)) for key in engine.TAKES[law]}

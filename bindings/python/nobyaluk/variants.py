@@ -1,13 +1,15 @@
 """Variants of a study's file: other numbers at some of its keys.
 
-The file and its tables are read once. For each variant only what depends on its keys is computed
-again.
+The file and its tables are read once. If only numbers of laws differ, these are converted for all
+variants at once: `Variants.law_numbers` says which number a key sets, and by which factor. Other
+keys make a study for each variant, in which only what depends on them is computed again.
 """
 import copy
 from collections.abc import Sequence
 from fractions import Fraction
+from functools import cached_property
 from pathlib import Path
-from typing import Any
+from typing import Any, NamedTuple
 
 import numpy as np
 
@@ -42,6 +44,18 @@ class _Again(StudyReader):
 
     def releases(self, road: engine.Road, rows: np.ndarray) -> tuple[np.ndarray | None, list[str]]:
         return self.first.plan, self.first.tabled
+
+
+class LawNumbers(NamedTuple):
+    """Numbers of laws that one key sets: its value times the factor, if it is at least `low`.
+
+    `key` counts from 0; `places` are those of the numbers in the engine's list of all laws.
+    """
+
+    key: int
+    factor: Fraction
+    low: int
+    places: list[int]
 
 
 class Variants:
@@ -124,11 +138,31 @@ class Variants:
 
     def laws(self, values: Sequence[Fraction]) -> dict[int, tuple]:
         """Return the laws with these numbers at the keys, if nothing else differs."""
-        top, laws = self._source(values).values["meter"], self.base.laws.copy()
-        for meter in self.meters:
-            table = TomlTable(top[meter.name], meter.table.where)
-            laws.update(self.reader.laws_of(meter._replace(table=table), self.road))
+        laws = self.base.laws.copy()
+        for meter in self._meters(values):
+            laws.update(self.reader.laws_of(meter, self.road))
         return laws
+
+    @cached_property
+    def law_numbers(self) -> list[LawNumbers]:
+        """The numbers of laws that the keys set, if nothing else differs."""
+        found: dict[tuple[int, Fraction, int], list[int]] = {}
+        for i, (_, name, *_, last) in enumerate(self.ways):
+            meter = next(x for x in self._meters([Fraction(0)] * len(self.ways)) if x.name == name)
+            keys = self.reader.law_keys(meter)[1].items()
+            ((number, key),) = [(number, key) for number, key in keys if key.key == last]
+            at = engine.TAKES[meter.law].index(number)
+            for cell in meter.cells:
+                length = self.reader.length(meter, cell) if key.by_length else Fraction(1)
+                places = found.setdefault((i, key.factor / length, key.low), [])
+                places.append(3 * (cell - 1) + at)
+        return [LawNumbers(*key, places) for key, places in found.items()]
+
+    def _meters(self, values: Sequence[Fraction]) -> list[MeterTable]:
+        """Return the tables of these laws with these numbers at the keys."""
+        top = self._source(values).values["meter"]
+        tables = [TomlTable(top[x.name], x.table.where) for x in self.meters]
+        return [x._replace(table=table) for x, table in zip(self.meters, tables)]
 
     def _source(self, values: Sequence[Fraction]) -> StudySource:
         """Return the tables with these numbers at the keys."""

@@ -57,6 +57,34 @@ def test_laws_are_fillings(examples, rocade, works, law, monkeypatch):
             same(engine.run(one.record, lanes), long_record.run_long(many.record, lanes))
 
 
+@pytest.mark.parametrize("fits", [50, 377])
+def test_a_filled_record_is_another(examples, rocade, fits, monkeypatch):
+    """Filling leaves the record unchanged, and nobody can change the answer: its outflows, its rows or the bytes in its stretches."""
+    monkeypatch.setattr(long_record, "most_steps", lambda road: fits)
+    laws = text.laws_of((examples / "rocade-sud-alinea.laws.txt").read_text())
+    record = far(rocade)
+    before = [s.data.tobytes() for s in record.stretches]
+    one, two = (long_record.fill_long(record, laws) for _ in range(2))
+    assert [s.data.tobytes() for s in record.stretches] == before and (record.rows == rocade.rows).all()
+    other = long_record.fill_long(record, {cell: ("fixed", 0.0) for cell in laws})
+    same(one, two)
+    same(one, engine.fill(rocade, laws))
+    assert other.record.rows[:, 2::2].max() == 0 and one.record != other.record
+    for a in (one.outflow, one.record.rows, one.record.stretches[-1].data, record.stretches[0].data, engine.run(rocade).outflow, engine.fill(rocade, laws).outflow):
+        with pytest.raises(ValueError, match="read-only"):
+            a[0] = 0
+        with pytest.raises(ValueError, match="WRITEABLE"):
+            a.setflags(write=True)
+
+
+@pytest.mark.usefixtures("short")
+def test_a_history_needs_all_outflows(rocade):
+    record = far(rocade)
+    outflow = long_record.run_long(record).outflow
+    for zs in (outflow[1:], outflow[:-50], outflow[:, 1:], np.vstack([outflow, outflow])):
+        assert refusal(record.history, zs, b"") == "refused 12 0 0"
+
+
 @pytest.mark.usefixtures("short")
 def test_what_enters_is_fillings():
     """Demand-capacity goes by what entered from upstream: from the gate, and from places that let 750 and 900 thousandths on."""

@@ -1,6 +1,7 @@
 """Many studies at once: threads, processes, a cluster of two workers, and sweeps as CSV."""
 import csv
 import io
+import time
 from concurrent.futures import Future, ProcessPoolExecutor, ThreadPoolExecutor
 from fractions import Fraction
 from functools import partial
@@ -197,6 +198,56 @@ def test_the_last_seeds(examples, capsys):
     assert [r["seed"] for r in rows_of(capsys.readouterr().out)] == ["4294967294", "4294967295"]
 
 
+def burn(seconds):
+    """Compute for so many seconds of this thread."""
+    end = time.thread_time() + seconds
+    while time.thread_time() < end:
+        pass
+
+
+@pytest.fixture
+def started(monkeypatch):
+    """How many processes each pool starts, on a machine of two processors."""
+    asked = []
+
+    class Counted(workers.Workers):
+        def __init__(self, count, *how):
+            asked.append(count)
+            super().__init__(count, *how)
+
+    monkeypatch.setattr(parallel, "Workers", Counted)
+    monkeypatch.setattr(parallel, "processors", lambda: 2)
+    return asked
+
+
+def test_a_short_sweep_starts_no_process(examples, started, capsys):
+    """A sweep of some milliseconds is over before a process has started; one of a second is not."""
+    path = str(examples / "studies/rocade-sud-alinea.toml")
+    for words, processes in (("0.9:1.1:0.01", []), ("0.9:1:0.001", []), ("0.9:1.1:0.00004", [2])):
+        assert main(["sweep", path, "--load", words]) == 0 and started == processes
+        assert len(rows_of(capsys.readouterr().out)) == round((float(words.split(":")[1]) - 0.9) / float(words.split(":")[2])) + 1
+    started.clear()
+    for words, processes in (("0.01:0.2:0.01", []), ("0.00004:0.2:0.00004", [2])):
+        assert main(["sweep", path, "--vary", f"meter.all.gain={words}"]) == 0 and started == processes
+    started.clear()
+    assert main(["sweep", path, "--load", "0.9:1.1:0.0001", "--workers", "1"]) == 0 and started == []
+
+
+@pytest.mark.parametrize("first, next_, count, processes", [(0.08, 0.00001, 400, []), (0.08, 0.002, 400, [2]), (0.3, 0.3, 2, []), (0.3, 0.3, 4, [2]), (0.00001, 0.00001, 400, [])])
+def test_the_first_call_does_not_decide(started, first, next_, count, processes):
+    """A first study that is slow says nothing of the next ones, unless it takes longer than any start."""
+    done = []
+
+    def run(items):
+        for _ in items:
+            burn(next_ if done else first)
+            done.append(1)
+        return items
+
+    assert [x for some in parallel.spread_run(range(count), count, run, None) for x in some] == list(range(count))
+    assert started == processes
+
+
 def test_workers_are_bounded(examples, capsys, monkeypatch):
     """There are at most as many workers as processors and studies; a number below 1 is a wrong call."""
     asked = []
@@ -207,7 +258,7 @@ def test_workers_are_bounded(examples, capsys, monkeypatch):
             super().__init__(min(count, 2), *how)
 
     monkeypatch.setattr(parallel, "Workers", Counted)
-    monkeypatch.setattr(parallel, "PAYS", 0)
+    monkeypatch.setattr(parallel.Estimate, "pays", lambda *_: True)
     monkeypatch.setattr(parallel, "processors", lambda: 8)
     study = load(examples / "studies/five-cells.toml")
     for given, studies in ((100_000, 40), (None, 40), (3, 40), (100_000, 3), (1, 40)):

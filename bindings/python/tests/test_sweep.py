@@ -25,7 +25,7 @@ SLOW = """
 import os, signal, sys, time
 from nobyaluk import cli, cluster, parallel
 from nobyaluk.cli import sweep_commands
-parallel.PAYS = 0
+parallel.Estimate.pays = lambda *_: True
 signal.signal(signal.SIGINT, signal.default_int_handler)  # a shell's background job ignores SIGINT, and the sweep would too
 def slow(study):
     time.sleep(0.01)

@@ -1,11 +1,16 @@
 """A sweep's rows from few calls are those of each study run separately, to the byte."""
+import csv
+import io
 import pickle
+import re
 from dataclasses import replace
 from decimal import Decimal
 from fractions import Fraction
+from itertools import permutations, product
 
+import numpy as np
 import pytest
-from nobyaluk import engine, library, load, many, parallel
+from nobyaluk import StudyError, engine, hours, library, load, many, parallel
 from nobyaluk.cli.arguments import parse_span
 from nobyaluk.spans import Span
 from nobyaluk.sweep import SweepRows
@@ -66,6 +71,91 @@ def test_a_grid_of_laws(examples):
     what = VariantSweep(Variants(path, keys), keys, [parse_span("10:30:10", "--vary"), parse_span("-10:40:10", "--vary")])
     found = compare(what, load(path))
     assert [x.split(",")[:2] for x in found] == [[str(a), str(b)] for a in (10, 20, 30) for b in range(-10, 50, 10)]
+
+
+ROAD = """
+step = {step}
+start = "07:00"
+steps = 20
+gate = {{capacity = 4400}}
+defaults = {{length = 0.5, speed = 60, wave = 18, jam = 250, capacity = 4400}}
+cell = [{{length = 0.7312345, ramp = "A"}}, {{split = 0.8}}, {{length = 0.3417, ramp = "B"}}, {{ramp = "C"}}, {{capacity = 3800}}]
+arrivals = {{time = ["07:00"], gate = [3000], A = [300], B = [100], C = [200]}}
+[meter.{ramp}]
+{law}
+"""
+OTHERS = '[meter.all]\nlaw = "fixed"\nrate = 400\n'  # of ramps without a table of their own
+LAWS = {
+    'law = "fixed"\nrate = 400': ["rate"],
+    'law = "alinea"\ngain = 0.07\ntarget = "critical"': ["gain", "target"],
+    'law = "alinea"\ngain_kmh = 7\ntarget = 33.3': ["gain_kmh", "target"],
+    'law = "demand-capacity"\ncapacity = 4000\ncritical = 30\nleast = 200': ["capacity", "critical", "least"],
+    'law = "demand-capacity"\nleast = 200': ["least"],
+    'law = "fixed"\nparts = {rate = 5}': ["parts.rate"],
+    'law = "alinea"\nparts = {gain = 0.1, target = 20000}': ["parts.gain", "parts.target"],
+    'law = "demand-capacity"\nparts = {capacity = 1.5, critical = 3, least = -4}': ["parts.capacity", "parts.critical", "parts.least"],
+}
+SPANS = ["-0.02:0.3:0.01", "0:7:0.333333", "33.3:33.4:0.000977", "123456789.123456789:123456799.123456789:0.98765432101234567891",
+         "9007199254740990:9007199254740999:1", "5:5:1e60", "-1e-28:9e-28:7e-29", "1e-40:9e-40:1e-40", "-3e30:3e30:1e29", "1e99:1e99:1"]
+
+
+def numbers_of(what):
+    """The numbers of each variant's laws, from all variants at once; None for a variant that is made separately."""
+    ks, (_, numbers) = range(len(what)), engine.encode_laws(what.variants.base.laws)
+    found = np.tile(numbers.ravel(), (len(ks), 1))
+    what.set_numbers(ks, found)
+    return [None if np.isnan(x).any() else x.tobytes() for x in found]
+
+
+def laws_or_none(make):
+    """The same of one study; None if it can't be made."""
+    try:
+        return engine.encode_laws(make().laws)[1].tobytes()
+    except StudyError:
+        return None
+
+
+@pytest.mark.parametrize("ramp", ["all", "B"])
+@pytest.mark.parametrize("law", LAWS)
+def test_numbers_of_laws_are_those_of_a_file(tmp_path, ramp, law):
+    """To the last bit, for each law, key and unit. All variants are converted at once, a file with that number by itself."""
+    path, one = tmp_path / "road.toml", tmp_path / "one.toml"
+    path.write_text((ROAD if ramp == "all" else ROAD.replace("[meter", OTHERS + "[meter")).format(step=17, ramp=ramp, law=law))
+    keys = [f"meter.{ramp}.{key}" for key in LAWS[law]]
+    for key, words in product(keys, SPANS):
+        what = VariantSweep(Variants(path, [key]), [key], [parse_span(words, "--vary")])
+        found = numbers_of(what)
+        assert found == [laws_or_none(what.study(k)) for k in range(len(what))]
+        if max(abs(what.axes[0][k]) for k in (0, -1)) < 10**30 and 0 not in what.axes[0].tops and abs(what.axes[0][0]) > Fraction(1, 10**30):
+            own = key.split(".")[-1]
+            files = [re.sub(rf"(?<=\b{own} = )[^,}}\n]+(?!.*\b{own} = )", what.axes[0].text(k), path.read_text(), flags=re.S) for k in range(len(what))]
+            assert found == [laws_or_none(lambda: one.write_text(x) and load(one)) for x in files], key
+    for one_key, other in permutations(keys, 2):
+        axes = [parse_span("-0.3:2:0.37", "--vary"), parse_span("0.1:4:0.77", "--vary")]
+        what = VariantSweep(Variants(path, [one_key, other]), [one_key, other], axes)
+        found = numbers_of(what)
+        assert found == [laws_or_none(what.study(k)) for k in range(len(what))] and len(set(found)) >= len(axes[1])
+
+
+def test_a_value_out_of_its_limits_has_its_own_message(tmp_path, told):
+    """In its own row; the others have numbers. It is the message of the file with that number."""
+    path = tmp_path / "road.toml"
+    path.write_text(ROAD.replace("[meter", OTHERS + "[meter").format(step=17, ramp="B", law='law = "alinea"\ngain_kmh = 7\ntarget = 33.3'))
+    status, out, err = told("sweep", path, "--vary", "meter.B.gain_kmh=-2:2:1", "--vary", "meter.B.target=-1:1:1")
+    rows = list(csv.DictReader(io.StringIO(out)))
+    assert status == 0 and len(rows) == 15 and "9 of 15 failed" in err
+    for r in rows:
+        gain, target = int(r["meter.B.gain_kmh"]), int(r["meter.B.target"])
+        wrong = f"`gain_kmh` is {gain}" if gain < 0 else f"`target` is {target}" if target < 0 else ""
+        assert r["refused"] == (f"{path}: [meter.B]: {wrong}; it is at least 0" if wrong else "") and (r["total_vehicle_hours"] == "") == bool(wrong)
+        path_of_one = tmp_path / "one.toml"
+        path_of_one.write_text(path.read_text().replace("gain_kmh = 7", f"gain_kmh = {gain}").replace("target = 33.3", f"target = {target}"))
+        if wrong:
+            with pytest.raises(StudyError) as caught:
+                load(path_of_one)
+            assert str(caught.value).replace("one.toml", "road.toml") == r["refused"]
+        else:
+            assert r["total_vehicle_hours"] == f"{hours(load(path_of_one).run(), 17).total:.4f}"
 
 
 def test_what_is_run_one_by_one(examples):
