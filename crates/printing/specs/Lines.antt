@@ -14,7 +14,7 @@ use Rattle.numbers.specs.TablesLaws.{row-ends, mul-more}
 use Rattle.model.specs.Refusals.{FaultAnswer}
 use Rattle.model.specs.declared.Road.{Road}
 use Rattle.model.specs.declared.State.{State}
-use Rattle.model.specs.Road.{mostSteps, mostSeconds, mostLong, totalOf, zeros}
+use Rattle.model.specs.Road.{mostSteps, mostSeconds, mostLong, totalOf}
 use Rattle.model.specs.Schedules.{Study, places, tableSize, outflowsOf, engineAfter, outflowsAt}
 use Rattle.model.specs.Words.{vehicleSeconds, vehicleSecondsOf}
 use Rattle.model.specs.Record.{secondVersion, recordRow}
@@ -23,9 +23,9 @@ use Rattle.model.specs.Move.{nextOf, exitsOf}
 use Rattle.model.specs.Stepping.{releasesOf}
 use Rattle.theory.specs.RunsLaws.{StudyOk}
 use Rattle.outflows.specs.declared.Ledger.{Ledger}
-use Rattle.outflows.specs.Columns.{roadOf, ledgerOf}
+use Rattle.outflows.specs.Columns.{ledgerOf}
 use Rattle.passes.specs.declared.columns.Size.{Size}
-use Rattle.passes.specs.Tables.{Table, roadIn, stateIn, cellCol}
+use Rattle.passes.specs.Tables.{Table, roadIn, stateIn, cellCol, RoadTables}
 use Rattle.passes.specs.Supplies.{NoRamp}
 use Rattle.passes.specs.RampList.{Listed}
 use Rattle.passes.specs.Step.{Arrays, StepGives}
@@ -108,40 +108,21 @@ last-length r u =
     go true = seconds-length (vehicleSeconds (totalOf u) (r .seconds))
     go false = omega arith
 
--- the tables before the first step, made of a road and a state; the list of the cells with a ramp is stored next
-pub record FirstTables (r : Road) (s : State) (z : Size) (rates sizes state : Table) (l : Ledger) : Type 0 where
-  pub cells : z .n ≡ r .n
-  pub gate : z .«gate_capacity» ≡ r .«gate_capacity»
-  pub speeds : rates ≡ r .speed ∷ r .wave ∷ r .share ∷ []
-  pub counts : sizes ≡ r .jam ∷ r .capacity ∷ zeros ∷ []
-  pub columns : state ≡ startTable r s
-  pub ledger : l ≡ ledgerOf s
+-- the tables before the first step, of a road and a state
+module _ {r : Road} (s : State) {z : Size} {rates sizes state : Table} {cell : List ℕ} (h : RoadTables r z rates sizes cell)
+    (columns : state ≡ startTable r s) (bytes : List ℕ) (steps : ℕ) where
+  -- their study is that of the road and the state
+  pub study-is : {l : Ledger} → l ≡ ledgerOf s → studyBy bytes [] (roadIn r z rates sizes) (stateIn l state) steps ≡ studyBy bytes [] r s steps
+  study-is {l} e =
+      ap (λ (q : Road). studyBy bytes [] q (stateIn l state) steps) (h .road)
+      ∙ ap (λ (t : Table). studyBy bytes [] r (stateIn l t) steps) columns
+      ∙ ap (λ (m : Ledger). studyBy bytes [] r (stateIn m (startTable r s)) steps) e
 
-module _ {r : Road} {s : State} {z : Size} {rates sizes state : Table} {l : Ledger} (h : FirstTables r s z rates sizes state l) (cell : List ℕ) where
-  abbrev Q : Road
-  Q = roadIn r z rates (set sizes 2 cell)
-
-  -- their road is the road itself
-  pub road-is : Q ≡ r
-  road-is =
-      ap (λ (t : Table). roadIn r z t (set sizes 2 cell)) (h .speeds)
-      ∙ ap (λ (t : Table). roadIn r z (r .speed ∷ r .wave ∷ r .share ∷ []) (set t 2 cell)) (h .counts)
-      ∙ ap (λ (n : ℕ). roadOf r n (z .«gate_capacity») (r .speed) (r .wave) (r .share) (r .jam) (r .capacity)) (h .cells)
-      ∙ ap (λ (g : ℕ). roadOf r (r .n) g (r .speed) (r .wave) (r .share) (r .jam) (r .capacity)) (h .gate)
-
-  -- and so is their study
-  pub study-is : (bytes : List ℕ) (steps : ℕ) → studyBy bytes [] Q (stateIn l state) steps ≡ studyBy bytes [] r s steps
-  study-is bytes steps =
-      ap (λ (q : Road). studyBy bytes [] q (stateIn l state) steps) road-is
-      ∙ ap (λ (t : Table). studyBy bytes [] r (stateIn l t) steps) (h .columns)
-      ∙ ap (λ (m : Ledger). studyBy bytes [] r (stateIn m (startTable r s)) steps) (h .ledger)
-
-  pub arrays-first : (bytes : List ℕ) (steps : ℕ) → StudyOk (studyBy bytes [] r s steps) → {ramps : ℕ} → Listed (NoRamp (r .ramp)) (r .n) ramps cell
-      → Arrays Q ramps (cellCol (set sizes 2 cell)) state emptyTable
-  arrays-first bytes steps ok {ramps} listed =
-      let cells : cellCol (set sizes 2 cell) ≡ cell = ap (λ (t : Table). cellCol (set t 2 cell)) (h .counts) in
-      subst (λ (q : Road). Arrays q ramps (cellCol (set sizes 2 cell)) state emptyTable) (sym road-is)
-      (subst (λ (c : List ℕ). Arrays r ramps c state emptyTable) (sym cells) (arrays-start ok listed (h .columns)))
+  pub arrays-first : {ramps : ℕ} → StudyOk (studyBy bytes [] r s steps) → Listed (NoRamp (r .ramp)) (r .n) ramps cell
+      → Arrays (roadIn r z rates sizes) ramps (cellCol sizes) state emptyTable
+  arrays-first {ramps} ok listed =
+      subst (λ (q : Road). Arrays q ramps (cellCol sizes) state emptyTable) (sym (h .road))
+      (subst (λ (c : List ℕ). Arrays r ramps c state emptyTable) (sym (h .cells)) (arrays-start s ok listed columns))
 
 -- a step was tested: with a fault the buffer is unchanged; without one the step is made and its lines are put
 pub record PutStep (bytes : List ℕ) (k : ℕ) (q : Road) (u : State) (ramps : ℕ) (cell before : List ℕ) (at : ℕ) (f : FaultAnswer)

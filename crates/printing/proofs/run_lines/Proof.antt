@@ -6,17 +6,18 @@ use Prim.Native.Nat.{ℕ, _+_, _-_}
 use lib.ListN.{length, set, take, replicate}
 use lib.Seq.{length-take-le}
 use Rattle.model.specs.declared.Road.{Road}
+use Rattle.model.specs.Road.{zeros}
 use Rattle.model.specs.Refusals.{refusalNumber}
 use Rattle.model.specs.Schedules.{Study}
 use Rattle.model.specs.Record.{recordRow}
 use Rattle.theory.specs.OpenRoad.{same-road}
 use Rattle.model.specs.Reading.{studyBy}
-use Rattle.passes.specs.Tables.{Table, roadIn, stateIn, cellCol}
+use Rattle.passes.specs.Tables.{Table, roadIn, stateIn, cellCol, RoadTables, road-tables}
 use Rattle.passes.specs.Step.{Arrays, StepAsks}
 use Rattle.running.specs.Steps.{RanTurn, passes-ask, ends-fault}
 use Rattle.listing.specs.ListingLaws.{header-room}
 use Rattle.model.specs.Listing.{printedRun, Printed}
-use Rattle.printing.specs.Lines.{Printable, FirstTables, road-is, study-is, arrays-first, LinesInBuffer, lined-same, lined-none, lined-more}
+use Rattle.printing.specs.Lines.{Printable, study-is, arrays-first, LinesInBuffer, lined-same, lined-none, lined-more}
 use Rattle.printing.specs.Lines.{lines-fit, line-fits, lines-end, holds-fault, holds-run}
 use Rattle.printing.proofs.run_lines.Statement.{statement}
 use Rattle.printing.proofs.run_lines.Tie as tie
@@ -70,22 +71,13 @@ Of c = let a = A c .args in studyBy (a .bytes .now) [] (On c) (stateIn (c .of .r
 
 tables : (c : tie.After-of Inv-loop μ-loop) →
     let l = Listing c in
-    FirstTables (A c .args .r) (A c .args .s) (l .list-ramps .result) (l .before .before .before .rates .result) (l .before .before .sizes .result)
-    (c .before .of-state .result) (c .of .result)
+    RoadTables (A c .args .r) (l .list-ramps .result) (l .before .before .before .rates .result) (Sizes c) (l .list-ramps .last .1 .0)
 tables c =
     let l = Listing c in
-    let z = l .list-ramps .ensures .0 in
-    record {
-      cells = z .0;
-      gate = z .1;
-      speeds = l .before .before .before .rates .ensures;
-      counts = l .before .before .sizes .ensures;
-      columns = c .before .of-state .ensures;
-      ledger = c .of .ensures;
-    }
+    road-tables (A c .args .r) _ zeros (l .before .before .before .rates .ensures) (l .before .before .sizes .ensures) (l .list-ramps .ensures .0)
 
 begins : (c : tie.After-of Inv-loop μ-loop) → let a = A c .args in Of c ≡ studyBy (a .bytes .now) [] (a .r) (a .s) (a .steps)
-begins c = let a = A c .args in study-is (tables c) _ (a .bytes .now) (a .steps)
+begins c = let a = A c .args in study-is (a .s) (tables c) (c .before .of-state .ensures) (a .bytes .now) (a .steps) (c .of .ensures)
 
 printable : (c : tie.After-of Inv-loop μ-loop) → let a = A c .args in Printable (a .bytes .now) (Of c) (a .buffer .now)
 printable c = let a = A c .args in subst (λ (b : Study). Printable (a .bytes .now) b (a .buffer .now)) (sym (begins c)) (A c .pre)
@@ -147,7 +139,10 @@ loop-holds c =
     let o = h .before .before in
     let p = printable o in
     let z = header-room (A o .args .buffer .now) 0 _ _ (h .header .ensures) in
-    (lined-none (omega (arith, z .end)) (omega (arith, z .same, p .enough)), arrays-first (tables o) _ _ _ (A o .pre .readable .ok) (Listing o .list-ramps .ensures .1 .0))
+    let a = A o .args in (
+      lined-none (omega (arith, z .end)) (omega (arith, z .same, p .enough)),
+      arrays-first (a .s) (tables o) (o .before .of-state .ensures) (a .bytes .now) (a .steps) (A o .pre .readable .ok) (Listing o .list-ramps .ensures .1 .0),
+    )
 
 array-borrow-prefix-row : tie.Need-array-borrow-prefix-row Inv-loop μ-loop
 array-borrow-prefix-row c = omega (arith, printable (Opened (c .before)) .readable .ok .road .cells)
@@ -213,7 +208,7 @@ last-lines-requires c κs =
     let l = to-loop c in
     let o = Opened l in
     let h = printable o .readable in
-    lines-end (l .loop .inv .0) (h .ok) (h .outflows) (h .seconds) (search needs) (sym (road-is (tables o) _)) (c .to-state .ensures)
+    lines-end (l .loop .inv .0) (h .ok) (h .outflows) (h .seconds) (search needs) (sym (tables o .road)) (c .to-state .ensures)
 
 returns-2 : tie.Need-returns-2 Inv-loop μ-loop
 returns-2 c =
@@ -221,7 +216,7 @@ returns-2 c =
     let l = to-loop (x .before) in
     let o = Opened l in
     ends o
-    (holds-run (Header l .header .ensures) (l .loop .inv .0) (printable o .readable .outflows) (search needs) (sym (road-is (tables o) _))
+    (holds-run (Header l .header .ensures) (l .loop .inv .0) (printable o .readable .outflows) (search needs) (sym (tables o .road))
     (x .before .to-state .ensures) (x .last-lines .ensures))
 
 pub run-lines-spec : {M : Type 1} → statement M
