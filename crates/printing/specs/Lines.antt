@@ -22,6 +22,12 @@ use Rattle.model.specs.Limits.{mostTotal}
 use Rattle.model.specs.Move.{nextOf, exitsOf}
 use Rattle.model.specs.Stepping.{releasesOf}
 use Rattle.theory.specs.RunsLaws.{StudyOk}
+use Rattle.outflows.specs.declared.Ledger.{Ledger}
+use Rattle.outflows.specs.Columns.{ledgerOf}
+use Rattle.passes.specs.declared.columns.Size.{Size}
+use Rattle.passes.specs.Tables.{Table, roadIn, stateIn, cellCol, RoadTables}
+use Rattle.passes.specs.Supplies.{NoRamp}
+use Rattle.passes.specs.RampList.{Listed}
 use Rattle.passes.specs.Step.{Arrays, StepGives}
 use Rattle.model.specs.Reading.{ReadAnswer, readingWithin, readingOf, studyBy}
 use Rattle.reading.specs.Caller.{within-accepted}
@@ -29,6 +35,7 @@ use Rattle.model.specs.Listing.{mostOutflows, mostLine, mostLast, mostTime, hea
 use Rattle.model.specs.Listing.{printedRun, printedWithin, mostText, Printed}
 use Rattle.model.specs.Running.{EndAnswer, ended, runEnd}
 use Rattle.theory.specs.Readable.{Readable}
+use Rattle.running.specs.Arrays.{startTable, emptyTable, arrays-start}
 use Rattle.running.specs.Steps.{FaultlessSteps, RanTurn, ran-reached, ran-none, ran-more, row-is, ends-ran, all-ran}
 use Rattle.model.specs.Numbers.{placed}
 use Rattle.numbers.specs.PlacedText.{Puts, placed-none, puts-first, puts-more, Room, room}
@@ -101,32 +108,48 @@ last-length r u =
     go true = seconds-length (vehicleSeconds (totalOf u) (r .seconds))
     go false = omega arith
 
+-- the tables before the first step, of a road and a state
+module _ {r : Road} (s : State) {z : Size} {rates sizes state : Table} {cell : List ℕ} (h : RoadTables r z rates sizes cell)
+    (columns : state ≡ startTable r s) (bytes : List ℕ) (steps : ℕ) where
+  -- their study is that of the road and the state
+  pub study-is : {l : Ledger} → l ≡ ledgerOf s → studyBy bytes [] (roadIn r z rates sizes) (stateIn l state) steps ≡ studyBy bytes [] r s steps
+  study-is {l} e =
+      ap (λ (q : Road). studyBy bytes [] q (stateIn l state) steps) (h .road)
+      ∙ ap (λ (t : Table). studyBy bytes [] r (stateIn l t) steps) columns
+      ∙ ap (λ (m : Ledger). studyBy bytes [] r (stateIn m (startTable r s)) steps) e
+
+  pub arrays-first : {ramps : ℕ} → StudyOk (studyBy bytes [] r s steps) → Listed (NoRamp (r .ramp)) (r .n) ramps cell
+      → Arrays (roadIn r z rates sizes) ramps (cellCol sizes) state emptyTable
+  arrays-first {ramps} ok listed =
+      subst (λ (q : Road). Arrays q ramps (cellCol sizes) state emptyTable) (sym (h .road))
+      (subst (λ (c : List ℕ). Arrays r ramps c state emptyTable) (sym (h .cells)) (arrays-start s ok listed columns))
+
 -- a step was tested: with a fault the buffer is unchanged; without one the step is made and its lines are put
-pub record PutStep (bytes : List ℕ) (k : ℕ) (q : Road) (u : State) (ramps : ℕ) (cell before : List ℕ) (at : ℕ) (f : FaultAnswer) (v : State)
-    (rest room release waiting demand after : List ℕ) (end : ℕ) : Type 0 where
+pub record PutStep (bytes : List ℕ) (k : ℕ) (q : Road) (u : State) (ramps : ℕ) (cell before : List ℕ) (at : ℕ) (f : FaultAnswer)
+    (l : Ledger) (state work : Table) (after : List ℕ) (end : ℕ) : Type 0 where
   pub says : f ≡ releasesOf q u (recordRow bytes (q .n) k)
   pub same : (f .number ≡ 0 → ⊥) → after ≡ before
-  pub state : f .number ≡ 0 → v ≡ nextOf q u (recordRow bytes (q .n) k) (outflowsOf q u (recordRow bytes (q .n) k))
-  pub lines : f .number ≡ 0 → Puts before at (linesOf k (outflowsOf q u (recordRow bytes (q .n) k)) v (q .n)) after end
-  pub arrays : f .number ≡ 0 → Arrays q ramps cell (v .cumulative) rest room release waiting demand
+  pub next : f .number ≡ 0 → stateIn l state ≡ nextOf q u (recordRow bytes (q .n) k) (outflowsOf q u (recordRow bytes (q .n) k))
+  pub lines : f .number ≡ 0 → Puts before at (linesOf k (outflowsOf q u (recordRow bytes (q .n) k)) (stateIn l state) (q .n)) after end
+  pub arrays : f .number ≡ 0 → Arrays q ramps cell state work
 
-module _ {bytes : List ℕ} {k : ℕ} {q : Road} {u : State} {ramps : ℕ} {cell y₀ : List ℕ} {f : FaultAnswer} {v : State} {rest room release waiting demand y : List ℕ}
-    (h : StepGives bytes k q u ramps cell y₀ f v rest room release waiting demand y) where
-  pub put-none : (f .number ≡ 0 → ⊥) → (before : List ℕ) (at : ℕ) → PutStep bytes k q u ramps cell before at f v rest room release waiting demand before at
+module _ {bytes : List ℕ} {k : ℕ} {q : Road} {ramps : ℕ} {cell : List ℕ} {l₀ : Ledger} {state₀ : Table} {y₀ : List ℕ} {f : FaultAnswer} {l : Ledger}
+    {state work : Table} {y : List ℕ} (h : StepGives bytes k q ramps cell l₀ state₀ y₀ f l state work y) where
+  pub put-none : (f .number ≡ 0 → ⊥) → (before : List ℕ) (at : ℕ) → PutStep bytes k q (stateIn l₀ state₀) ramps cell before at f l state work before at
   put-none n before at = record {
     says = h .says;
     same = λ _. refl;
-    state = h .state;
+    next = h .next;
     lines = λ z. absurd (n z);
     arrays = h .arrays;
   }
 
-  pub put-lines : f .number ≡ 0 → {before after : List ℕ} {at end : ℕ} → Puts before at (linesOf k y v (q .n)) after end
-      → PutStep bytes k q u ramps cell before at f v rest room release waiting demand after end
+  pub put-lines : f .number ≡ 0 → {before after : List ℕ} {at end : ℕ} → Puts before at (linesOf k y (stateIn l state) (q .n)) after end
+      → PutStep bytes k q (stateIn l₀ state₀) ramps cell before at f l state work after end
   put-lines z p = record {
     says = h .says;
     same = λ n. absurd (n z);
-    state = h .state;
+    next = h .next;
     lines = λ _. rw (h .outflows z) at p;
     arrays = h .arrays;
   }
@@ -165,13 +188,13 @@ module _ {a : Study} {before : List ℕ} {start : ℕ} where
     line-fits = omega (arith, h .room .same, h .enough)
 
     -- after all steps there is room for the last lines
-    pub lines-end : StudyOk a → tableSize a ≤ mostOutflows → a .road .seconds ≤ mostSeconds → a .steps ≤ k → {v : State} → v ≡ u
-        → Ending (a .road) v buffer end
-    lines-end ok m seconds l ev =
+    pub lines-end : StudyOk a → tableSize a ≤ mostOutflows → a .road .seconds ≤ mostSeconds → a .steps ≤ k → {r : Road} → r ≡ a .road → {v : State} → v ≡ u
+        → Ending r v buffer end
+    lines-end ok m seconds l er ev =
         let e : k ≡ a .steps = all-ran (h .ran) l in
         let f : k * places a ≡ a .steps * places a = rw e in
         let z = ran-reached ok (h .ran) .state in
-        rw ev (record {
+        rw (er, ev) (record {
           enough = omega (arith, h .room .end, h .room .same, h .top, h .enough, f);
           total = omega (arith, z .total, z .done);
           seconds = seconds;
@@ -241,11 +264,11 @@ module _ {a : Study} {before start-buffer : List ℕ} {start : ℕ} {buffer : Li
       }
 
   -- the last lines, if all steps are made
-  pub holds-run : a .steps ≤ k → {v : State} → v ≡ u → {after : List ℕ} {m : ℕ} → Puts buffer end (lastOf (a .road) v) after m
+  pub holds-run : a .steps ≤ k → {r : Road} → r ≡ a .road → {v : State} → v ≡ u → {after : List ℕ} {m : ℕ} → Puts buffer end (lastOf r v) after m
       → Printed before (printedRun a) after m
   unfolding printedRun
-  holds-run l ev {after} {m} put =
-      let q : Puts buffer end (lastOf (a .road) u) after m = rw ev at put in
+  holds-run l er ev {after} {m} put =
+      let q : Puts buffer end (lastOf (a .road) u) after m = rw (er, ev) at put in
       let e : ended 0 0 0 (a .road) u ≡ runEnd a = ends-ran (h .ran) l refl in
       let i : k ≡ a .steps = all-ran (h .ran) l in
       let j : k * places a ≡ a .steps * places a = rw i in

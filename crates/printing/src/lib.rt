@@ -3,16 +3,23 @@ use model::Fault;
 use model::Road;
 use model::State;
 use outflows::Ledger;
+use passes::CELL;
+use passes::HELD;
+use passes::QUEUE;
+use passes::Size;
 ghost use mathlib.Core.List.{[]};
-ghost use Prim.Native.Nat.{_+_, _*_, _≤_};
+ghost use Prim.Native.Nat.{_+_, _*_, _≤_, _<_};
 ghost use lib.ListN.{length};
 ghost use Rattle.model.specs.declared.Road.{Road};
 ghost use Rattle.model.specs.Refusals.{faultAnswer};
-ghost use Rattle.outflows.specs.Columns.{roadOf, stateOf};
+ghost use Rattle.model.specs.declared.State.{State};
+ghost use Rattle.model.specs.Road.{mostCells};
+ghost use Rattle.passes.specs.Tables.{roadIn, stateIn, heldCol, queueCol, cellCol};
 ghost use Rattle.passes.specs.Step.{StepAsks, StepLent};
 ghost use Rattle.model.specs.Reading.{studyBy};
 ghost use Rattle.numbers.specs.PlacedText.{Puts};
-ghost use Rattle.model.specs.Listing.{mostLine, lastOf, printedRun, printedWithin, mostText, Printed};
+ghost use Rattle.model.specs.Listing.{mostLine, linesOf, lastOf, printedRun, printedWithin, mostText, Printed};
+ghost use Rattle.listing.specs.ListingLaws.{showing};
 ghost use Rattle.printing.specs.Lines.{Printable, Ending, PutStep};
 
 // The greatest length of a text: no record that reads needs more bytes.
@@ -30,67 +37,46 @@ struct Put {
     end: usize,
 }
 
+// Puts the lines of a step, of its row of outflows and the table of the state after it.
+fn table_lines(
+    buffer: &mut [u8],
+    at: usize,
+    k: usize,
+    n: usize,
+    y: &[u32],
+    gate_queue: u32,
+    state: &[[u32; 64]; 4],
+) -> usize
+    requires { ⌜ (n ≤ mostCells) × ((n < length (now y)) × (at + mostLine * (n + 1) ≤ length (now buffer))) ⌝ }
+    ensures { λ e. ⌜ ((s : State) → Puts (now (buffer .entry)) at
+        (linesOf k (now (y .entry)) (showing s «gate_queue» (heldCol (now (state .entry))) (queueCol (now (state .entry)))) n) (now (buffer .exit)) e) ⌝ }
+{
+    listing::lines(buffer, at, k, n, y, gate_queue, &state[HELD], &state[QUEUE])
+}
+
 // Makes step `k` on lent columns and puts its lines; `y` has room for its row of outflows. A fault puts nothing.
 fn step_lines<'a>(
     bytes: &[u8],
     k: usize,
-    n: usize,
-    gate_capacity: u32,
-    speed: &'a [u16; 64],
-    wave: &'a [u16; 64],
-    share: &'a [u16; 64],
-    jam: &'a [u32; 64],
-    capacity: &'a [u32; 64],
-    ramps: usize,
-    cell: &[usize; 64],
+    size: Size,
+    rates: &'a [[u16; 64]; 3],
+    sizes: &'a [[u32; 64]; 3],
     l: Ledger,
-    held: &mut [u32; 64],
-    queue: &mut [u32; 64],
-    cumulative: &mut [u32; 64],
-    rest: &mut [u32; 64],
-    room: &mut [u32; 65],
-    release: &mut [u32; 64],
-    waiting: &mut [u32; 64],
-    demand: &mut [u32; 64],
+    state: &mut [[u32; 64]; 4],
+    work: &mut [[u32; 65]; 5],
     y: &mut [u32],
     buffer: &mut [u8],
     at: usize,
 ) -> Put
-    requires { ⌜ (StepLent (now bytes) k n «gate_capacity» (now speed) (now wave) (now share) (now jam) (now capacity) (stateOf l (now held) (now queue) (now cumulative))
-        ramps (now cell) (now rest) (now room) (now release) (now waiting) (now demand) (now y)) × (at + mostLine * (n + 1) ≤ length (now buffer)) ⌝ }
+    requires { ⌜ (StepLent (now bytes) k size (now rates) (now sizes) l (now state) (now work) (now y)) × (at + mostLine * (size .n + 1) ≤ length (now buffer)) ⌝ }
     ensures { λ p. ⌜ ((r : Road)
-        → StepAsks (now (bytes .entry)) k (roadOf r n «gate_capacity» (now (speed .entry)) (now (wave .entry)) (now (share .entry)) (now (jam .entry)) (now (capacity .entry)))
-        (stateOf l (now (held .entry)) (now (queue .entry)) (now (cumulative .entry))) ramps (now (cell .entry))
-        (now (rest .entry)) (now (room .entry)) (now (release .entry)) (now (waiting .entry)) (now (demand .entry)) (now (y .entry))
-        → PutStep (now (bytes .entry)) k
-        (roadOf r n «gate_capacity» (now (speed .entry)) (now (wave .entry)) (now (share .entry)) (now (jam .entry)) (now (capacity .entry)))
-        (stateOf l (now (held .entry)) (now (queue .entry)) (now (cumulative .entry))) ramps (now (cell .entry)) (now (buffer .entry)) at (faultAnswer (p .fault))
-        (stateOf (p .ledger) (now (held .exit)) (now (queue .exit)) (now (cumulative .exit)))
-        (now (rest .exit)) (now (room .exit)) (now (release .exit)) (now (waiting .exit)) (now (demand .exit)) (now (buffer .exit)) (p .end)) ⌝ }
+        → StepAsks (now (bytes .entry)) k (roadIn r size (now (rates .entry)) (now (sizes .entry))) (size .ramps) (cellCol (now (sizes .entry)))
+        l (now (state .entry)) (now (work .entry)) (now (y .entry))
+        → PutStep (now (bytes .entry)) k (roadIn r size (now (rates .entry)) (now (sizes .entry))) (stateIn l (now (state .entry)))
+        (size .ramps) (cellCol (now (sizes .entry))) (now (buffer .entry)) at (faultAnswer (p .fault)) (p .ledger) (now (state .exit)) (now (work .exit))
+        (now (buffer .exit)) (p .end)) ⌝ }
 {
-    let made = passes::step(
-        bytes,
-        k,
-        n,
-        gate_capacity,
-        speed,
-        wave,
-        share,
-        jam,
-        capacity,
-        ramps,
-        cell,
-        l,
-        held,
-        queue,
-        cumulative,
-        rest,
-        room,
-        release,
-        waiting,
-        demand,
-        y,
-    );
+    let made = passes::step(bytes, k, size, rates, sizes, l, state, work, y);
     let fault = made.fault;
     let refusal = fault.refusal;
     let ledger = made.ledger;
@@ -101,7 +87,7 @@ fn step_lines<'a>(
             end: at,
         };
     }
-    let end = listing::lines(buffer, at, k, n, y, ledger.gate_queue, held, queue);
+    let end = table_lines(buffer, at, k, size.n, y, ledger.gate_queue, state);
     Put {
         fault: fault,
         ledger: ledger,
@@ -136,46 +122,28 @@ fn run_lines(bytes: &[u8], r: Road, s: State, steps: usize, buffer: &mut [u8]) -
     requires { ⌜ Printable (now bytes) (studyBy (now bytes) [] r s steps) (now buffer) ⌝ }
     ensures { λ e. ⌜ Printed (now (buffer .entry)) (printedRun (studyBy (now (bytes .entry)) [] r s steps)) (now (buffer .exit)) e ⌝ }
 {
-    let n = r.n;
-    let places = n + 1;
-    let mut cell = [0usize; 64];
-    let ramps = passes::ramp_cells(n, &r.ramp, &mut cell);
-    let mut held = s.held;
-    let mut queue = s.queue;
-    let mut cumulative = s.cumulative;
+    let rates = passes::rates(r);
+    let mut sizes = passes::sizes(r);
+    let size = passes::list_ramps(r, &mut sizes[CELL]);
+    let places = size.n + 1;
+    let mut state = passes::of_state(r, s);
+    let mut work = [[0u32; 65]; 5];
     let mut l = Ledger::of(s);
-    let mut rest = [0u32; 64];
-    passes::remainders(n, &r.share, &cumulative, &mut rest);
-    let mut room = [0u32; 65];
-    let mut release = [0u32; 64];
-    let mut waiting = [0u32; 64];
-    let mut demand = [0u32; 64];
     let mut end = listing::header(buffer, 0);
     let mut k = 0;
     while k < steps {
-        let mut y = [0u32; 65];
+        let mut row = [0u32; 65];
+        let y = &mut row[..places];
         let put = step_lines(
             bytes,
             k,
-            n,
-            r.gate_capacity,
-            &r.speed,
-            &r.wave,
-            &r.share,
-            &r.jam,
-            &r.capacity,
-            ramps,
-            &cell,
+            size,
+            &rates,
+            &sizes,
             l,
-            &mut held,
-            &mut queue,
-            &mut cumulative,
-            &mut rest,
-            &mut room,
-            &mut release,
-            &mut waiting,
-            &mut demand,
-            &mut y[..places],
+            &mut state,
+            &mut work,
+            y,
             buffer,
             end,
         );
@@ -189,7 +157,7 @@ fn run_lines(bytes: &[u8], r: Road, s: State, steps: usize, buffer: &mut [u8]) -
         end = put.end;
         k += 1;
     }
-    last_lines(buffer, end, r, l.state(held, queue, cumulative))
+    last_lines(buffer, end, r, passes::to_state(l, state))
 }
 
 // Puts the text for a record at the start of the buffer and returns its length; the caller takes at most `cells` cells and `most` bytes.

@@ -3,109 +3,100 @@
 use mathlib.Core.Path.{_≡_, refl, sym, ap, subst, _∙_}
 use mathlib.Core.List.{List, []}
 use Prim.Native.Nat.{ℕ, _+_, _-_}
-use lib.ListN.{length}
+use lib.ListN.{length, set, take, replicate}
 use lib.Seq.{length-take-le}
 use Rattle.model.specs.declared.Road.{Road}
-use Rattle.model.specs.declared.State.{State}
+use Rattle.model.specs.Road.{zeros}
 use Rattle.model.specs.Refusals.{refusalNumber}
 use Rattle.model.specs.Schedules.{Study}
 use Rattle.model.specs.Record.{recordRow}
 use Rattle.theory.specs.OpenRoad.{same-road}
-use Rattle.outflows.specs.declared.Ledger.{Ledger}
-use Rattle.outflows.specs.Columns.{stateOf}
 use Rattle.model.specs.Reading.{studyBy}
+use Rattle.passes.specs.Tables.{Table, roadIn, stateIn, cellCol, RoadTables, road-tables}
 use Rattle.passes.specs.Step.{Arrays, StepAsks}
-use Rattle.running.specs.Arrays.{arrays-start}
 use Rattle.running.specs.Steps.{RanTurn, passes-ask, ends-fault}
 use Rattle.listing.specs.ListingLaws.{header-room}
 use Rattle.model.specs.Listing.{printedRun, Printed}
-use Rattle.printing.specs.Lines.{Printable, LinesInBuffer, lined-same, lined-none, lined-more, lines-fit, line-fits, lines-end, holds-fault, holds-run}
+use Rattle.printing.specs.Lines.{Printable, study-is, arrays-first, LinesInBuffer, lined-same, lined-none, lined-more}
+use Rattle.printing.specs.Lines.{lines-fit, line-fits, lines-end, holds-fault, holds-run}
 use Rattle.printing.proofs.run_lines.Statement.{statement}
 use Rattle.printing.proofs.run_lines.Tie as tie
 use borrow.Author.Needs.{needs}
 use native.Mathlib.Omega.{arith}
 
 abbrev Inv-loop : tie.InvT-loop
-Inv-loop bytes steps buffer₀ r _ _ cell ramps held₀ queue₀ sent₀ l₀ _ _ _ _ _ end₀ _
-    buffer held queue sent l rest room release waiting demand end k =
-    LinesInBuffer (studyBy bytes [] r (stateOf l₀ held₀ queue₀ sent₀) steps) buffer₀ end₀ buffer (stateOf l held queue sent) end k
-    × Arrays r ramps cell sent rest room release waiting demand
+Inv-loop bytes r steps buffer₀ rates sizes size _ state₀ _ l₀ end₀ _ buffer state work l end k =
+    let q = roadIn r size rates sizes in
+    LinesInBuffer (studyBy bytes [] q (stateIn l₀ state₀) steps) buffer₀ end₀ buffer (stateIn l state) end k
+    × Arrays q (size .ramps) (cellCol sizes) state work
 
 abbrev μ-loop : tie.MeasureT-loop
-μ-loop bytes steps buffer₀ r _ _ cell ramps held₀ queue₀ sent₀ l₀ _ _ _ _ _ end₀ _
-    buffer held queue sent l rest room release waiting demand end k =
-    steps - k
+μ-loop bytes r steps buffer₀ rates sizes size _ state₀ _ l₀ end₀ _ buffer state work l end k = steps - k
 
--- places of the code: the arguments from the loop, a turn's start from its step, and the step from its test
+-- places of the code: the arguments from the list of ramps, that from the ledger, and the ledger from the loop; a turn's start from its step, and
+-- the step from its test
+abbrev Begun : tie.After-list-ramps Inv-loop μ-loop → tie.Start Inv-loop μ-loop
+Begun c = c .before .before .before .before .before .before
+
+abbrev Listing : tie.After-of Inv-loop μ-loop → tie.After-list-ramps Inv-loop μ-loop
+Listing c = c .before .before .before
+
 abbrev Header : tie.At-loop Inv-loop μ-loop → tie.After-header Inv-loop μ-loop
 Header c = c .before .before .before
 
-abbrev Rested : tie.After-header Inv-loop μ-loop → tie.After-remainders Inv-loop μ-loop
-Rested c = c .before .before
-
-abbrev Opened : tie.After-header Inv-loop μ-loop → tie.After-of Inv-loop μ-loop
-Opened c = Rested c .before .before .before .before .before
-
-abbrev Listing : tie.After-of Inv-loop μ-loop → tie.After-ramp-cells Inv-loop μ-loop
-Listing c = c .before .before .before .before
-
-abbrev Begun : tie.After-ramp-cells Inv-loop μ-loop → tie.Start Inv-loop μ-loop
-Begun c = c .before .before .before .before .before .before
-
-abbrev A : tie.At-loop Inv-loop μ-loop → tie.Start Inv-loop μ-loop
-A c = Begun (Listing (Opened (Header c)))
-
-abbrev Lent : tie.After-demand Inv-loop μ-loop → tie.In-loop Inv-loop μ-loop
-Lent c = let a = c .before .before .before .before .before in let b = a .before .before .before .before .before in b .before .before .before .before .before
+abbrev Opened : tie.At-loop Inv-loop μ-loop → tie.After-of Inv-loop μ-loop
+Opened c = Header c .before .before
 
 abbrev Step : tie.After-step-lines Inv-loop μ-loop → tie.In-loop Inv-loop μ-loop
-Step c = Lent (c .before .before .before)
+Step c = c .before .before .before .before .before .before .before
 
 abbrev Made : tie.After-number Inv-loop μ-loop → tie.After-step-lines Inv-loop μ-loop
 Made c = c .before .before .before .before .before
 
-abbrev to-loop : tie.After-state Inv-loop μ-loop → tie.At-loop Inv-loop μ-loop
+abbrev to-loop : tie.After-to-state Inv-loop μ-loop → tie.At-loop Inv-loop μ-loop
 to-loop c = c .before .before .before
 
--- the road; the study with the ledger that the loop starts with, which is the arguments'; and the state of the columns
-abbrev On : tie.Start Inv-loop μ-loop → Road
-On c = c .args .t2
+-- the arguments; the counts of the road, the tables' road, and the study of the tables, which is the arguments'
+abbrev A : tie.After-of Inv-loop μ-loop → tie.Start Inv-loop μ-loop
+A c = Begun (Listing c)
+
+abbrev Sizes : tie.After-of Inv-loop μ-loop → Table
+Sizes c = let l = Listing c in set (l .before .before .sizes .result) 2 (l .list-ramps .last .1 .0)
+
+abbrev On : tie.After-of Inv-loop μ-loop → Road
+On c = let l = Listing c in roadIn (A c .args .r) (l .list-ramps .result) (l .before .before .before .rates .result) (Sizes c)
 
 abbrev Of : tie.After-of Inv-loop μ-loop → Study
-Of c =
-    let b = Begun (Listing c) in
-    let s = b .args .s in
-    studyBy (b .args .bytes .now) [] (On b) (stateOf (c .of .result) (s .held) (s .queue) (s .cumulative)) (b .args .steps)
+Of c = let a = A c .args in studyBy (a .bytes .now) [] (On c) (stateIn (c .of .result) (c .before .of-state .result)) (a .steps)
 
-begins : (c : tie.After-of Inv-loop μ-loop) →
-    let b = Begun (Listing c) in
-    Of c ≡ studyBy (b .args .bytes .now) [] (On b) (b .args .s) (b .args .steps)
-begins c =
-    let b = Begun (Listing c) in
-    let s = b .args .s in
-    ap (λ (l : Ledger). studyBy (b .args .bytes .now) [] (On b) (stateOf l (s .held) (s .queue) (s .cumulative)) (b .args .steps)) (c .of .ensures)
+tables : (c : tie.After-of Inv-loop μ-loop) →
+    let l = Listing c in
+    RoadTables (A c .args .r) (l .list-ramps .result) (l .before .before .before .rates .result) (Sizes c) (l .list-ramps .last .1 .0)
+tables c =
+    let l = Listing c in
+    road-tables (A c .args .r) _ zeros (l .before .before .before .rates .ensures) (l .before .before .sizes .ensures) (l .list-ramps .ensures .0)
 
-printable : (c : tie.After-of Inv-loop μ-loop) → Printable (Begun (Listing c) .args .bytes .now) (Of c) (Begun (Listing c) .args .buffer .now)
-printable c =
-    let b = Begun (Listing c) in
-    subst (λ (a : Study). Printable (b .args .bytes .now) a (b .args .buffer .now)) (sym (begins c)) (b .pre)
+begins : (c : tie.After-of Inv-loop μ-loop) → let a = A c .args in Of c ≡ studyBy (a .bytes .now) [] (a .r) (a .s) (a .steps)
+begins c = let a = A c .args in study-is (a .s) (tables c) (c .before .of-state .ensures) (a .bytes .now) (a .steps) (c .of .ensures)
+
+printable : (c : tie.After-of Inv-loop μ-loop) → let a = A c .args in Printable (a .bytes .now) (Of c) (a .buffer .now)
+printable c = let a = A c .args in subst (λ (b : Study). Printable (a .bytes .now) b (a .buffer .now)) (sym (begins c)) (A c .pre)
 
 ends : (c : tie.After-of Inv-loop μ-loop) {after : List ℕ} {m : ℕ} →
-    let b = Begun (Listing c) in
-    Printed (b .args .buffer .now) (printedRun (Of c)) after m
-    → Printed (b .args .buffer .now) (printedRun (studyBy (b .args .bytes .now) [] (On b) (b .args .s) (b .args .steps))) after m
-ends c {after} {m} h = subst (λ (a : Study). Printed (Begun (Listing c) .args .buffer .now) (printedRun a) after m) (begins c) h
-
-abbrev Now : tie.At-loop Inv-loop μ-loop → State
-Now c = let p = c .loop in stateOf (p .l) (p .held) (p .queue) (p .cumulative)
+    let a = A c .args in
+    Printed (a .buffer .now) (printedRun (Of c)) after m
+    → Printed (a .buffer .now) (printedRun (studyBy (a .bytes .now) [] (a .r) (a .s) (a .steps))) after m
+ends c {after} {m} h = subst (λ (b : Study). Printed (A c .args .buffer .now) (printedRun b) after m) (begins c) h
 
 -- the facts about a turn
 turn : (c : tie.In-loop Inv-loop μ-loop) →
     let l = c .before in
-    RanTurn (Of (Opened (Header l))) (Now l) (l .loop .k) (On (A l)) (recordRow (A l .args .bytes .now) (On (A l) .n) (l .loop .k))
+    let p = l .loop in
+    let o = Opened l in
+    RanTurn (Of o) (stateIn (p .l) (p .state)) (p .k) (On o) (recordRow (A o .args .bytes .now) (On o .n) (p .k))
 turn c =
     let l = c .before in
-    let o = Opened (Header l) in
+    let o = Opened l in
     record {
       ok = printable o .readable .ok;
       ran = l .loop .inv .0 .ran;
@@ -114,16 +105,16 @@ turn c =
       numbers = refl;
     }
 
--- what the step requires from its row
-asked : (c : tie.In-loop Inv-loop μ-loop) {y : List ℕ} →
+-- what the step requires with a row of zeros
+asked : (c : tie.In-loop Inv-loop μ-loop) →
+    let p = c .before .loop in
+    let o = Opened (c .before) in
+    let z = Listing o .list-ramps .result in
+    StepAsks (A o .args .bytes .now) (p .k) (On o) (z .ramps) (cellCol (Sizes o)) (p .l) (p .state) (p .work) (take (z .n + 1) (replicate 65 0))
+asked c =
     let l = c .before in
-    let p = l .loop in
-    let r = Listing (Opened (Header l)) .ramp-cells in
-    length y ≡ On (A l) .n + 1
-    → StepAsks (A l .args .bytes .now) (p .k) (On (A l)) (Now l) (r .result) (r .last .1 .1 .0) (p .rest) (p .room) (p .release) (p .waiting) (p .demand) y
-asked c e =
-    let l = c .before in
-    passes-ask (turn c) (A l .pre .readable .row (l .loop .k) (c .loop-test .taken)) (l .loop .inv .1) e
+    let h = printable (Opened l) .readable in
+    passes-ask (turn c) (h .row (l .loop .k) (c .loop-test .taken)) (l .loop .inv .1) (length-take-le _ _ (omega (arith, h .ok .road .cells)))
 
 -- the result of the test of its fault
 faulty : (c : tie.Then1 Inv-loop μ-loop) → refusalNumber (Made (c .before) .step-lines .result .fault .refusal) ≡ 0 → ⊥
@@ -132,32 +123,40 @@ faulty c z = c .if1 .taken (c .before .number .ensures ∙ z)
 faultless : (c : tie.Else1 Inv-loop μ-loop) → refusalNumber (Made (c .before) .step-lines .result .fault .refusal) ≡ 0
 faultless c = sym (c .before .number .ensures) ∙ c .if1 .left
 
-ramp-cells-requires : tie.Need-ramp-cells-requires Inv-loop μ-loop
-ramp-cells-requires c κs = let b = c .before .before .before .before .before in (b .pre .readable .ok .road .cells, refl)
+list-ramps-requires : tie.Need-list-ramps-requires Inv-loop μ-loop
+list-ramps-requires c κs = let b = c .before .before .before .before .before in
+    (b .pre .readable .ok .road .cells, ap (λ (t : Table). length (cellCol t)) (c .before .sizes .ensures))
 
-remainders-requires : tie.Need-remainders-requires Inv-loop μ-loop
-remainders-requires c κs = Begun (Listing (c .before .before .before .before)) .pre .readable .ok .road .cells
+add-places : tie.Need-add-places Inv-loop μ-loop
+add-places c = let l = c .before in omega (arith, l .list-ramps .ensures .0 .0, Begun l .pre .readable .ok .road .cells)
+
+of-state-requires : tie.Need-of-state-requires Inv-loop μ-loop
+of-state-requires c κs = Begun (c .before) .pre .readable .ok .road .cells
 
 loop-holds : tie.Need-loop-holds Inv-loop μ-loop
 loop-holds c =
     let h = c .before .before in
-    let o = Opened h in
+    let o = h .before .before in
     let p = printable o in
-    let z = header-room (Begun (Listing o) .args .buffer .now) 0 _ _ (h .header .ensures) in
-    (lined-none (omega (arith, z .end)) (omega (arith, z .same, p .enough)), arrays-start (p .readable .ok) (Listing o .ramp-cells .ensures .0) (Rested h .remainders .ensures))
+    let z = header-room (A o .args .buffer .now) 0 _ _ (h .header .ensures) in
+    let a = A o .args in (
+      lined-none (omega (arith, z .end)) (omega (arith, z .same, p .enough)),
+      arrays-first (a .s) (tables o) (o .before .of-state .ensures) (a .bytes .now) (a .steps) (A o .pre .readable .ok) (Listing o .list-ramps .ensures .1 .0),
+    )
 
-array-borrow-prefix-y : tie.Need-array-borrow-prefix-y Inv-loop μ-loop
-array-borrow-prefix-y c = omega (arith, A (Lent c .before) .pre .readable .ok .road .cells)
+array-borrow-prefix-row : tie.Need-array-borrow-prefix-row Inv-loop μ-loop
+array-borrow-prefix-row c = omega (arith, printable (Opened (c .before)) .readable .ok .road .cells)
 
-slice-aggregate-step-lines : tie.Need-slice-aggregate-step-lines Inv-loop μ-loop
-slice-aggregate-step-lines c = sym (length-take-le _ _ (omega (arith, A (Lent (c .before) .before) .pre .readable .ok .road .cells)))
+slice-aggregate-y : tie.Need-slice-aggregate-y Inv-loop μ-loop
+slice-aggregate-y c = sym (length-take-le _ _ (omega (arith, printable (Opened (c .before .before)) .readable .ok .road .cells)))
 
 step-lines-requires : tie.Need-step-lines-requires Inv-loop μ-loop
 step-lines-requires c κs =
-    let i = Lent (c .before .before) in
+    let i = c .before .before .before .before .before .before in
     let l = i .before in
-    let h = A l .pre .readable in (
-      record { road = On (A l); asks = asked i (length-take-le _ _ (omega (arith, h .ok .road .cells))) },
+    let o = Opened l in
+    let h = printable o .readable in (
+      record { road = A o .args .r; asks = asked i },
       lines-fit (l .loop .inv .0) (h .outflows) (i .loop-test .taken),
     )
 
@@ -166,9 +165,8 @@ refused-requires c κs =
     let d = c .before in
     let m = Made (d .before) in
     let i = Step m in
-    let l = i .before in
-    let put = m .step-lines .ensures (On (A l)) (asked i (length-take-le _ _ (omega (arith, A l .pre .readable .ok .road .cells)))) in
-    line-fits (lined-same (put .same (faulty d)) (l .loop .inv .0))
+    let put = m .step-lines .ensures (A (Opened (i .before)) .args .r) (asked i) in
+    line-fits (lined-same (put .same (faulty d)) (i .before .loop .inv .0))
 
 returns : tie.Need-returns Inv-loop μ-loop
 returns c =
@@ -177,10 +175,11 @@ returns c =
     let m = Made (d .before) in
     let i = Step m in
     let l = i .before in
-    let put = m .step-lines .ensures (On (A l)) (asked i (length-take-le _ _ (omega (arith, A l .pre .readable .ok .road .cells)))) in
+    let o = Opened l in
+    let put = m .step-lines .ensures (A o .args .r) (asked i) in
     let n = faulty d in
-    ends (Opened (Header l))
-    (holds-fault (Header l .header .ensures) (lined-same (put .same n) (l .loop .inv .0)) (A l .pre .readable .outflows) (i .loop-test .taken)
+    ends o
+    (holds-fault (Header l .header .ensures) (lined-same (put .same n) (l .loop .inv .0)) (printable o .readable .outflows) (i .loop-test .taken)
     (ends-fault (turn i) (put .says) n refl) n
     (rw (d .before .number .ensures) at (x .refused .ensures)))
 
@@ -190,7 +189,7 @@ same-length c = returns c .holds .same
 add-k : tie.Need-add-k Inv-loop μ-loop
 add-k c =
     let i = Step (Made (c .before .before)) in
-    omega (arith, i .loop-test .taken, A (i .before) .pre .readable .ok .steps)
+    omega (arith, i .loop-test .taken, A (Opened (i .before)) .pre .readable .ok .steps)
 
 loop-less : tie.Need-loop-less Inv-loop μ-loop
 loop-less c = omega (arith, Step (Made (c .before .before)) .loop-test .taken)
@@ -200,28 +199,30 @@ loop-again c =
     let d = c .before in
     let m = Made (d .before) in
     let i = Step m in
-    let l = i .before in
-    let put = m .step-lines .ensures (On (A l)) (asked i (length-take-le _ _ (omega (arith, A l .pre .readable .ok .road .cells)))) in
+    let put = m .step-lines .ensures (A (Opened (i .before)) .args .r) (asked i) in
     let z = faultless d in
-    (lined-more (l .loop .inv .0) (turn i) (put .says) z (put .state z) refl (put .lines z), put .arrays z)
+    (lined-more (i .before .loop .inv .0) (turn i) (put .says) z (put .next z) refl (put .lines z), put .arrays z)
 
 last-lines-requires : tie.Need-last-lines-requires Inv-loop μ-loop
 last-lines-requires c κs =
     let l = to-loop c in
-    let h = printable (Opened (Header l)) .readable in
-    lines-end (l .loop .inv .0) (h .ok) (h .outflows) (h .seconds) (search needs) (c .state .ensures)
+    let o = Opened l in
+    let h = printable o .readable in
+    lines-end (l .loop .inv .0) (h .ok) (h .outflows) (h .seconds) (search needs) (sym (tables o .road)) (c .to-state .ensures)
 
 returns-2 : tie.Need-returns-2 Inv-loop μ-loop
 returns-2 c =
     let x = c .before .before in
     let l = to-loop (x .before) in
-    ends (Opened (Header l))
-    (holds-run (Header l .header .ensures) (l .loop .inv .0) (A l .pre .readable .outflows) (search needs) (x .before .state .ensures) (x .last-lines .ensures))
+    let o = Opened l in
+    ends o
+    (holds-run (Header l .header .ensures) (l .loop .inv .0) (printable o .readable .outflows) (search needs) (sym (tables o .road))
+    (x .before .to-state .ensures) (x .last-lines .ensures))
 
 pub run-lines-spec : {M : Type 1} → statement M
 run-lines-spec =
     tie.close
     (tie.spec
-    Inv-loop μ-loop (λ c. search needs) ramp-cells-requires (λ c κs. search needs) remainders-requires (λ c κs. search needs) loop-holds array-borrow-prefix-y
-    slice-aggregate-step-lines step-lines-requires (λ c κs. search needs) refused-requires same-length returns add-k loop-less loop-again
-    (λ c κs. search needs) last-lines-requires (λ c. search needs) returns-2)
+    Inv-loop μ-loop (λ c κs. search needs) (λ c κs. search needs) (λ c. search needs) list-ramps-requires add-places of-state-requires (λ c κs. search needs)
+    (λ c κs. search needs) loop-holds array-borrow-prefix-row slice-aggregate-y step-lines-requires (λ c κs. search needs) refused-requires same-length returns
+    add-k loop-less loop-again (λ c κs. search needs) last-lines-requires (λ c. search needs) returns-2)
