@@ -1,18 +1,21 @@
 -- The invariant of the loop over the steps, and its end. Assumes nothing.
-use mathlib.Core.Path.{_≡_, refl, sym, ap, _∙_}
-use mathlib.Core.List.{List, _++_}
+use mathlib.Core.Path.{_≡_, refl, sym, ap, subst, _∙_}
+use mathlib.Core.List.{List, [], _∷_, _++_}
 use Prim.Native.Nat.{ℕ, _+_, _-_, _*_, _≤_, _<_}
 use native.Mathlib.Numerals.{add-one}
 use native.Mathlib.Omega.{arith}
 use lib.Ieee.{Float}
-use lib.ListN.{length, take, drop}
+use lib.ListN.{length, take, drop, set, replicate, length-replicate}
 use Rattle.model.specs.Numbers.{at, fillOf}
 use Rattle.numbers.specs.RowsLaws.{fill-at, length-fill}
 use Rattle.numbers.specs.Zeros.{length-zeros}
 use Rattle.model.specs.Road.{mostCells, zeros}
+use Rattle.outflows.specs.declared.Ledger.{Ledger}
+use Rattle.passes.specs.Tables.{Table, stateIn, LongColumns}
 use Rattle.passes.specs.Rest.{restIn}
 use Rattle.passes.specs.Supplies.{NoRamp}
 use Rattle.passes.specs.RampList.{Listed, AtRamps}
+use Rattle.ramps.specs.Grants.{meterIn, Lasts}
 use Rattle.ramps.specs.LastStep.{cameIn, CameAsks, lasts-known}
 use Rattle.numbers.specs.TablesLaws.{row-ends, mul-more}
 use Rattle.model.specs.declared.Road.{Road}
@@ -31,7 +34,7 @@ use Rattle.theory.specs.TableLaws.{length-table, table-none, table-more}
 use Rattle.theory.specs.Readable.{Readable}
 use Rattle.model.specs.Filling.{meteredFrom, grantedFrom, rowsFrom, filledFrom}
 use Rattle.filling.specs.FillingFrom.{filled-road, filled-run, releases-small, filled-ok, filled-released, filled-reached}
-use Rattle.filling.specs.Turn.{Arrays, ArraysOk, kept-on, FillAsks, FilledRow}
+use Rattle.filling.specs.Turn.{ArraysOk, kept-on, FillAsks, FilledRow}
 
 -- what filling step by step requires: a record that reads, whose rows are the study's, and a list that is long enough
 pub record Fillable (bytes : List ℕ) (a : Study) (list : List ℕ) : Type 0 where
@@ -40,12 +43,12 @@ pub record Fillable (bytes : List ℕ) (a : Study) (list : List ℕ) : Type 0 wh
   pub long : tableSize a ≤ length list
 
 -- k steps are filled: their releases are in the bytes and their outflows in the list, u is the state after them, and the next row goes to `to`
-pub record FilledSteps (laws : List Law) (bytes : List ℕ) (a : Study) (m₀ : MeterState) (list now out : List ℕ) (u : State) (ramps : ℕ) (w : Arrays)
-    (k to : ℕ) : Type 0 where
+pub record FilledSteps (laws : List Law) (bytes : List ℕ) (a : Study) (m₀ : MeterState) (list now out : List ℕ) (l : Ledger) (table : Table) (ramps : ℕ)
+    (cell : List ℕ) (work : Table) (k to : ℕ) : Type 0 where
   pub within : k ≤ a .steps
-  pub table : now ≡ putTable bytes (a .road .n) (grantedFrom laws a m₀) k
-  pub state : u ≡ meteredFrom laws a m₀ k .state
-  pub kept : ArraysOk (a .road .n) (a .road .share) (a .road .ramp) (meteredFrom laws a m₀ k) ramps w
+  pub releases : now ≡ putTable bytes (a .road .n) (grantedFrom laws a m₀) k
+  pub state : stateIn l table ≡ meteredFrom laws a m₀ k .state
+  pub kept : ArraysOk (a .road .n) (a .road .share) (a .road .ramp) (meteredFrom laws a m₀ k) ramps cell table work
   pub place : to ≡ k * places a
   pub written : out ≡ tableOf (filledFrom laws a m₀) list k
 
@@ -67,62 +70,70 @@ came-asks h =
       entered = h .entered;
     }
 
--- the arrays before the first step
-pub record Begun (a : Study) (m : MeterState) (ramps : ℕ) (w : Arrays) : Type 0 where
-  pub listed : Listed (NoRamp (a .road .ramp)) (a .road .n) ramps (w .cell)
-  pub ramped : AtRamps (a .road .ramp) ramps (w .cell)
-  pub rest : w .rest ≡ fillOf (restIn (a .road .share) (m .state .cumulative)) (a .road .n) zeros
-  pub release : w .release ≡ fillOf (λ j. at (m .releases) (at (w .cell) j)) ramps zeros
-  pub came : w .came ≡ fillOf (cameIn (m .state .held) (m .state .cumulative) (m .entries)) (a .road .n) zeros
-  pub room : mostCells ≤ length (w .room)
-  pub waits : w .waits ≡ zeros
-  pub demand : w .demand ≡ zeros
+-- what the passes fill, before the first step: the last releases and what had come into each cell, stored in empty columns
+abbrev emptyColumn : List ℕ
+emptyColumn = replicate 65 0
 
-pub kept-start : {a : Study} {m : MeterState} {ramps : ℕ} {w : Arrays} → a .road .n ≤ mostCells
-    → CameAsks (a .road .n) (m .state .held) (m .state .cumulative) (m .entries) → a .road .n ≤ length (m .releases) → a .road .n ≤ length (m .entries)
-    → Begun a m ramps w → ArraysOk (a .road .n) (a .road .share) (a .road .ramp) m ramps w
-kept-start {a} {m} {ramps} {w} cells asks longR longE b =
-    let n = a .road .n in
-    let long : a .road .n ≤ length zeros = omega (arith, length-zeros) in
-    let f = restIn (a .road .share) (m .state .cumulative) in
-    record {
-      listed = b .listed;
-      ramped = b .ramped;
-      lasts = lasts-known zeros zeros (b .listed) asks (b .release) long (b .came) long;
-      rests = λ i l. ap (λ (x : List ℕ). at x i) (b .rest) ∙ fill-at f n zeros i l long;
+pub work-begun : {m : MeterState} {P : ℕ → Type 0} {n ramps : ℕ} {cell release came : List ℕ} → Listed P n ramps cell
+    → CameAsks n (m .state .held) (m .state .cumulative) (m .entries) → release ≡ fillOf (λ j. at (m .releases) (at cell j)) ramps emptyColumn
+    → came ≡ fillOf (cameIn (m .state .held) (m .state .cumulative) (m .entries)) n emptyColumn →
+    let work : Table = set (set (replicate 5 emptyColumn) 1 release) 4 came in
+    Lasts m ramps cell work × LongColumns n work
+work-begun {m} {n = n} {ramps} {cell} listed asks er ec =
+    let long : n ≤ length emptyColumn = omega (arith, length-replicate {A = ℕ} 65 0, asks .cells) in (
+      lasts-known emptyColumn emptyColumn listed asks er long ec long,
+      record {
+        columns = refl;
+        room = long;
+        release = omega (arith, ap length er, length-fill (λ j. at (m .releases) (at cell j)) ramps emptyColumn, long);
+        waiting = long;
+        demand = long;
+        came = omega (arith, ap length ec, length-fill (cameIn (m .state .held) (m .state .cumulative) (m .entries)) n emptyColumn, long);
+      },
+    )
+
+-- the tables before the first step
+pub kept-start : (r : Road) {m : MeterState} {ramps : ℕ} {cell : List ℕ} {state work : Table} → r .n ≤ mostCells → r .n ≤ length (m .releases)
+    → r .n ≤ length (m .entries) → Listed (NoRamp (r .ramp)) (r .n) ramps cell → AtRamps (r .ramp) ramps cell
+    → state ≡ m .state .held ∷ m .state .queue ∷ m .state .cumulative ∷ fillOf (restIn (r .share) (m .state .cumulative)) (r .n) zeros ∷ []
+    → Lasts m ramps cell work × LongColumns (r .n) work → ArraysOk (r .n) (r .share) (r .ramp) m ramps cell state work
+kept-start r {m} cells longR longE listed ramped e b =
+    let long : r .n ≤ length zeros = omega (arith, length-zeros) in
+    let f = restIn (r .share) (m .state .cumulative) in
+    rw e (record {
+      listed = listed;
+      ramped = ramped;
+      lasts = b .0;
+      columns = refl;
+      rests = record { are = λ i l. fill-at f (r .n) zeros i l long; long = omega (arith, length-fill f (r .n) zeros, long) };
       longReleases = longR;
       longEntries = longE;
-      longRest = omega (arith, ap length (b .rest), length-fill f n zeros, long);
-      longRoom = omega (arith, b .room);
-      longRelease = omega (arith, ap length (b .release), length-fill (λ j. at (m .releases) (at (w .cell) j)) ramps zeros, long);
-      longWaits = omega (arith, ap length (b .waits), long);
-      longCame = omega (arith, ap length (b .came), length-fill (cameIn (m .state .held) (m .state .cumulative) (m .entries)) n zeros, long);
-      longDemand = omega (arith, ap length (b .demand), long);
-    }
+      long = b .1;
+    })
 
 module _ {laws : List Law} {bytes : List ℕ} {a : Study} {m₀ : MeterState} {list : List ℕ} where
-  pub filled-none : {ramps : ℕ} {w : Arrays} → a .start ≡ m₀ .state → ArraysOk (a .road .n) (a .road .share) (a .road .ramp) m₀ ramps w
-      → FilledSteps laws bytes a m₀ list bytes list (a .start) ramps w 0 0
+  pub filled-none : {l : Ledger} {state : Table} {ramps : ℕ} {cell : List ℕ} {work : Table} → stateIn l state ≡ m₀ .state
+      → ArraysOk (a .road .n) (a .road .share) (a .road .ramp) m₀ ramps cell state work → FilledSteps laws bytes a m₀ list bytes list l state ramps cell work 0 0
   unfolding putTable meteredFrom
   filled-none starts kept = record {
     within = omega arith;
-    table = refl;
+    releases = refl;
     state = starts;
     kept = kept;
     place = omega arith;
     written = sym (table-none (filledFrom laws a m₀) list);
   }
 
-  module _ {now out : List ℕ} {u : State} {ramps : ℕ} {w : Arrays} {k to : ℕ} (ok : Fillable bytes a list) (starts : a .start ≡ m₀ .state)
-      (h : FilledSteps laws bytes a m₀ list now out u ramps w k to) where
+  module _ {now out : List ℕ} {u : Ledger} {state : Table} {ramps : ℕ} {cell : List ℕ} {work : Table} {k to : ℕ} (ok : Fillable bytes a list)
+      (starts : a .start ≡ m₀ .state) (h : FilledSteps laws bytes a m₀ list now out u state ramps cell work k to) where
     -- what the wishes of step k are computed from, with the code's state
-    pub goes-by : meterState u (meteredFrom laws a m₀ k .releases) (meteredFrom laws a m₀ k .entries) ≡ meteredFrom laws a m₀ k
+    pub goes-by : meterIn u state (meteredFrom laws a m₀ k .releases) (meteredFrom laws a m₀ k .entries) ≡ meteredFrom laws a m₀ k
     goes-by = ap (λ (s : State). meterState s (meteredFrom laws a m₀ k .releases) (meteredFrom laws a m₀ k .entries)) (h .state)
 
     -- the rows of the filled steps are filled, and the others are unchanged
     put : PutTable bytes now (a .road .n) (grantedFrom laws a m₀) k
     put =
-        rw (h .table)
+        rw (h .releases)
         (put-table bytes (a .road .n) (grantedFrom laws a m₀) k (λ t l. ok .readable .row t (omega (arith, h .within))) (λ t i l j. releases-small laws a m₀ starts t i))
 
     pub same-bytes : length now ≡ length bytes
@@ -138,8 +149,12 @@ module _ {laws : List Law} {bytes : List ℕ} {a : Study} {m₀ : MeterState} {l
     pub row-fits : k < a .steps → to + places a ≤ length out
     row-fits l = omega (arith, row-ends-by (length list) (ok .long) l, same-list)
 
-    -- a turn: q is the road of step k, and its wishes are computed from m
-    module _ {q : Road} {m : MeterState} (l : k < a .steps) (e : q ≡ roadAt a k) (em : m ≡ meteredFrom laws a m₀ k) where
+    -- a turn: q is the road of step k, and its wishes are computed from the last releases and entries
+    module _ {q : Road} {releases entries : List ℕ} (l : k < a .steps) (e : q ≡ roadAt a k)
+        (em : meterState (stateIn u state) releases entries ≡ meteredFrom laws a m₀ k) where
+      abbrev m : MeterState
+      m = meterIn u state releases entries
+
       roads : StepRoad (a .road) q
       roads = rw e (ok .readable .ok .roads k)
 
@@ -148,7 +163,8 @@ module _ {laws : List Law} {bytes : List ℕ} {a : Study} {m₀ : MeterState} {l
       row-now = rw (roads .n, ok .rows k) (put .later k (omega arith))
 
       reached : ReachedState (filledFrom laws a m₀) (m .state) k
-      reached = rw (em, ← filled-run laws a m₀ starts k) (filled-reached laws a m₀ starts (ok .readable .ok) k (h .within))
+      reached = subst (λ (s : State). ReachedState (filledFrom laws a m₀) s k) (filled-run laws a m₀ starts k ∙ sym (h .state))
+          (filled-reached laws a m₀ starts (ok .readable .ok) k (h .within))
 
       this-step : StepOf (filledFrom laws a m₀) q (m .state) (rowsFrom laws a m₀ k) k
       this-step = record {
@@ -163,7 +179,7 @@ module _ {laws : List Law} {bytes : List ℕ} {a : Study} {m₀ : MeterState} {l
       row-is = rw (row-now, em, e)
 
       pub fills : {kinds : List ℕ} {numbers : List Float} {y : List ℕ} → InColumns laws kinds numbers → length y ≡ places a
-          → FillAsks laws now q m k kinds numbers ramps w y
+          → FillAsks laws now q u state releases entries k kinds numbers ramps cell work y
       fills columns p = record {
         held = record {
           cells = omega (arith, roads .n, ok .readable .row k l .cells);
@@ -173,7 +189,7 @@ module _ {laws : List Law} {bytes : List ℕ} {a : Study} {m₀ : MeterState} {l
         step = rw row-is (record {
           input = step-input this-step;
           sized = step-sized this-step;
-          released = rw (e, em) (filled-released laws a m₀ starts (ok .readable .ok) k l);
+          released = rw (e, h .state) (filled-released laws a m₀ starts (ok .readable .ok) k l);
           left = step-left this-step;
         });
         columns = columns;
@@ -191,17 +207,18 @@ module _ {laws : List Law} {bytes : List ℕ} {a : Study} {m₀ : MeterState} {l
       puts =
           ap (λ (row : List ℕ). putReleases now (q .n) k (grantedAt laws q m row) (q .n)) row-now
           ∙ ap (λ (n : ℕ). putReleases now n k (grantedAt laws q m (a .rows k)) n) (roads .n)
-          ∙ rw (h .table, em, e)
+          ∙ rw (h .releases, em, e)
 
       outflows : {part : List ℕ} → part ≡ outflowsOf q (m .state) (filledRow laws q m (recordRow now (q .n) k)) → part ≡ outflowsAt (filledFrom laws a m₀) k
-      outflows ey = ey ∙ rw (row-is, e, em, filled-run laws a m₀ starts k, filled-road laws a m₀ starts k)
+      outflows ey = ey ∙ rw (row-is, e, h .state, filled-run laws a m₀ starts k, filled-road laws a m₀ starts k)
 
-      pub filled-more : {next : List ℕ} {t : State} {v : Arrays} {part : List ℕ} → FilledRow laws now q m k next t ramps v part
-          → FilledSteps laws bytes a m₀ list next (take to out ++ (part ++ drop (to + places a - to) (drop to out))) t ramps v (k + 1) (to + places a)
+      pub filled-more : {next : List ℕ} {t : Ledger} {state₁ work₁ : Table} {part : List ℕ}
+          → FilledRow laws now q u state releases entries k next t state₁ ramps cell work₁ part
+          → FilledSteps laws bytes a m₀ list next (take to out ++ (part ++ drop (to + places a - to) (drop to out))) t state₁ ramps cell work₁ (k + 1) (to + places a)
       unfolding putTable
       filled-more {part = part} f = record {
         within = omega arith;
-        table = rw (add-one k) (f .releases ∙ puts);
+        releases = rw (add-one k) (f .releases ∙ puts);
         state = f .state ∙ ap (λ (x : MeterState). x .state) after;
         kept = kept-on (sym (roads .n)) (sym (roads .share)) (sym (roads .ramp)) (sym after) (f .kept);
         place = omega (arith, h .place, mul-more k (places a));
@@ -214,10 +231,10 @@ module _ {laws : List Law} {bytes : List ℕ} {a : Study} {m₀ : MeterState} {l
       all-filled = omega (arith, h .within)
 
       pub filled-bytes : now ≡ putTable bytes (a .road .n) (grantedFrom laws a m₀) (a .steps)
-      filled-bytes = h .table ∙ ap (putTable bytes (a .road .n) (grantedFrom laws a m₀)) all-filled
+      filled-bytes = h .releases ∙ ap (putTable bytes (a .road .n) (grantedFrom laws a m₀)) all-filled
 
       pub filled-list : out ≡ tableOf (filledFrom laws a m₀) list (a .steps)
       filled-list = h .written ∙ ap (tableOf (filledFrom laws a m₀) list) all-filled
 
-      pub filled-state : {t : State} → t ≡ u → t ≡ meteredFrom laws a m₀ (a .steps) .state
+      pub filled-state : {t : State} → t ≡ stateIn u state → t ≡ meteredFrom laws a m₀ (a .steps) .state
       filled-state e = e ∙ h .state ∙ ap (λ (j : ℕ). meteredFrom laws a m₀ j .state) all-filled

@@ -6,11 +6,10 @@ use native.Mathlib.Nat.{le-refl}
 use native.Mathlib.Numerals.{add-one}
 use native.Mathlib.Omega.{arith}
 use lib.Ieee.{Float}
-use lib.ListN.{length}
+use lib.ListN.{length, set}
 use Rattle.model.specs.Numbers.{at, fillOf}
 use Rattle.numbers.specs.RowsLaws.{fill-at, length-fill}
 use Rattle.model.specs.declared.Road.{Road}
-use Rattle.model.specs.declared.State.{State}
 use Rattle.limits.specs.LimitsLaws.{RowOk}
 use Rattle.model.specs.Record.{numberSize, numberOf, versionOf, rowStart, recordRow}
 use Rattle.fields.specs.FieldsLaws.{HoldsRow, row-at}
@@ -20,88 +19,70 @@ use Rattle.model.specs.Flow.{gateArrivals, enteringAt}
 use Rattle.model.specs.Move.{heldOf, cumulativeOf, movedTo, countedOf}
 use Rattle.model.specs.Schedules.{outflowsOf}
 use Rattle.theory.specs.RulesLaws.{outflows-obey, demand-at-cell}
-use Rattle.outflows.specs.Columns.{roadOf}
+use Rattle.outflows.specs.declared.Ledger.{Ledger}
 use Rattle.stepping.specs.StepNeeds.{Steppable}
-use Rattle.passes.specs.Rest.{restOf}
+use Rattle.passes.specs.declared.columns.Size.{Size}
+use Rattle.passes.specs.Tables.{Table, roadIn, stateIn, cellCol, heldCol, roomCol, demandCol, cameCol, LongColumns}
+use Rattle.passes.specs.Tables.{StoredRooms, store-rooms, StoredDemands, store-demands}
+use Rattle.passes.specs.Rest.{Remainders}
 use Rattle.passes.specs.Supplies.{NoRamp, Supplies, supplyIn, supply-model, demandIn}
 use Rattle.passes.specs.RampList.{Listed, AtRamps}
 use Rattle.passes.specs.Next.{NextAsks, demands-are, Stepped}
-use Rattle.model.specs.Filling.{MeterState, meterState, grantedAt, filledRow, meteredOf}
+use Rattle.model.specs.Filling.{MeterState, grantedAt, filledRow, meteredOf}
 use Rattle.model.specs.Put.{putReleases}
 use Rattle.put.specs.ReleasesLaws.{PutRow, put-releases}
 use Rattle.ramps.specs.RampsLaws.{granted-small, filled-release, last-release, last-entry}
-use Rattle.ramps.specs.Grants.{Lasts, GrantAsks, Granted}
+use Rattle.ramps.specs.Grants.{meterIn, Lasts, GrantAsks, Granted}
 
--- the arrays of the loop over the steps, besides the state's
-pub record Arrays : Type 0 where
-  pub cell : List ℕ
-  pub rest : List ℕ
-  pub room : List ℕ
-  pub release : List ℕ
-  pub waits : List ℕ
-  pub came : List ℕ
-  pub demand : List ℕ
-
-abbrev pub arrays : List ℕ → List ℕ → List ℕ → List ℕ → List ℕ → List ℕ → List ℕ → Arrays
-arrays cell rest room release waits came demand = record {
-  cell = cell;
-  rest = rest;
-  room = room;
-  release = release;
-  waits = waits;
-  came = came;
-  demand = demand;
-}
-
--- what holds for them: the cells with a ramp are listed, with what the last step left there; the remainders are those of b × F; each has an entry per cell
-pub record ArraysOk (n : ℕ) (share ramp : List ℕ) (m : MeterState) (ramps : ℕ) (w : Arrays) : Type 0 where
-  pub listed : Listed (NoRamp ramp) n ramps (w .cell)
-  pub ramped : AtRamps ramp ramps (w .cell)
-  pub lasts : Lasts m ramps (w .cell) (w .release) (w .came)
-  pub rests : (i : ℕ) → i < n → at (w .rest) i ≡ restOf (at share i) (at (m .state .cumulative) i)
+-- what is kept from step to step: the cells with a ramp are listed, with what the last step left there; the remainders are those of b × F; each
+-- column has an entry per cell
+pub record ArraysOk (n : ℕ) (share ramp : List ℕ) (m : MeterState) (ramps : ℕ) (cell : List ℕ) (state work : Table) : Type 0 where
+  pub listed : Listed (NoRamp ramp) n ramps cell
+  pub ramped : AtRamps ramp ramps cell
+  pub lasts : Lasts m ramps cell work
+  pub columns : length state ≡ 4
+  pub rests : Remainders n share state
   pub longReleases : n ≤ length (m .releases)
   pub longEntries : n ≤ length (m .entries)
-  pub longRest : n ≤ length (w .rest)
-  pub longRoom : n ≤ length (w .room)
-  pub longRelease : n ≤ length (w .release)
-  pub longWaits : n ≤ length (w .waits)
-  pub longCame : n ≤ length (w .came)
-  pub longDemand : n ≤ length (w .demand)
+  pub long : LongColumns n work
 
-pub kept-on : {n n′ : ℕ} {share share′ ramp ramp′ : List ℕ} {m m′ : MeterState} {ramps : ℕ} {w : Arrays}
-    → n′ ≡ n → share′ ≡ share → ramp′ ≡ ramp → m′ ≡ m → ArraysOk n share ramp m ramps w → ArraysOk n′ share′ ramp′ m′ ramps w
+pub kept-on : {n n′ : ℕ} {share share′ ramp ramp′ : List ℕ} {m m′ : MeterState} {ramps : ℕ} {cell : List ℕ} {state work : Table}
+    → n′ ≡ n → share′ ≡ share → ramp′ ≡ ramp → m′ ≡ m → ArraysOk n share ramp m ramps cell state work → ArraysOk n′ share′ ramp′ m′ ramps cell state work
 kept-on en es er em h = rw (en, es, er, em) h
 
 -- what filling a step requires: the bytes hold its row, which is within its limits; a step with the filled row may be made; the laws are in
 -- columns; y has room for its outflows
-pub record FillAsks (laws : List Law) (bytes : List ℕ) (q : Road) (m : MeterState) (k : ℕ) (kinds : List ℕ) (numbers : List Float) (ramps : ℕ) (w : Arrays)
-    (y : List ℕ) : Type 0 where
+pub record FillAsks (laws : List Law) (bytes : List ℕ) (q : Road) (l : Ledger) (state : Table) (releases entries : List ℕ) (k : ℕ) (kinds : List ℕ)
+    (numbers : List Float) (ramps : ℕ) (cell : List ℕ) (work : Table) (y : List ℕ) : Type 0 where
   pub held : HoldsRow bytes (q .n) k
   pub row : RowOk q (recordRow bytes (q .n) k)
-  pub step : Steppable q (m .state) (filledRow laws q m (recordRow bytes (q .n) k))
+  pub step : Steppable q (stateIn l state) (filledRow laws q (meterIn l state releases entries) (recordRow bytes (q .n) k))
   pub columns : InColumns laws kinds numbers
-  pub kept : ArraysOk (q .n) (q .share) (q .ramp) m ramps w
+  pub kept : ArraysOk (q .n) (q .share) (q .ramp) (meterIn l state releases entries) ramps cell state work
   pub places : length y ≡ q .n + 1
 
 -- the same for some laws and some road with these columns
-pub record FillLent (bytes : List ℕ) (k n gate : ℕ) (speed wave share jam capacity kinds : List ℕ) (numbers : List Float) (s : State) (ramps : ℕ)
-    (w : Arrays) (y : List ℕ) : Type 0 where
+pub record FillLent (bytes : List ℕ) (k : ℕ) (z : Size) (rates sizes : Table) (kinds : List ℕ) (numbers : List Float) (l : Ledger) (state work : Table)
+    (y : List ℕ) : Type 0 where
   pub laws : List Law
   pub road : Road
   pub releases : List ℕ
   pub entries : List ℕ
-  pub fills : FillAsks laws bytes (roadOf road n gate speed wave share jam capacity) (meterState s releases entries) k kinds numbers ramps w y
+  pub fills : FillAsks laws bytes (roadIn road z rates sizes) l state releases entries k kinds numbers (z .ramps) (cellCol sizes) work y
 
 -- what filling a step gives: the bytes with its releases, the state after it, its outflows, and what is kept
-pub record FilledRow (laws : List Law) (bytes : List ℕ) (q : Road) (m : MeterState) (k : ℕ) (put : List ℕ) (t : State) (ramps : ℕ) (w : Arrays) (y : List ℕ)
-    : Type 0 where
-  pub releases : put ≡ putReleases bytes (q .n) k (grantedAt laws q m (recordRow bytes (q .n) k)) (q .n)
-  pub state : t ≡ meteredOf laws q m (recordRow bytes (q .n) k) .state
-  pub row : y ≡ outflowsOf q (m .state) (filledRow laws q m (recordRow bytes (q .n) k))
-  pub kept : ArraysOk (q .n) (q .share) (q .ramp) (meteredOf laws q m (recordRow bytes (q .n) k)) ramps w
+pub record FilledRow (laws : List Law) (bytes : List ℕ) (q : Road) (l₀ : Ledger) (state₀ : Table) (releases₀ entries₀ : List ℕ) (k : ℕ) (put : List ℕ)
+    (l : Ledger) (table : Table) (ramps : ℕ) (cell : List ℕ) (work : Table) (y : List ℕ) : Type 0 where
+  pub releases : put ≡ putReleases bytes (q .n) k (grantedAt laws q (meterIn l₀ state₀ releases₀ entries₀) (recordRow bytes (q .n) k)) (q .n)
+  pub state : stateIn l table ≡ meteredOf laws q (meterIn l₀ state₀ releases₀ entries₀) (recordRow bytes (q .n) k) .state
+  pub row : y ≡ outflowsOf q (stateIn l₀ state₀) (filledRow laws q (meterIn l₀ state₀ releases₀ entries₀) (recordRow bytes (q .n) k))
+  pub kept : ArraysOk (q .n) (q .share) (q .ramp) (meteredOf laws q (meterIn l₀ state₀ releases₀ entries₀) (recordRow bytes (q .n) k)) ramps cell table work
 
-module _ {laws : List Law} {bytes : List ℕ} {q : Road} {m : MeterState} {k : ℕ} {kinds : List ℕ} {numbers : List Float} {ramps : ℕ} {w : Arrays} {y₀ : List ℕ}
-    (f : FillAsks laws bytes q m k kinds numbers ramps w y₀) where
+module _ {laws : List Law} {bytes : List ℕ} {q : Road} {l₀ : Ledger} {state₀ : Table} {releases₀ entries₀ : List ℕ} {k : ℕ} {kinds : List ℕ} {numbers : List Float}
+    {ramps : ℕ} {cell : List ℕ} {work₀ : Table} {y₀ : List ℕ} (f : FillAsks laws bytes q l₀ state₀ releases₀ entries₀ k kinds numbers ramps cell work₀ y₀) where
+  abbrev m : MeterState
+  m = meterIn l₀ state₀ releases₀ entries₀
+
   abbrev row : List ℕ
   row = recordRow bytes (q .n) k
 
@@ -120,34 +101,40 @@ module _ {laws : List Law} {bytes : List ℕ} {q : Road} {m : MeterState} {k : �
     helds = f .step .input .state .held;
   }
 
-  module _ {room₁ : List ℕ} {start : ℕ} (er : room₁ ≡ fillOf (supplyIn (q .wave) (q .jam) (q .capacity) (m .state .held)) (q .n) (w .room))
+  module _ {room₁ : List ℕ} {start : ℕ} (er : room₁ ≡ fillOf (supplyIn (q .wave) (q .jam) (q .capacity) (heldCol state₀)) (q .n) (roomCol work₀))
       (es : start ≡ rowStart (versionOf bytes) (q .n) k) where
-    same-room : length room₁ ≡ length (w .room)
-    same-room = ap length er ∙ length-fill (supplyIn (q .wave) (q .jam) (q .capacity) (m .state .held)) (q .n) (w .room)
+    abbrev supply : ℕ → ℕ
+    supply = supplyIn (q .wave) (q .jam) (q .capacity) (heldCol state₀)
 
-    pub grants-ask : GrantAsks laws q m bytes k start ramps (w .cell) kinds numbers room₁ (w .release) (w .waits) (w .came)
-    grants-ask = record {
-      step = f .step;
-      row = f .row;
-      held = f .held;
-      starts = es;
-      listed = f .kept .listed;
-      ramped = f .kept .ramped;
-      columns = f .columns;
-      lasts = f .kept .lasts;
-      supplies = λ i l.
-          ap (λ (x : List ℕ). at x i) er
-          ∙ fill-at (supplyIn (q .wave) (q .jam) (q .capacity) (m .state .held)) (q .n) (w .room) i l (f .kept .longRoom)
-          ∙ supply-model q (m .state) i;
-      longRoom = omega (arith, same-room, f .kept .longRoom);
-      longRelease = f .kept .longRelease;
-      longWaits = f .kept .longWaits;
-      longCame = f .kept .longCame;
-    }
+    supplied : StoredRooms work₀ (set work₀ 0 room₁) room₁
+    supplied = store-rooms work₀ (f .kept .long .columns) room₁
+
+    pub grants-ask : GrantAsks laws q (meterIn l₀ state₀ releases₀ entries₀) bytes k start ramps cell kinds numbers (set work₀ 0 room₁)
+    grants-ask =
+        let w = f .kept .long in
+        record {
+          step = f .step;
+          row = f .row;
+          held = f .held;
+          starts = es;
+          listed = f .kept .listed;
+          ramped = f .kept .ramped;
+          columns = f .columns;
+          lasts = record { releases = rw (supplied .releases) (f .kept .lasts .releases); entries = rw (supplied .came) (f .kept .lasts .entries) };
+          supplies = λ i l.
+              ap (λ (x : List ℕ). at x i) (supplied .rooms ∙ er) ∙ fill-at supply (q .n) (roomCol work₀) i l (w .room) ∙ supply-model q (m .state) i;
+          long = record {
+            columns = supplied .columns;
+            room = omega (arith, ap length (supplied .rooms ∙ er), length-fill supply (q .n) (roomCol work₀), w .room);
+            release = omega (arith, ap length (supplied .releases), w .release);
+            waiting = omega (arith, ap length (supplied .waits), w .waiting);
+            demand = omega (arith, ap length (supplied .demands), w .demand);
+            came = omega (arith, ap length (supplied .came), w .came);
+          };
+        }
 
     -- the releases are granted
-    module _ {put room release waits came : List ℕ}
-        (g : Granted laws q m bytes k ramps (w .cell) room₁ (w .release) (w .waits) (w .came) put room release waits came) where
+    module _ {put : List ℕ} {work₁ : Table} (g : Granted laws q (meterIn l₀ state₀ releases₀ entries₀) bytes k ramps cell put work₁) where
       changed : PutRow bytes put (q .n) k (grantedAt laws q m row) (q .n)
       changed =
           rw (g .puts) (put-releases bytes (q .n) k (grantedAt laws q m row) (q .n) (le-refl (q .n)) (f .held) (λ i _. granted-small laws q m row i))
@@ -164,11 +151,11 @@ module _ {laws : List Law} {bytes : List ℕ} {q : Road} {m : MeterState} {k : �
 
       -- all that has come into a cell, with its release and with what enters, is the cell's held count plus F afterwards
       entered : (j : ℕ) → j < ramps →
-          at came (at (w .cell) j) + at (meteredOf laws q m row .entries) (at (w .cell) j)
-          ≡ at (meteredOf laws q m row .state .held) (at (w .cell) j) + at (meteredOf laws q m row .state .cumulative) (at (w .cell) j)
+          at (cameCol work₁) (at cell j) + at (meteredOf laws q m row .entries) (at cell j)
+          ≡ at (meteredOf laws q m row .state .held) (at cell j) + at (meteredOf laws q m row .state .cumulative) (at cell j)
       unfolding meteredOf countedOf movedTo
       entered j l =
-          let i = at (w .cell) j in
+          let i = at cell j in
           let inside = f .kept .listed .within j l in
           let s = f .step .sized in
           let hold = fill-at (heldOf q (m .state) filled y) (q .n) (m .state .held) i inside (s .held) in
@@ -187,44 +174,61 @@ module _ {laws : List Law} {bytes : List ℕ} {q : Road} {m : MeterState} {k : �
           )
 
       -- so with the demands the step is ready
-      module _ {demand : List ℕ} (ed : demand ≡ fillOf (demandIn (q .speed) (q .capacity) (m .state .held)) (q .n) (w .demand)) where
+      module _ {demand : List ℕ} (ed : demand ≡ fillOf (demandIn (q .speed) (q .capacity) (heldCol state₀)) (q .n) (demandCol work₁)) where
+        abbrev work : Table
+        work = set work₁ 3 demand
+
+        demanded : StoredDemands work₁ work demand
+        demanded = store-demands work₁ (g .long .columns) demand
+
         pub step-ready : {arrivals : ℕ} → arrivals ≡ numberOf put start numberSize
-            → NextAsks q (m .state) (filledRow laws q m (recordRow bytes (q .n) k)) ramps arrivals (w .cell) release waits room (w .rest) demand
+            → NextAsks q l₀ state₀ (filledRow laws q (meterIn l₀ state₀ releases₀ entries₀) (recordRow bytes (q .n) k)) ramps arrivals cell (set work₁ 3 demand)
         step-ready e = record {
+          columns = f .kept .columns;
           steppable = f .step;
           listed = f .kept .listed;
-          releases = λ j l. g .releases j l ∙ sym (filled-release laws q m row (f .row .numbers) (at (w .cell) j) (f .kept .listed .within j l));
-          waits = g .waiting;
-          rooms = g .rooms;
+          releases = rw (demanded .releases)
+              (λ j l. g .releases j l ∙ sym (filled-release laws q m row (f .row .numbers) (at cell j) (f .kept .listed .within j l)));
+          waits = rw (demanded .waits) (g .waiting);
+          rooms = rw (demanded .rooms) (g .rooms);
           rests = f .kept .rests;
-          longRest = f .kept .longRest;
-          demands = demands-are q (m .state) (w .demand) (f .kept .longDemand) ed;
+          demands = demands-are q (m .state) (demandCol work₁) (g .long .demand) (demanded .demands ∙ ed);
           gate = e ∙ gate-is;
         }
 
         -- after it the step is filled
-        pub row-filled : {t : State} {y rest : List ℕ} → Stepped q (m .state) (filledRow laws q m (recordRow bytes (q .n) k)) t y rest
-            → FilledRow laws bytes q m k put t ramps (arrays (w .cell) rest room release waits came demand) y
+        pub row-filled : {t : Ledger} {state : Table} {y : List ℕ}
+            → Stepped q (stateIn l₀ state₀) (filledRow laws q (meterIn l₀ state₀ releases₀ entries₀) (recordRow bytes (q .n) k)) t state y
+            → FilledRow laws bytes q l₀ state₀ releases₀ entries₀ k put t state ramps cell (set work₁ 3 demand) y
         unfolding meteredOf
         row-filled st = record {
           releases = g .puts;
-          state = st .state;
+          state = st .next;
           row = st .outflows;
           kept = record {
             listed = f .kept .listed;
             ramped = f .kept .ramped;
             lasts = record {
-              releases = λ j l. g .releases j l ∙ sym (last-release laws q m row (f .kept .longReleases) (at (w .cell) j) (f .kept .listed .within j l));
-              entries = entered;
+              releases = rw (demanded .releases)
+                  (λ j l. g .releases j l ∙ sym (last-release laws q m row (f .kept .longReleases) (at cell j) (f .kept .listed .within j l)));
+              entries = rw (demanded .came) entered;
             };
-            rests = λ i l. st .rests i l ∙ ap (λ (u : State). restOf (at (q .share) i) (at (u .cumulative) i)) (st .state);
-            longReleases = omega (arith, length-fill (grantedAt laws q m row) (q .n) (m .releases), f .kept .longReleases);
-            longEntries = omega (arith, length-fill (enteringAt q (m .state) y) (q .n) (m .entries), f .kept .longEntries);
-            longRest = st .longRest;
-            longRoom = omega (arith, g .sameRoom, same-room, f .kept .longRoom);
-            longRelease = omega (arith, g .sameRelease, f .kept .longRelease);
-            longWaits = omega (arith, g .sameWaits, f .kept .longWaits);
-            longCame = omega (arith, g .sameCame, f .kept .longCame);
-            longDemand = omega (arith, f .kept .longDemand, ap length ed, length-fill (demandIn (q .speed) (q .capacity) (m .state .held)) (q .n) (w .demand));
+            columns = st .columns;
+            rests = st .rests;
+            longReleases = omega (arith, length-fill (grantedAt laws q m row) (q .n) releases₀, f .kept .longReleases);
+            longEntries = omega (arith, length-fill (enteringAt q (m .state) y) (q .n) entries₀, f .kept .longEntries);
+            long = record {
+              columns = demanded .columns;
+              room = omega (arith, ap length (demanded .rooms), g .long .room);
+              release = omega (arith, ap length (demanded .releases), g .long .release);
+              waiting = omega (arith, ap length (demanded .waits), g .long .waiting);
+              demand = omega (
+                arith,
+                ap length (demanded .demands ∙ ed),
+                length-fill (demandIn (q .speed) (q .capacity) (heldCol state₀)) (q .n) (demandCol work₁),
+                g .long .demand,
+              );
+              came = omega (arith, ap length (demanded .came), g .long .came);
+            };
           };
         }

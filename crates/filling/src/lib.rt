@@ -1,7 +1,6 @@
 // Filling: a record's releases, granted to its ramps by their meter laws, step by step.
 mod last_step;
 
-use counts::AtGate;
 use model::Ended;
 use model::FilledOn;
 use model::Law;
@@ -10,13 +9,30 @@ use model::Progress;
 use model::Refusal;
 use model::Road;
 use outflows::Ledger;
+use passes::CAME;
+use passes::CAPACITY;
+use passes::CELL;
+use passes::DEMAND;
+use passes::HELD;
+use passes::JAM;
+use passes::QUEUE;
+use passes::RELEASE;
+use passes::ROOM;
+use passes::SHARE;
+use passes::SPEED;
+use passes::Size;
+use passes::WAVE;
 ghost use mathlib.Core.Path.{_≡_};
 ghost use mathlib.Core.Bool.{true};
 ghost use mathlib.Core.List.{List};
 ghost use Prim.Native.Nat.{ℕ};
 ghost use Rattle.model.specs.declared.Road.{Road};
 ghost use Rattle.model.specs.declared.Law.{Law};
-ghost use Rattle.outflows.specs.Columns.{roadOf, stateOf};
+ghost use Rattle.passes.specs.Tables.{roadIn, cellCol, LongColumns};
+ghost use Rattle.passes.specs.Supplies.{NoRamp};
+ghost use Rattle.passes.specs.RampList.{Listed};
+ghost use Rattle.ramps.specs.Grants.{Lasts};
+ghost use Rattle.ramps.specs.LastStep.{CameAsks};
 ghost use Rattle.model.specs.Reading.{studyBy};
 ghost use Rattle.model.specs.Filling.{meterState};
 ghost use Rattle.model.specs.Put.{putTable};
@@ -33,88 +49,81 @@ ghost use Rattle.model.specs.Flow.{releaseAt};
 ghost use Rattle.model.specs.Record.{recordRow};
 ghost use Rattle.counts.specs.Longest.{noQueues};
 ghost use Rattle.filling.specs.LastStep.{enteredIn, LastAsks};
-ghost use Rattle.filling.specs.Turn.{arrays, FillAsks, FillLent, FilledRow};
+ghost use Rattle.filling.specs.Turn.{FillAsks, FillLent, FilledRow};
 ghost use Rattle.filling.specs.FillingLoop.{FillableFrom};
 ghost use Rattle.filling.specs.LongestFill.{longestFrom};
 
-// One step on lent columns: its releases are granted and put into the bytes, then the step is made with them.
+// One step on lent tables of columns: its releases are granted and put into the bytes, then the step is made with them.
 fn fill_row<'a, 'b>(
     bytes: &mut [u8],
     k: usize,
-    n: usize,
-    gate_capacity: u32,
-    speed: &'a [u16; 64],
-    wave: &'a [u16; 64],
-    share: &'a [u16; 64],
-    jam: &'a [u32; 64],
-    capacity: &'a [u32; 64],
+    size: Size,
+    rates: &'a [[u16; 64]; 3],
+    sizes: &'a [[u32; 64]; 3],
     kinds: &'b [u8; 64],
     numbers: &'b [f64; 192],
     l: Ledger,
-    held: &mut [u32; 64],
-    queue: &mut [u32; 64],
-    cumulative: &mut [u32; 64],
-    ramps: usize,
-    cell: &[usize; 64],
-    rest: &mut [u32; 64],
-    room: &mut [u32; 65],
-    release: &mut [u32; 64],
-    waiting: &mut [u32; 64],
-    came: &mut [u32; 64],
-    demand: &mut [u32; 64],
+    state: &mut [[u32; 64]; 4],
+    work: &mut [[u32; 65]; 5],
     y: &mut [u32],
 ) -> Ledger
-    requires { ⌜ FillLent (now bytes) k n «gate_capacity» (now speed) (now wave) (now share) (now jam) (now capacity) (now kinds) (now numbers)
-        (stateOf l (now held) (now queue) (now cumulative)) ramps
-        (arrays (now cell) (now rest) (now room) (now release) (now waiting) (now came) (now demand)) (now y) ⌝ }
-    ensures { λ t. ⌜ ((laws : List Law) (r : Road) (releases entries : List ℕ) → FillAsks laws (now (bytes .entry))
-        (roadOf r n «gate_capacity» (now (speed .entry)) (now (wave .entry)) (now (share .entry)) (now (jam .entry)) (now (capacity .entry)))
-        (meterState (stateOf l (now (held .entry)) (now (queue .entry)) (now (cumulative .entry))) releases entries) k (now (kinds .entry)) (now (numbers .entry)) ramps
-        (arrays (now (cell .entry)) (now (rest .entry)) (now (room .entry)) (now (release .entry)) (now (waiting .entry)) (now (came .entry)) (now (demand .entry)))
-        (now (y .entry)) → FilledRow laws (now (bytes .entry))
-        (roadOf r n «gate_capacity» (now (speed .entry)) (now (wave .entry)) (now (share .entry)) (now (jam .entry)) (now (capacity .entry)))
-        (meterState (stateOf l (now (held .entry)) (now (queue .entry)) (now (cumulative .entry))) releases entries) k
-        (now (bytes .exit)) (stateOf t (now (held .exit)) (now (queue .exit)) (now (cumulative .exit))) ramps
-        (arrays (now (cell .entry)) (now (rest .exit)) (now (room .exit)) (now (release .exit)) (now (waiting .exit)) (now (came .exit)) (now (demand .exit)))
-        (now (y .exit))) ⌝ }
+    requires { ⌜ FillLent (now bytes) k size (now rates) (now sizes) (now kinds) (now numbers) l (now state) (now work) (now y) ⌝ }
+    ensures { λ t. ⌜ ((laws : List Law) (r : Road) (releases entries : List ℕ)
+        → FillAsks laws (now (bytes .entry)) (roadIn r size (now (rates .entry)) (now (sizes .entry))) l (now (state .entry)) releases entries k
+        (now (kinds .entry)) (now (numbers .entry)) (size .ramps) (cellCol (now (sizes .entry))) (now (work .entry)) (now (y .entry))
+        → FilledRow laws (now (bytes .entry)) (roadIn r size (now (rates .entry)) (now (sizes .entry))) l (now (state .entry)) releases entries k
+        (now (bytes .exit)) t (now (state .exit)) (size .ramps) (cellCol (now (sizes .entry))) (now (work .exit)) (now (y .exit))) ⌝ }
 {
-    passes::supplies(n, wave, jam, capacity, held, room);
+    let n = size.n;
     let start = fields::row_start(fields::version(bytes), n, k);
+    passes::supplies(
+        n,
+        &rates[WAVE],
+        &sizes[JAM],
+        &sizes[CAPACITY],
+        &state[HELD],
+        &mut work[ROOM],
+    );
     ramps::grant(
         bytes,
         start,
-        ramps,
-        cell,
+        size.ramps,
+        &sizes[CELL],
         kinds,
         numbers,
-        held,
-        queue,
-        cumulative,
-        room,
-        release,
-        waiting,
-        came,
+        state,
+        work,
     );
     let arrivals = fields::number(bytes, start, fields::NUMBER_SIZE);
-    passes::demands(n, speed, capacity, held, demand);
-    passes::next(
+    passes::demands(
         n,
-        gate_capacity,
-        share,
-        l,
-        ramps,
+        &rates[SPEED],
+        &sizes[CAPACITY],
+        &state[HELD],
+        &mut work[DEMAND],
+    );
+    passes::next(
+        size,
+        &rates[SHARE],
+        &sizes[CELL],
         arrivals,
-        cell,
-        release,
-        waiting,
-        room,
-        demand,
-        held,
-        queue,
-        cumulative,
-        rest,
+        l,
+        work,
+        state,
         y,
     )
+}
+
+// What the passes fill, before the first step: with the last release at each listed ramp, and what had come into each cell.
+fn begun(r: Road, ramps: usize, cell: &[u32; 64], from: Progress) -> [[u32; 65]; 5]
+    requires { ⌜ Listed (NoRamp (r .ramp)) (r .n) ramps (now cell) × CameAsks (r .n) (from .state .held) (from .state .cumulative) (from .entries) ⌝ }
+    ensures { λ w. ⌜ Lasts (progressed from) ramps (now (cell .entry)) w × LongColumns (r .n) w ⌝ }
+{
+    let s = from.state;
+    let mut work = [[0u32; 65]; 5];
+    ramps::last_releases(ramps, cell, &from.releases, &mut work[RELEASE]);
+    ramps::came_before(r.n, &s.held, &s.cumulative, &from.entries, &mut work[CAME]);
+    work
 }
 
 // Fills the releases of every step under a table of lanes and writes its outflows; returns the final state, and the longest queues if they are
@@ -139,76 +148,44 @@ fn fill_rows(
     ensures longest { λ e. ⌜ (longs ≡ true
         → longestQueues e ≡ longestFrom laws (studyBy (now (bytes .entry)) (now (table .entry)) r (from .state) steps) (progressed from)) ⌝ }
 {
-    let n = r.n;
-    let places = n + 1;
     let capacity = r.capacity;
     let columns = meter::columns(laws);
-    let mut road = r;
-    let mut cell = [0usize; 64];
-    let ramps = passes::ramp_cells(n, &road.ramp, &mut cell);
-    let s = from.state;
-    let releases = from.releases;
-    let entries = from.entries;
-    let mut held = s.held;
-    let mut queue = s.queue;
-    let mut cumulative = s.cumulative;
-    let mut l = Ledger::of(s);
-    let mut rest = [0u32; 64];
-    passes::remainders(n, &road.share, &cumulative, &mut rest);
-    let mut release = [0u32; 64];
-    ramps::last_releases(ramps, &cell, &releases, &mut release);
-    let mut came = [0u32; 64];
-    ramps::came_before(n, &held, &cumulative, &entries, &mut came);
-    let mut room = [0u32; 65];
-    let mut waiting = [0u32; 64];
-    let mut demand = [0u32; 64];
-    let mut gate = AtGate {
-        gate: 0,
-        waiting: 0,
-    };
+    let rates = passes::rates(r);
+    let mut sizes = passes::sizes(r);
+    let size = passes::list_ramps(r, &mut sizes[CELL]);
+    let mut work = begun(r, size.ramps, &sizes[CELL], from);
+    let mut state = passes::of_state(r, from.state);
+    let mut l = Ledger::of(from.state);
+    let mut gate = counts::no_queue();
     let mut most = [0u32; 64];
     let mut k = 0;
     let mut to = 0;
     while k < steps {
         if table.len() != 0 {
-            let open_now = lanes::step_capacities(capacity, table, n, k);
-            road.capacity = open_now;
+            sizes[CAPACITY] = lanes::step_capacities(capacity, table, r.n, k);
         }
-        let end = to + places;
+        let end = to + (r.n + 1);
         let next = fill_row(
             bytes,
             k,
-            road.n,
-            road.gate_capacity,
-            &road.speed,
-            &road.wave,
-            &road.share,
-            &road.jam,
-            &road.capacity,
+            size,
+            &rates,
+            &sizes,
             &columns.kinds,
             &columns.numbers,
             l,
-            &mut held,
-            &mut queue,
-            &mut cumulative,
-            ramps,
-            &cell,
-            &mut rest,
-            &mut room,
-            &mut release,
-            &mut waiting,
-            &mut came,
-            &mut demand,
+            &mut state,
+            &mut work,
             &mut out[to..end],
         );
         if longs {
-            gate = counts::raised(gate, l, next, n, &queue, &mut most);
+            gate = counts::raised(gate, l, next, r.n, &state[QUEUE], &mut most);
         }
         l = next;
         to = end;
         k += 1;
     }
-    let ended = Ended::complete(r, l.state(held, queue, cumulative));
+    let ended = Ended::complete(r, passes::to_state(l, state));
     counts::longest(ended, gate, most)
 }
 

@@ -25,26 +25,30 @@ use Rattle.meter.specs.LawColumns.{lawIn, InColumns}
 use Rattle.model.specs.Flow.{arrivalsAt, releaseAt, mostReleaseAt, supplyAt}
 use Rattle.model.specs.Move.{queueOf}
 use Rattle.outflows.specs.declared.Ledger.{Ledger}
-use Rattle.outflows.specs.Columns.{stateOf}
 use Rattle.stepping.specs.StepNeeds.{Steppable}
 use Rattle.outflows.specs.Rooms.{Rooms}
 use Rattle.model.specs.Filling.{MeterState, meterState, wishAt, capAt, grantedAt, filledRow}
 use Rattle.model.specs.Put.{releaseNumber, putEntry, putReleases}
 use Rattle.put.specs.ReleasesLaws.{PutRow, put-releases, put-to, released-arrivals}
+use Rattle.passes.specs.Tables.{Table, stateIn, roomCol, releaseCol, waitingCol, demandCol, cameCol, LongColumns, five-columns}
 use Rattle.passes.specs.Supplies.{NoRamp, FilledTo, filled-none, filled-more, filled-end}
 use Rattle.passes.specs.RampList.{startOf, start-more, AtRamps, Listed, listed-here, listed-more, listed-end}
 use Rattle.ramps.specs.RampsLaws.{granted, granted-caps, granted-small, filled-release, filled-arrivals}
 
+-- what the wishes of a step are computed from, with the state in a table
+abbrev pub meterIn : Ledger → Table → List ℕ → List ℕ → MeterState
+meterIn l state releases entries = meterState (stateIn l state) releases entries
+
 -- for the listed cells: the last release, and all that has come into the cell except what entered in the last step; together these two are held + F
-pub record Lasts (m : MeterState) (ramps : ℕ) (cell release came : List ℕ) : Type 0 where
-  pub releases : (j : ℕ) → j < ramps → at release j ≡ at (m .releases) (at cell j)
+pub record Lasts (m : MeterState) (ramps : ℕ) (cell : List ℕ) (work : Table) : Type 0 where
+  pub releases : (j : ℕ) → j < ramps → at (releaseCol work) j ≡ at (m .releases) (at cell j)
   pub entries : (j : ℕ) → j < ramps
-      → at came (at cell j) + at (m .entries) (at cell j) ≡ at (m .state .held) (at cell j) + at (m .state .cumulative) (at cell j)
+      → at (cameCol work) (at cell j) + at (m .entries) (at cell j) ≡ at (m .state .held) (at cell j) + at (m .state .cumulative) (at cell j)
 
 -- what granting requires: a step with the filled row may be made; the bytes hold the row, which is within its limits; the laws are in columns;
 -- the rooms are the supplies
 pub record GrantAsks (laws : List Law) (q : Road) (m : MeterState) (bytes : List ℕ) (k start ramps : ℕ) (cell kinds : List ℕ) (numbers : List Float)
-    (room release waits came : List ℕ) : Type 0 where
+    (work : Table) : Type 0 where
   pub step : Steppable q (m .state) (filledRow laws q m (recordRow bytes (q .n) k))
   pub row : RowOk q (recordRow bytes (q .n) k)
   pub held : HoldsRow bytes (q .n) k
@@ -52,24 +56,19 @@ pub record GrantAsks (laws : List Law) (q : Road) (m : MeterState) (bytes : List
   pub listed : Listed (NoRamp (q .ramp)) (q .n) ramps cell
   pub ramped : AtRamps (q .ramp) ramps cell
   pub columns : InColumns laws kinds numbers
-  pub lasts : Lasts m ramps cell release came
-  pub supplies : (i : ℕ) → i < q .n → at room i ≡ supplyAt q (m .state) i
-  pub longRoom : q .n ≤ length room
-  pub longRelease : q .n ≤ length release
-  pub longWaits : q .n ≤ length waits
-  pub longCame : q .n ≤ length came
+  pub lasts : Lasts m ramps cell work
+  pub supplies : (i : ℕ) → i < q .n → at (roomCol work) i ≡ supplyAt q (m .state) i
+  pub long : LongColumns (q .n) work
 
 -- the same for some road, laws and last step with these columns
-pub record GrantLent (bytes : List ℕ) (start ramps : ℕ) (cell kinds : List ℕ) (numbers : List Float) (held queue cumulative room release waits came : List ℕ)
-    : Type 0 where
+pub record GrantLent (bytes : List ℕ) (start ramps : ℕ) (cell kinds : List ℕ) (numbers : List Float) (state work : Table) : Type 0 where
   pub laws : List Law
   pub road : Road
   pub ledger : Ledger
   pub releases : List ℕ
   pub entries : List ℕ
   pub step : ℕ
-  pub grants : GrantAsks laws road (meterState (stateOf ledger held queue cumulative) releases entries) bytes step start ramps cell kinds numbers
-      room release waits came
+  pub grants : GrantAsks laws road (meterIn ledger state releases entries) bytes step start ramps cell kinds numbers work
 
 -- all that has come into the cell at i, with a release; and the queue at its ramp afterwards
 abbrev pub cameAt : MeterState → (ℕ → ℕ) → ℕ → ℕ
@@ -79,28 +78,49 @@ abbrev waitAt : MeterState → List ℕ → (ℕ → ℕ) → ℕ → ℕ
 waitAt m row give i = at (m .state .queue) i + arrivalsAt row i - give i
 
 -- what granting gives: the releases are in the bytes and subtracted from the supplies; for each listed cell its release, its queue after it and what has come in
-pub record Granted (laws : List Law) (q : Road) (m : MeterState) (bytes : List ℕ) (k ramps : ℕ)
-    (cell room₀ release₀ waits₀ came₀ put room release waits came : List ℕ) : Type 0 where
+pub record Granted (laws : List Law) (q : Road) (m : MeterState) (bytes : List ℕ) (k ramps : ℕ) (cell put : List ℕ) (work : Table) : Type 0 where
   pub puts : put ≡ putReleases bytes (q .n) k (grantedAt laws q m (recordRow bytes (q .n) k)) (q .n)
-  pub rooms : Rooms q (m .state) (filledRow laws q m (recordRow bytes (q .n) k)) room
-  pub releases : (j : ℕ) → j < ramps → at release j ≡ grantedAt laws q m (recordRow bytes (q .n) k) (at cell j)
-  pub waiting : (j : ℕ) → j < ramps → at waits j ≡ queueOf (m .state) (filledRow laws q m (recordRow bytes (q .n) k)) (at cell j)
-  pub reached : (j : ℕ) → j < ramps → at came (at cell j) ≡ cameAt m (grantedAt laws q m (recordRow bytes (q .n) k)) (at cell j)
-  pub sameRoom : length room ≡ length room₀
-  pub sameRelease : length release ≡ length release₀
-  pub sameWaits : length waits ≡ length waits₀
-  pub sameCame : length came ≡ length came₀
+  pub rooms : Rooms q (m .state) (filledRow laws q m (recordRow bytes (q .n) k)) (roomCol work)
+  pub releases : (j : ℕ) → j < ramps → at (releaseCol work) j ≡ grantedAt laws q m (recordRow bytes (q .n) k) (at cell j)
+  pub waiting : (j : ℕ) → j < ramps → at (waitingCol work) j ≡ queueOf (m .state) (filledRow laws q m (recordRow bytes (q .n) k)) (at cell j)
+  pub reached : (j : ℕ) → j < ramps → at (cameCol work) (at cell j) ≡ cameAt m (grantedAt laws q m (recordRow bytes (q .n) k)) (at cell j)
+  pub long : LongColumns (q .n) work
 
 -- the releases of the first j listed cells are granted
-pub record Granting (give : ℕ → ℕ) (q : Road) (m : MeterState) (bytes : List ℕ) (k ramps : ℕ)
-    (cell room₀ release₀ waits₀ came₀ put room release waits came : List ℕ) (j : ℕ) : Type 0 where
+pub record Granting (give : ℕ → ℕ) (q : Road) (m : MeterState) (bytes : List ℕ) (k ramps : ℕ) (cell : List ℕ) (work₀ : Table) (put : List ℕ) (work : Table)
+    (j : ℕ) : Type 0 where
   pub puts : put ≡ putReleases bytes (q .n) k give (startOf cell j)
-  pub rooms : room ≡ fillOf (λ i. at room₀ i - give i) (startOf cell j) room₀
-  pub releases : FilledTo (λ i. give (at cell i)) ramps release₀ release j
-  pub waiting : FilledTo (λ i. waitAt m (recordRow bytes (q .n) k) give (at cell i)) ramps waits₀ waits j
-  pub reached : (i : ℕ) → i < j → at came (at cell i) ≡ cameAt m give (at cell i)
-  pub later : (i : ℕ) → startOf cell j ≤ i → at came i ≡ at came₀ i
-  pub sameCame : length came ≡ length came₀
+  pub rooms : roomCol work ≡ fillOf (λ i. at (roomCol work₀) i - give i) (startOf cell j) (roomCol work₀)
+  pub releases : FilledTo (λ i. give (at cell i)) ramps (releaseCol work₀) (releaseCol work) j
+  pub waiting : FilledTo (λ i. waitAt m (recordRow bytes (q .n) k) give (at cell i)) ramps (waitingCol work₀) (waitingCol work) j
+  pub reached : (i : ℕ) → i < j → at (cameCol work) (at cell i) ≡ cameAt m give (at cell i)
+  pub later : (i : ℕ) → startOf cell j ≤ i → at (cameCol work) i ≡ at (cameCol work₀) i
+  pub sameCame : length (cameCol work) ≡ length (cameCol work₀)
+  pub columns : length work ≡ 5
+  pub demands : demandCol work ≡ demandCol work₀
+
+-- a turn's stores: the room of cell i, the release and the queue of entry k of the list, and what has come into cell i
+abbrev storeGranted : Table → ℕ → ℕ → ℕ → ℕ → ℕ → ℕ → Table
+storeGranted work i room k release waiting came =
+    let a = set work 0 (set (roomCol work) i room) in
+    let b = set a 1 (set (releaseCol a) k release) in
+    let c = set b 2 (set (waitingCol b) k waiting) in
+    set c 4 (set (cameCol c) i came)
+
+record Stored (work work₁ : Table) (i room k release waiting into : ℕ) : Type 0 where
+  columns : length work₁ ≡ 5
+  rooms : roomCol work₁ ≡ set (roomCol work) i room
+  releases : releaseCol work₁ ≡ set (releaseCol work) k release
+  waits : waitingCol work₁ ≡ set (waitingCol work) k waiting
+  demands : demandCol work₁ ≡ demandCol work
+  came : cameCol work₁ ≡ set (cameCol work) i into
+
+store-granted : (work : Table) → length work ≡ 5 → (i room k release waiting came : ℕ)
+    → Stored work (storeGranted work i room k release waiting came) i room k release waiting came
+store-granted work e i room k release waiting came = five-columns
+    (λ w. Stored w (storeGranted w i room k release waiting came) i room k release waiting came)
+    (λ a b c d e. record { columns = refl; rooms = refl; releases = refl; waits = refl; demands = refl; came = refl })
+    work e
 
 -- the facts about a turn's numbers and about the release that it grants
 pub record GrantTurn (start i size queue arrivals held cumulative came n : ℕ) : Type 0 where
@@ -119,7 +139,10 @@ pub record Given (x coming room : ℕ) : Type 0 where
   pub rate : x ≤ mostRate
 
 module _ {laws : List Law} {q : Road} {m : MeterState} {bytes : List ℕ} {k start ramps : ℕ} {cell kinds : List ℕ} {numbers : List Float}
-    {room₀ release₀ waits₀ came₀ : List ℕ} (g : GrantAsks laws q m bytes k start ramps cell kinds numbers room₀ release₀ waits₀ came₀) where
+    {work₀ : Table} (g : GrantAsks laws q m bytes k start ramps cell kinds numbers work₀) where
+  abbrev room₀ : List ℕ
+  room₀ = roomCol work₀
+
   abbrev row : List ℕ
   row = recordRow bytes (q .n) k
 
@@ -154,7 +177,7 @@ module _ {laws : List Law} {q : Road} {m : MeterState} {bytes : List ℕ} {k sta
   put-up a b h l z =
       put-to bytes (q .n) k give (g .held) (granted-small laws q m row) a b h l (λ i x y. idle i (omega arith) (z i x y))
 
-  pub granting-none : Granting give q m bytes k ramps cell room₀ release₀ waits₀ came₀ bytes room₀ release₀ waits₀ came₀ 0
+  pub granting-none : Granting (grantedAt laws q m (recordRow bytes (q .n) k)) q m bytes k ramps cell work₀ bytes work₀ 0
   unfolding putReleases fillOf startOf
   granting-none = record {
     puts = refl;
@@ -164,10 +187,18 @@ module _ {laws : List Law} {q : Road} {m : MeterState} {bytes : List ℕ} {k sta
     reached = λ i l. absurd (omega arith);
     later = λ i l. refl;
     sameCame = refl;
+    columns = g .long .columns;
+    demands = refl;
   }
 
-  module _ {put room release waits came : List ℕ} {j : ℕ}
-      (h : Granting (grantedAt laws q m (recordRow bytes (q .n) k)) q m bytes k ramps cell room₀ release₀ waits₀ came₀ put room release waits came j) where
+  module _ {put : List ℕ} {work : Table} {j : ℕ}
+      (h : Granting (grantedAt laws q m (recordRow bytes (q .n) k)) q m bytes k ramps cell work₀ put work j) where
+    abbrev room : List ℕ
+    room = roomCol work
+
+    abbrev came : List ℕ
+    came = cameCol work
+
     changed : PutRow bytes put (q .n) k give (startOf cell j)
     changed =
         rw (h .puts) (put-releases bytes (q .n) k give (startOf cell j) (starts-most j (h .releases .within)) (g .held) (λ i _. granted-small laws q m row i))
@@ -197,16 +228,16 @@ module _ {laws : List Law} {q : Road} {m : MeterState} {bytes : List ℕ} {k sta
       room-here : at room (at cell j) ≡ at room₀ (at cell j)
       room-here = listed-here (λ i. at room₀ i - give i) room₀ (g .listed) less l (h .rooms)
 
-      came-here : at came (at cell j) ≡ at came₀ (at cell j)
+      came-here : at came (at cell j) ≡ at (cameCol work₀) (at cell j)
       came-here = h .later i (g .listed .rises j l)
 
-      last-here : at release j ≡ at (m .releases) (at cell j)
+      last-here : at (releaseCol work) j ≡ at (m .releases) (at cell j)
       last-here =
-          ap (λ (x : List ℕ). at x j) (h .releases .filled) ∙ fill-past (λ i. give (at cell i)) j release₀ j (le-refl j) ∙ g .lasts .releases j l
+          ap (λ (x : List ℕ). at x j) (h .releases .filled) ∙ fill-past (λ i. give (at cell i)) j (releaseCol work₀) j (le-refl j) ∙ g .lasts .releases j l
 
       -- the facts about a turn
       pub grant-turn : GrantTurn start (at cell j) (length put) (at (m .state .queue) (at cell j)) (arrivalsAt (recordRow bytes (q .n) k) (at cell j))
-          (at (m .state .held) (at cell j)) (at (m .state .cumulative) (at cell j)) (at came (at cell j)) (q .n)
+          (at (m .state .held) (at cell j)) (at (m .state .cumulative) (at cell j)) (at (cameCol work) (at cell j)) (q .n)
       grant-turn =
           let s = g .step .input .state in
           record {
@@ -230,9 +261,9 @@ module _ {laws : List Law} {q : Road} {m : MeterState} {bytes : List ℕ} {k sta
       -- the code's release is the one granted
       module _ {law : Law} {arrivals entered cap x : ℕ} (el : law ≡ lawIn kinds numbers (at cell j))
           (ea : arrivals ≡ numberOf put (start + 4 + 8 * at cell j) numberSize)
-          (ee : entered ≡ at (m .state .held) (at cell j) + at (m .state .cumulative) (at cell j) - at came (at cell j))
-          (ec : cap ≡ min (at (m .state .queue) (at cell j) + arrivals) (min (at room (at cell j)) mostRate))
-          (ex : x ≡ wholeBelow (wishOf law (at release j) entered (at (m .state .held) (at cell j))) cap) where
+          (ee : entered ≡ at (m .state .held) (at cell j) + at (m .state .cumulative) (at cell j) - at (cameCol work) (at cell j))
+          (ec : cap ≡ min (at (m .state .queue) (at cell j) + arrivals) (min (at (roomCol work) (at cell j)) mostRate))
+          (ex : x ≡ wholeBelow (wishOf law (at (releaseCol work) j) entered (at (m .state .held) (at cell j))) cap) where
         found : x ≡ grantedAt laws q m (recordRow bytes (q .n) k) (at cell j)
         unfolding mostReleaseAt
         found =
@@ -243,7 +274,7 @@ module _ {laws : List Law} {q : Road} {m : MeterState} {bytes : List ℕ} {k sta
             let wished : x ≡ wholeBelow (wishAt laws m i) (capAt q (m .state) row i) = ex ∙ rw (lawful, last-here, entry, ec, come, supply) in
             wished ∙ sym (granted laws q m row i .ramped (λ z. omega (arith, g .ramped j l)))
 
-        pub given-known : Given x (at (m .state .queue) (at cell j) + arrivals) (at room (at cell j))
+        pub given-known : Given x (at (m .state .queue) (at cell j) + arrivals) (at (roomCol work) (at cell j))
         unfolding mostReleaseAt
         given-known =
             let c = granted-caps laws q m row i in
@@ -265,28 +296,33 @@ module _ {laws : List Law} {q : Road} {m : MeterState} {bytes : List ℕ} {k sta
 
         -- one more release is granted
         pub granting-more : {next : List ℕ} {end : ℕ} → StoredBytes put (start + 4 + 8 * at cell j + 4) numberSize x next end
-            → Granting (grantedAt laws q m (recordRow bytes (q .n) k)) q m bytes k ramps cell room₀ release₀ waits₀ came₀ next
-            (set room (at cell j) (at room (at cell j) - x)) (set release j x) (set waits j (at (m .state .queue) (at cell j) + arrivals - x))
-            (set came (at cell j) (at (m .state .held) (at cell j) + at (m .state .cumulative) (at cell j) + x)) (j + 1)
-        granting-more {next} p = record {
-          puts = puts-more p;
-          rooms = listed-more (λ i. at room₀ i - give i) room₀ (g .listed) less l (h .rooms) (omega (arith, room-here, found));
-          releases = filled-more (h .releases) l found;
-          waiting = filled-more (h .waiting) l (omega (arith, found, ea, arrives-here));
-          reached = λ y less. ⊎-elim
-              (λ (e : y ≡ j).
-              rw e (getD-set-same came i _ 0 (omega (arith, h .sameCame, g .longCame, inside)) ∙ ap (λ (x : ℕ). cameAt m (λ _. x) i) found))
-              (λ (d : y < j).
-              getD-set-other came i (at cell y) _ 0 (λ e. omega (arith, lower j (omega arith) y d, g .listed .rises j l)) ∙ h .reached y d)
-              (eq-or-lt-of-le (let z : y ≤ j = omega arith in z));
-          later = λ y past.
-              let above : i + 1 ≤ y = omega (arith, start-more cell j) in
-              getD-set-other came i y _ 0 (λ e. omega arith) ∙ h .later y (omega (arith, g .listed .rises j l));
-          sameCame = simp length-set (h .sameCame);
-        }
+            → Granting (grantedAt laws q m (recordRow bytes (q .n) k)) q m bytes k ramps cell work₀ next
+            (storeGranted work (at cell j) (at (roomCol work) (at cell j) - x) j x (at (m .state .queue) (at cell j) + arrivals - x)
+            (at (m .state .held) (at cell j) + at (m .state .cumulative) (at cell j) + x)) (j + 1)
+        granting-more {next} p =
+            let st = store-granted work (h .columns) i (at room i - x) j x (at (m .state .queue) i + arrivals - x)
+            (at (m .state .held) i + at (m .state .cumulative) i + x) in
+            record {
+              puts = puts-more p;
+              rooms = st .rooms ∙ listed-more (λ i. at room₀ i - give i) room₀ (g .listed) less l (h .rooms) (omega (arith, room-here, found));
+              releases = rw (st .releases) (filled-more (h .releases) l found);
+              waiting = rw (st .waits) (filled-more (h .waiting) l (omega (arith, found, ea, arrives-here)));
+              reached = λ y less. ap (λ (x : List ℕ). at x (at cell y)) (st .came) ∙ ⊎-elim
+                  (λ (e : y ≡ j).
+                  rw e (getD-set-same came i _ 0 (omega (arith, h .sameCame, g .long .came, inside)) ∙ ap (λ (x : ℕ). cameAt m (λ _. x) i) found))
+                  (λ (d : y < j).
+                  getD-set-other came i (at cell y) _ 0 (λ e. omega (arith, lower j (omega arith) y d, g .listed .rises j l)) ∙ h .reached y d)
+                  (eq-or-lt-of-le (let z : y ≤ j = omega arith in z));
+              later = λ y past.
+                  let above : i + 1 ≤ y = omega (arith, start-more cell j) in
+                  ap (λ (x : List ℕ). at x y) (st .came) ∙ getD-set-other came i y _ 0 (λ e. omega arith) ∙ h .later y (omega (arith, g .listed .rises j l));
+              sameCame = ap length (st .came) ∙ simp length-set (h .sameCame);
+              columns = st .columns;
+              demands = st .demands ∙ h .demands;
+            }
 
     -- all releases are granted
-    pub granting-end : ramps ≤ j → Granted laws q m bytes k ramps cell room₀ release₀ waits₀ came₀ put room release waits came
+    pub granting-end : ramps ≤ j → Granted laws q m bytes k ramps cell put work
     unfolding roomOf
     granting-end l =
         let e : j ≡ ramps = omega (arith, h .releases .within) in
@@ -298,18 +334,22 @@ module _ {laws : List Law} {q : Road} {m : MeterState} {bytes : List ℕ} {k sta
           rooms = λ i less-n.
               let there =
               ap (λ (x : List ℕ). at x i) (listed-end (λ i. at room₀ i - give i) room₀ (g .listed) less e (h .rooms))
-              ∙ fill-at (λ i. at room₀ i - give i) (q .n) room₀ i less-n (g .longRoom) in
+              ∙ fill-at (λ i. at room₀ i - give i) (q .n) room₀ i less-n (g .long .room) in
               omega (arith, there, g .supplies i less-n, filled-release laws q m row (g .row .numbers) i less-n);
           releases = λ y d. ap (λ (x : List ℕ). at x y) (filled-end (h .releases) l)
-              ∙ fill-at (λ i. give (at cell i)) ramps release₀ y d (omega (arith, g .longRelease, g .listed .most));
+              ∙ fill-at (λ i. give (at cell i)) ramps (releaseCol work₀) y d (omega (arith, g .long .release, g .listed .most));
           waiting = λ y d.
               let there =
               ap (λ (x : List ℕ). at x y) (filled-end (h .waiting) l)
-              ∙ fill-at (λ i. waitAt m row give (at cell i)) ramps waits₀ y d (omega (arith, g .longWaits, g .listed .most)) in
+              ∙ fill-at (λ i. waitAt m row give (at cell i)) ramps (waitingCol work₀) y d (omega (arith, g .long .waiting, g .listed .most)) in
               omega (arith, there, filled-arrivals laws q m row (at cell y), filled-release laws q m row (g .row .numbers) (at cell y) (g .listed .within y d));
           reached = λ y d. h .reached y (omega arith);
-          sameRoom = ap length (h .rooms) ∙ length-fill (λ i. at room₀ i - give i) (startOf cell j) room₀;
-          sameRelease = h .releases .same;
-          sameWaits = h .waiting .same;
-          sameCame = h .sameCame;
+          long = record {
+            columns = h .columns;
+            room = omega (arith, ap length (h .rooms), length-fill (λ i. at room₀ i - give i) (startOf cell j) room₀, g .long .room);
+            release = omega (arith, h .releases .same, g .long .release);
+            waiting = omega (arith, h .waiting .same, g .long .waiting);
+            demand = omega (arith, ap length (h .demands), g .long .demand);
+            came = omega (arith, h .sameCame, g .long .came);
+          };
         }

@@ -9,6 +9,7 @@ use Rattle.numbers.specs.RowsLaws.{fill-at}
 use Rattle.model.specs.Road.{mostCells, mostRate, mostSteps}
 use Rattle.model.specs.Limits.{mostCumulative}
 use Rattle.model.specs.Filling.{MeterState}
+use Rattle.passes.specs.Tables.{Table, releaseCol, cameCol}
 use Rattle.passes.specs.RampList.{Listed}
 use Rattle.ramps.specs.Grants.{Lasts}
 
@@ -24,11 +25,11 @@ pub record CameAsks (n : ℕ) (held cumulative entries : List ℕ) : Type 0 wher
   pub entered : (i : ℕ) → i < n → at entries i ≤ at held i
 
 -- so the last step is known at the listed cells
-pub lasts-known : {m : MeterState} {P : ℕ → Type 0} {n ramps : ℕ} {cell release came : List ℕ} (release₀ came₀ : List ℕ) → Listed P n ramps cell
+pub lasts-known : {m : MeterState} {P : ℕ → Type 0} {n ramps : ℕ} {cell : List ℕ} {work : Table} (release₀ came₀ : List ℕ) → Listed P n ramps cell
     → CameAsks n (m .state .held) (m .state .cumulative) (m .entries)
-    → release ≡ fillOf (λ j. at (m .releases) (at cell j)) ramps release₀ → n ≤ length release₀
-    → came ≡ fillOf (cameIn (m .state .held) (m .state .cumulative) (m .entries)) n came₀ → n ≤ length came₀
-    → Lasts m ramps cell release came
+    → releaseCol work ≡ fillOf (λ j. at (m .releases) (at cell j)) ramps release₀ → n ≤ length release₀
+    → cameCol work ≡ fillOf (cameIn (m .state .held) (m .state .cumulative) (m .entries)) n came₀ → n ≤ length came₀
+    → Lasts m ramps cell work
 lasts-known {m} {n = n} {ramps} {cell} release₀ came₀ listed asks er lr ec lc = record {
   releases = λ j l. ap (λ (x : List ℕ). at x j) er ∙ fill-at (λ k. at (m .releases) (at cell k)) ramps release₀ j l (omega (arith, listed .most));
   entries = λ j l.

@@ -18,6 +18,9 @@ loop-holds : tie.Need-loop-holds Inv-loop μ-loop
 loop-holds c = filled-none
 
 -- a listed cell is one of 64
+cast-release : tie.Need-cast-release Inv-loop μ-loop
+cast-release c = let t = c .before in omega (arith, t .before .before .pre .1 (t .before .loop .j) (t .loop-test .taken))
+
 mul-release-2 : tie.Need-mul-release-2 Inv-loop μ-loop
 mul-release-2 c = let t = c .before in omega (arith, t .before .before .pre .1 (t .before .loop .j) (t .loop-test .taken))
 
@@ -34,5 +37,5 @@ pub last-releases-spec : {M : Type 1} → statement M
 last-releases-spec =
     tie.close
     (tie.spec
-    Inv-loop μ-loop loop-holds (λ c. search needs) (λ c. search needs) mul-release-2 element-copy-out-release-2
+    Inv-loop μ-loop loop-holds (λ c. search needs) (λ c. search needs) cast-release mul-release-2 element-copy-out-release-2
     (λ c. search needs) (λ c. search needs) (λ c. search needs) (λ c. search needs) loop-again returns)
