@@ -12,7 +12,7 @@ from pathlib import Path
 import numpy as np
 import pytest
 import text_form
-from nobyaluk import Gate, Study, __version__, cells, engine, load, summary
+from nobyaluk import Gate, Study, __version__, cells, engine, library, load, summary
 from nobyaluk.cli.entry import COMMANDS
 from nobyaluk.refusals import meaning
 
@@ -301,14 +301,18 @@ def test_front_door(checkout, tmp_path):
     assert out.returncode == 3 and "rt of the Rattle kit, which proves and builds the engine, is not on the PATH" in out.stderr
 
 
-def test_an_old_library_is_told(checkout, tmp_path):
+@pytest.mark.parametrize("version, told", [
+    (library.VERSION, "has no nobyaluk_read: it is older than this package;"),
+    (library.VERSION - 1, f"has boundary {library.VERSION - 1}, and this package needs {library.VERSION}:"),
+])
+def test_an_old_library_is_told(checkout, tmp_path, version, told):
     there, env, _ = checkout
     command = [there / "nobyaluk", "run", there / "examples/studies/five-cells.toml"]
-    (tmp_path / "old.c").write_text("unsigned nobyaluk_version(void) { return 1; }\n")
+    (tmp_path / "old.c").write_text(f"unsigned nobyaluk_version(void) {{ return {version}; }}\n")
     (there / "target/bindings").mkdir(parents=True)
     subprocess.run(["cc", "-shared", "-fPIC", "-o", there / "target/bindings/libnobyaluk.so", tmp_path / "old.c"], check=True)
     out = subprocess.run(command, env=env, capture_output=True, text=True)
-    assert out.returncode == 3 and out.stderr == "nobyaluk: the engine's library has no nobyaluk_read: it is older than this package; build it again with bindings/build\n"
+    assert out.returncode == 3 and out.stderr == f"nobyaluk: the engine's library {told} build it again with bindings/build\n"
 
 
 def test_a_read_only_checkout(checkout, tmp_path):
