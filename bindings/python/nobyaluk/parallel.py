@@ -7,6 +7,7 @@ parallel. A run is short, though: if Python also makes the variants, processes a
 receive studies as the bytes of records, and variants as recipes.
 """
 import math
+import time
 from collections import deque
 from collections.abc import Callable, Iterable, Iterator
 from concurrent.futures import Executor, Future, ThreadPoolExecutor
@@ -20,7 +21,7 @@ from .engine import Refused
 from .errors import StudyError
 from .study import Study, load
 from .totals import Totals, totals, totals_and_queues
-from .workers import Batches, Lost, Run, Workers, processors, timed
+from .workers import Batches, Lost, Run, Workers, processors
 
 PATROL = 5  # seconds between two checks of a cluster while waiting for its answer
 START = 0.025  # seconds for starting and ending a process; two took 20 to 50 ms
@@ -185,7 +186,10 @@ def spread(
 
 
 class Estimate:
-    """The time of studies, by calls that were timed; of a first call only what exceeds COLD."""
+    """The processor time of studies, by calls that were timed.
+
+    Other work on the machine does not count. Of a first call only what exceeds COLD counts.
+    """
 
     def __init__(self) -> None:
         self.calls, self.studies, self.seconds = 0, 0, 0.0
@@ -218,9 +222,10 @@ def spread_run(
     most, batches, done = min(workers or processors(), processors(), count), Batches(items), 0
     estimate = Estimate()
     while group := batches.next():
-        seconds, out = timed(partial(run, group))
-        batches.took(len(out), seconds)
-        estimate.took(len(out), seconds)
+        began, own = time.perf_counter(), time.thread_time()
+        out = run(group)
+        batches.took(len(out), time.perf_counter() - began)
+        estimate.took(len(out), time.thread_time() - own)
         done += len(out)
         yield out
         if most > 1 and estimate.pays(count - done, most):

@@ -36,17 +36,6 @@ def processors() -> int:
     return len(os.sched_getaffinity(0)) if hasattr(os, "sched_getaffinity") else os.cpu_count() or 1
 
 
-def timed(call: Callable[[], Any]) -> tuple[float, Any]:
-    """Return the seconds that a call takes, and what it gives.
-
-    They are this thread's own time, or a quarter of the clock's if that is more: other work on the
-    machine makes the clock's time longer.
-    """
-    wall, own = time.perf_counter(), time.thread_time()
-    out = call()
-    return max(time.thread_time() - own, (time.perf_counter() - wall) / 4), out
-
-
 class Batches:
     """Studies in tasks of some milliseconds; the times of earlier tasks decide their size."""
 

@@ -223,11 +223,11 @@ def started(monkeypatch):
 def test_a_short_sweep_starts_no_process(examples, started, capsys):
     """A sweep of some milliseconds is over before a process has started; one of a second is not."""
     path = str(examples / "studies/rocade-sud-alinea.toml")
-    for words, processes in (("0.9:1.1:0.01", []), ("0.9:1:0.001", []), ("0.9:1.1:0.00004", [2])):
+    for words, processes in (("0.9:1.1:0.01", []), ("0.9:1:0.001", []), ("0.9:1.1:0.00002", [2])):
         assert main(["sweep", path, "--load", words]) == 0 and started == processes
         assert len(rows_of(capsys.readouterr().out)) == round((float(words.split(":")[1]) - 0.9) / float(words.split(":")[2])) + 1
     started.clear()
-    for words, processes in (("0.01:0.2:0.01", []), ("0.00004:0.2:0.00004", [2])):
+    for words, processes in (("0.01:0.2:0.01", []), ("0.00002:0.2:0.00002", [2])):
         assert main(["sweep", path, "--vary", f"meter.all.gain={words}"]) == 0 and started == processes
     started.clear()
     assert main(["sweep", path, "--load", "0.9:1.1:0.0001", "--workers", "1"]) == 0 and started == []
@@ -246,6 +246,12 @@ def test_the_first_call_does_not_decide(started, first, next_, count, processes)
 
     assert [x for some in parallel.spread_run(range(count), count, run, None) for x in some] == list(range(count))
     assert started == processes
+
+
+def test_other_work_does_not_decide(started):
+    """A study that waits takes no processor time, and other programs' work is such a wait."""
+    run = lambda items: time.sleep(0.002) or items
+    assert [x for some in parallel.spread_run(range(400), 400, run, None) for x in some] == list(range(400)) and started == []
 
 
 def test_workers_are_bounded(examples, capsys, monkeypatch):
