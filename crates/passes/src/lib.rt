@@ -189,49 +189,24 @@ pub fn step<'a>(
         l (now (state .entry)) (now (y .entry)) (faultAnswer (p .fault)) (p .ledger) (now (state .exit)) (now (work .exit)) (now (y .exit))) ⌝ }
 {
     let n = size.n;
+    let wave = &rates[WAVE];
+    let jam = &sizes[JAM];
+    let capacity = &sizes[CAPACITY];
+    let cell = &sizes[CELL];
     let start = fields::row_start(fields::version(bytes), n, k);
-    supplies(
-        n,
-        &rates[WAVE],
-        &sizes[JAM],
-        &sizes[CAPACITY],
-        &state[HELD],
-        &mut work[ROOM],
-    );
-    let fits = at_ramps::take_releases(
-        bytes,
-        start,
-        n,
-        size.ramps,
-        &sizes[CELL],
-        &state[QUEUE],
-        work,
-    );
+    supplies(n, wave, jam, capacity, &state[HELD], &mut work[ROOM]);
+    let fits = at_ramps::take_releases(bytes, start, n, size.ramps, cell, &state[QUEUE], work);
     if !fits {
-        let found = fault(bytes, n, k, &rates[WAVE], sizes, state);
+        let found = fault(bytes, n, k, wave, sizes, state);
         return Outcome {
             fault: found,
             ledger: l,
         };
     }
     let arrivals = fields::number(bytes, start, fields::NUMBER_SIZE);
-    demands(
-        n,
-        &rates[SPEED],
-        &sizes[CAPACITY],
-        &state[HELD],
-        &mut work[DEMAND],
-    );
-    let ledger = next(
-        size,
-        &rates[SHARE],
-        &sizes[CELL],
-        arrivals,
-        l,
-        work,
-        state,
-        y,
-    );
+    let speed = &rates[SPEED];
+    demands(n, speed, capacity, &state[HELD], &mut work[DEMAND]);
+    let ledger = next(size, &rates[SHARE], cell, arrivals, l, work, state, y);
     let none = Fault {
         refusal: Refusal::None,
         place: 0,

@@ -89,20 +89,20 @@ fn run_rows(
             let ended = Ended::at_step(refusal, k, fault.place, r, passes::to_state(l, state));
             return tallied(ended, gate, most, total);
         }
-        let next = step.ledger;
+        let new = step.ledger;
         total = counts::added(
             total,
             weighs,
             n,
-            next,
+            new,
             &state,
             &weights.places,
             &weights.ramps,
         );
         if longs {
-            gate = counts::raised(gate, l, next, n, &state[QUEUE], &mut most);
+            gate = counts::raised(gate, l, new, n, &state[QUEUE], &mut most);
         }
-        l = next;
+        l = new;
         to = end;
         k += 1;
     }

@@ -17,19 +17,19 @@ use borrow.Author.Tests.{not-true, not-false}
 
 -- places of the code: the arguments from the row's start, that from the supplies, and these from the test of the releases
 abbrev A : tie.After-row-start → tie.Start
-A c = c .before .before .before .before
+A c = let v = c .before .before .before .before in v .before .before .before .before
 
 abbrev Start : tie.After-supplies → tie.After-row-start
-Start c = c .before .before .before .before .before .before
+Start c = c .before .before .before
 
 abbrev Supplied : tie.After-take-releases → tie.After-supplies
-Supplied c = c .before .before .before .before
+Supplied c = c .before .before .before
 
 abbrev Arrived : tie.After-demands → tie.After-number
-Arrived c = c .before .before .before .before .before
+Arrived c = c .before .before .before .before
 
-abbrev to-demands : tie.After-next-arg5 → tie.After-demands
-to-demands c = c .before .before .before .before .before
+abbrev to-demands : tie.After-next-arg4 → tie.After-demands
+to-demands c = c .before .before .before .before
 
 -- any road with the columns that were lent, and the state
 abbrev On : tie.Start → Road → Road
@@ -65,30 +65,31 @@ arrives c =
     c .number .ensures .0 ∙ gate-row (a .bytes .now) (a .size .n) (a .k) (s .row-start .result) (start s)
 
 version-requires : tie.Need-version-requires
-version-requires c κs = omega (arith, c .before .before .pre .asks .holds .row)
+version-requires c κs = let v = c .before .before .before in omega (arith, v .before .before .before .pre .asks .holds .row)
 
 row-start-requires : tie.Need-row-start-requires
 row-start-requires c κs =
-    let s = c .before .before .before in
+    let v = c .before .before .before .before in
+    let s = v .before .before .before in
     let a = s .args in
     let e : rowStart (c .version .result) (a .size .n) (a .k) ≡ rowStart (versionOf (a .bytes .now)) (a .size .n) (a .k) =
     ap (λ (v : ℕ). rowStart v (a .size .n) (a .k)) (c .version .ensures) in
     omega (arith, e, s .pre .asks .holds .row, s .good .0)
 
 supplies-requires : tie.Need-supplies-requires
-supplies-requires c κs = let w = c .before .before .before .before .before in supplies-ask (fittable (A w .pre .asks) (start w))
+supplies-requires c κs = let w = c .before .before in supplies-ask (fittable (A w .pre .asks) (start w))
 
 take-releases-requires : tie.Need-take-releases-requires
 take-releases-requires c κs =
-    let s = c .before .before .before in
+    let s = c .before .before in
     takes-ask (fittable (A (Start s) .pre .asks) (start (Start s))) (s .supplies .ensures)
 
 fault-requires : tie.Need-fault-requires
-fault-requires c κs = A (Start (Supplied (c .before .before .before))) .pre .asks .holds
+fault-requires c κs = A (Start (Supplied (c .before .before))) .pre .asks .holds
 
 returns : tie.Need-returns
 returns c r h =
-    let t = c .before .before .before in
+    let t = c .before .before in
     let s = A (Start (Supplied (t .before))) in
     gives-fault h (found (t .before) r h) (not-true _ (t .if1 .taken)) (c .fault .ensures (On s r) (s .args .l))
 
@@ -99,7 +100,7 @@ number-requires c κs =
 
 demands-requires : tie.Need-demands-requires
 demands-requires c κs =
-    let m = c .before .before .before .before in
+    let m = c .before .before .before in
     demands-ask (A (Start (Supplied (m .before .before))) .pre .asks .input)
 
 next-requires : tie.Need-next-requires
@@ -132,7 +133,6 @@ pub step-spec : {M : Type 1} → statement M
 step-spec =
     tie.close
     (tie.spec
-    version-requires row-start-requires (λ c. search needs) (λ c. search needs) (λ c. search needs) (λ c. search needs) (λ c. search needs)
-    supplies-requires (λ c. search needs) (λ c. search needs) take-releases-requires (λ c. search needs) fault-requires returns number-requires (λ c. search needs)
-    (λ c. search needs) (λ c. search needs) (λ c. search needs) demands-requires (λ c. search needs) (λ c. search needs) next-requires
-    (λ c. search needs) returns-2)
+    (λ c. search needs) (λ c. search needs) (λ c. search needs) (λ c. search needs) version-requires row-start-requires (λ c. search needs)
+    (λ c. search needs) supplies-requires (λ c. search needs) take-releases-requires fault-requires returns number-requires (λ c. search needs)
+    (λ c. search needs) (λ c. search needs) demands-requires (λ c. search needs) next-requires (λ c. search needs) returns-2)
