@@ -47,25 +47,25 @@ unfolding exitsOf
 exits-cells r s h = sum-list-min (exitAt r s) mostCells (r .n) (λ i l. exit-past r s i (omega arith))
 
 -- the loop over the cells has added the exits of the first i of them
-pub record Exited (r : Road) (s : State) (n sum i : ℕ) : Type 0 where
+pub record ExitsSoFar (r : Road) (s : State) (n sum i : ℕ) : Type 0 where
   pub within : i ≤ n
   pub cells : n ≡ min (r .n) mostCells
   pub is : sum ≡ sumOf (listOf (exitAt r s) i)
   pub fits : sum ≤ 2 ^ 32 * i
 
-pub exited-none : {r : Road} {s : State} {n : ℕ} → n ≡ min (r .n) mostCells → Exited r s n 0 0
-exited-none {r} {s} e = record { within = omega arith; cells = e; is = sym (sum-list-none (exitAt r s)); fits = omega arith }
+pub exits-none : {r : Road} {s : State} {n : ℕ} → n ≡ min (r .n) mostCells → ExitsSoFar r s n 0 0
+exits-none {r} {s} e = record { within = omega arith; cells = e; is = sym (sum-list-none (exitAt r s)); fits = omega arith }
 
-pub exited-more : {r : Road} {s : State} {n sum i x : ℕ} → Exited r s n sum i → i < n → (x ≡ exitAt r s i) × (x ≤ 2 ^ 32 - 1)
-    → Exited r s n (sum + x) (i + 1)
-exited-more {r} {s} {i = i} h l e = record {
+pub exits-more : {r : Road} {s : State} {n sum i x : ℕ} → ExitsSoFar r s n sum i → i < n → (x ≡ exitAt r s i) × (x ≤ 2 ^ 32 - 1)
+    → ExitsSoFar r s n (sum + x) (i + 1)
+exits-more {r} {s} {i = i} h l e = record {
   within = omega arith;
   cells = h .cells;
   is = rw (add-one i) (omega (arith, sum-list-more (exitAt r s) i, h .is, e .0));
   fits = omega (arith, h .fits, e .1);
 }
 
-pub exited-end : {r : Road} {s : State} {n sum i : ℕ} → Exited r s n sum i → n ≤ i → length (s .cumulative) ≡ mostCells → sum ≡ exitsOf r s
-exited-end {r} {s} {i = i} h l long =
+pub exits-end : {r : Road} {s : State} {n sum i : ℕ} → ExitsSoFar r s n sum i → n ≤ i → length (s .cumulative) ≡ mostCells → sum ≡ exitsOf r s
+exits-end {r} {s} {i = i} h l long =
     let e : i ≡ min (r .n) mostCells = omega (arith, h .within, h .cells) in
     h .is ∙ ap (λ (k : ℕ). sumOf (listOf (exitAt r s) k)) e ∙ exits-cells r s long

@@ -102,15 +102,15 @@ pub entry-kept : {f : ℕ → ℕ} {n : ℕ} {l x : List ℕ} {i : ℕ} → Fill
 entry-kept {f} {l = l} {i = i} h = ap (λ (y : List ℕ). at y i) (h .filled) ∙ fill-past f i l i (le-refl i)
 
 -- the longest queues after one more step: raised by what stayed at the gate, by its queue and by the ramps' queues
-abbrev pub raisedBy : ℕ → Queues → ℕ → ℕ → List ℕ → Queues
-raisedBy n q stayed gate queue =
+abbrev pub longestAfter : ℕ → Queues → ℕ → ℕ → List ℕ → Queues
+longestAfter n q stayed gate queue =
     queuesOf (max (q .gate) gate) (max (q .waiting) stayed) (fillOf (λ i. max (at (q .ramps) i) (at queue i)) n (q .ramps))
 
 -- the code's longest queues
-pub raised-is : (n : ℕ) (q : Queues) (stayed gate : ℕ) (queue : List ℕ) {g w : ℕ} {ramps : List ℕ} → g ≡ max (q .gate) gate
+pub longest-after : (n : ℕ) (q : Queues) (stayed gate : ℕ) (queue : List ℕ) {g w : ℕ} {ramps : List ℕ} → g ≡ max (q .gate) gate
     → w ≡ max (q .waiting) stayed → ramps ≡ fillOf (λ i. max (at (q .ramps) i) (at queue i)) n (q .ramps)
-    → queuesOf g w ramps ≡ raisedBy n q stayed gate queue
-raised-is n q stayed gate queue eg ew er = rw (eg, ew, er) refl
+    → queuesOf g w ramps ≡ longestAfter n q stayed gate queue
+longest-after n q stayed gate queue eg ew er = rw (eg, ew, er) refl
 
 module _ (n : ℕ) (after : ℕ → State) where
   pub longest-none : longestOf n after 0 ≡ noQueues
@@ -119,7 +119,7 @@ module _ (n : ℕ) (after : ℕ → State) where
 
   pub longest-more : (k : ℕ) → n ≤ mostCells
       → longestOf n after (suc k)
-      ≡ raisedBy n (longestOf n after k) (stayedOf (after k) (after (suc k))) (after (suc k) .«gate_queue») (after (suc k) .queue)
+      ≡ longestAfter n (longestOf n after k) (stayedOf (after k) (after (suc k))) (after (suc k) .«gate_queue») (after (suc k) .queue)
   unfolding longestOf maximumOf
   longest-more k few =
       let long : n ≤ length zeros = omega (arith, length-zeros) in

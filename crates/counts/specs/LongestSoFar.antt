@@ -7,31 +7,31 @@ use Rattle.model.specs.declared.State.{State}
 use Rattle.model.specs.Road.{mostCells}
 use Rattle.model.specs.Longest.{Queues, stayedOf, longestOf}
 use Rattle.counts.specs.Longest.{noQueues}
-use Rattle.counts.specs.LongestLaws.{raisedBy, longest-none, longest-more}
+use Rattle.counts.specs.LongestLaws.{longestAfter, longest-none, longest-more}
 
 -- the longest queues after k steps, if they are wanted; `after` gives the states
-pub record Raised (longs : Bool) (n : ℕ) (after : ℕ → State) (q : Queues) (k : ℕ) : Type 0 where
+pub record LongestSoFar (longs : Bool) (n : ℕ) (after : ℕ → State) (q : Queues) (k : ℕ) : Type 0 where
   pub queues : longs ≡ true → q ≡ longestOf n after k
 
 module _ (longs : Bool) (n : ℕ) (after : ℕ → State) where
-  pub raised-none : Raised longs n after noQueues 0
-  raised-none = record { queues = λ _. sym (longest-none n after) }
+  pub queues-none : LongestSoFar longs n after noQueues 0
+  queues-none = record { queues = λ _. sym (longest-none n after) }
 
-  module _ {q : Queues} {k : ℕ} (h : Raised longs n after q k) where
+  module _ {q : Queues} {k : ℕ} (h : LongestSoFar longs n after q k) where
     -- one more step, from u to v
-    pub raised-more : {u v : State} {p : Queues} → n ≤ mostCells → u ≡ after k → v ≡ after (k + 1)
-        → (longs ≡ true → p ≡ raisedBy n q (stayedOf u v) (v .«gate_queue») (v .queue)) → Raised longs n after p (k + 1)
-    raised-more {u} {v} {p} few eu ev e = record { queues = more }
+    pub queues-more : {u v : State} {p : Queues} → n ≤ mostCells → u ≡ after k → v ≡ after (k + 1)
+        → (longs ≡ true → p ≡ longestAfter n q (stayedOf u v) (v .«gate_queue») (v .queue)) → LongestSoFar longs n after p (k + 1)
+    queues-more {u} {v} {p} few eu ev e = record { queues = more }
       where
         now : v ≡ after (suc k)
         now = rw (add-one k) at ev
 
         more : longs ≡ true → p ≡ longestOf n after (k + 1)
-        more asked =
+        more wanted =
             rw (add-one k)
-            (e asked
-            ∙ ap (λ (x : Queues). raisedBy n x (stayedOf u v) (v .«gate_queue») (v .queue)) (h .queues asked)
+            (e wanted
+            ∙ ap (λ (x : Queues). longestAfter n x (stayedOf u v) (v .«gate_queue») (v .queue)) (h .queues wanted)
             ∙ rw (eu, now) (sym (longest-more n after k few)))
 
-    pub raised-end : {m : ℕ} → k ≡ m → longs ≡ true → q ≡ longestOf n after m
-    raised-end e asked = h .queues asked ∙ ap (longestOf n after) e
+    pub queues-end : {m : ℕ} → k ≡ m → longs ≡ true → q ≡ longestOf n after m
+    queues-end e wanted = h .queues wanted ∙ ap (longestOf n after) e

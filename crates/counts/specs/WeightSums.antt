@@ -78,9 +78,9 @@ weighted-is places ramps n {counts = counts} {queues = queues} eg er ep s h =
     rw (h .atGate, h .onRoad, h .atRamps) (omega (arith, eg, er, ep, road-is, ramp-is))
 
 -- a weighted total with one more step, and without weights
-module _ (total : ℕ) {weighs : Bool} where
-  pub added-more : {x y : ℕ} → weighs ≡ true → x ≡ y → total + x ≡ total + cond weighs y 0
+module _ (total : ℕ) {sums : Bool} where
+  pub added-more : {x y : ℕ} → sums ≡ true → x ≡ y → total + x ≡ total + cond sums y 0
   added-more e h = rw (e, h) refl
 
-  pub added-none : (y : ℕ) → weighs ≡ false → total ≡ total + cond weighs y 0
+  pub added-none : (y : ℕ) → sums ≡ false → total ≡ total + cond sums y 0
   added-none y e = rw e (omega arith)

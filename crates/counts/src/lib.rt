@@ -25,7 +25,7 @@ ghost use Rattle.counts.specs.WeightBounds.{mostProduct, mostWeightedPre
 ghost use Rattle.counts.specs.WeightSums.{Waiting};
 ghost use Rattle.model.specs.Longest.{queuesOf, longestQueues};
 ghost use Rattle.counts.specs.Longest.{noQueues};
-ghost use Rattle.counts.specs.LongestLaws.{raisedBy};
+ghost use Rattle.counts.specs.LongestLaws.{longestAfter};
 
 // A vehicle's parts.
 const PARTS: u64 = 1000;
@@ -175,7 +175,7 @@ pub fn weighted(r: Road, s: State, weights: Weights) -> u64
 // A weighted total with the weighted present after one more step, on lent columns; unchanged if no weights are wanted.
 pub fn added<'a, 'b>(
     total: u64,
-    weighs: bool,
+    sums: bool,
     n: usize,
     l: Ledger,
     state: &'a [[u32; 64]; 4],
@@ -184,10 +184,10 @@ pub fn added<'a, 'b>(
 ) -> u64
     requires { ⌜ (total ≤ mostWeightedTotal) × (n ≤ mostCells) ⌝ }
     ensures sum { λ r. ⌜ ((s : State) → Waiting (l .«gate_queue») (heldCol (now (state .entry))) (queueCol (now (state .entry))) s
-        → r ≡ total + cond weighs (weightedPresent (at (now (places .entry))) (at (now (ramps .entry))) n s) 0) ⌝ }
+        → r ≡ total + cond sums (weightedPresent (at (now (places .entry))) (at (now (ramps .entry))) n s) 0) ⌝ }
     ensures bound { λ r. ⌜ r ≤ total + mostWeightedPresent ⌝ }
 {
-    if weighs {
+    if sums {
         let held = &state[HELD];
         return total + weighted_places(n, l.gate_queue, held, &state[QUEUE], places, ramps);
     }
@@ -244,7 +244,7 @@ pub fn raised(
     ramps: &mut [u32; 64],
 ) -> AtGate
     requires { ⌜ n ≤ mostCells ⌝ }
-    ensures { λ g. ⌜ queuesOf (g .gate) (g .waiting) (now (ramps .exit)) ≡ raisedBy n (queuesOf (known .gate) (known .waiting) (now (ramps .entry)))
+    ensures { λ g. ⌜ queuesOf (g .gate) (g .waiting) (now (ramps .exit)) ≡ longestAfter n (queuesOf (known .gate) (known .waiting) (now (ramps .entry)))
         (before .«gate_queue» - (after .«gate_cumulative» - before .«gate_cumulative»)) (after .«gate_queue») (now (queue .entry)) ⌝ }
 {
     raise_ramps(n, queue, ramps);

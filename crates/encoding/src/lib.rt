@@ -8,7 +8,7 @@ ghost use Rattle.numbers.specs.PlacedText.{Puts};
 ghost use Rattle.model.specs.Road.{mostCells, startState};
 ghost use Rattle.model.specs.Record.{headerSize, cellSize, numberSize, rowNumbers, rowSize};
 ghost use Rattle.fields.specs.HeaderLaws.{Counts};
-ghost use Rattle.model.specs.Encoding.{headerOf, cellOf, numbersOf, cellBytes, rowBytes, recordOf, given};
+ghost use Rattle.model.specs.Encoding.{headerOf, cellOf, numbersOf, cellBytes, rowBytes, recordOf, givenStudy};
 ghost use Rattle.encoding.specs.Encoding.{Rows, Fits};
 
 // Puts the header: the count of bytes after its first field, the version, n, T, the version's seconds, the gate's capacity and queue.
@@ -120,8 +120,8 @@ fn put_rows(target: &mut [u8], at: usize, n: usize, rows: &[u32], steps: usize) 
 
 // Puts the record's bytes at the start of the target.
 pub fn put_record(road: Road, steps: usize, start: Start, rows: &[u32], target: &mut [u8]) -> usize
-    requires { ⌜ Fits (given road steps start (now rows)) (now rows) (now target) ⌝ }
-    ensures { λ e. ⌜ Puts (now (target .entry)) 0 (recordOf (given road steps start (now (rows .entry)))) (now (target .exit)) e ⌝ }
+    requires { ⌜ Fits (givenStudy road steps start (now rows)) (now rows) (now target) ⌝ }
+    ensures { λ e. ⌜ Puts (now (target .entry)) 0 (recordOf (givenStudy road steps start (now (rows .entry)))) (now (target .exit)) e ⌝ }
 {
     let n = road.n;
     let to_cells = put_header(

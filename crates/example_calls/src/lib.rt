@@ -14,11 +14,11 @@ ghost use mathlib.Core.List.{List};
 ghost use Prim.Native.Nat.{ℕ, _≤_};
 ghost use Rattle.model.specs.Road.{totalOf};
 ghost use Rattle.model.specs.Judging.{judgingOf};
-ghost use Rattle.model.specs.Demand.{Taken};
+ghost use Rattle.model.specs.Demand.{Openable};
 
 // Runs a record. No schedule zs that is judged for as many steps has a smaller total.
 pub fn least_total(bytes: &[u8], table: &[u8], list: &mut [u32]) -> freeway::Ended
-    ensures { λ e. ⌜ (Taken (now (bytes .entry)) (now (table .entry)) → (zs : List ℕ)
+    ensures { λ e. ⌜ (Openable (now (bytes .entry)) (now (table .entry)) → (zs : List ℕ)
         → e .state .done ≡ judgingOf (now (bytes .entry)) (now (table .entry)) zs .state .done
         → totalOf (e .state) ≤ totalOf (judgingOf (now (bytes .entry)) (now (table .entry)) zs .state)) ⌝ }
 {

@@ -4,7 +4,7 @@ use crate::NobyalukFilled;
 use crate::NobyalukLongest;
 use freeway::Progress;
 ghost use mathlib.Core.Path.{_≡_};
-ghost use Rattle.model.specs.Demand.{Taken, Promised};
+ghost use Rattle.model.specs.Demand.{Openable, DemandAndGrounds};
 ghost use Rattle.model.specs.Longest.{longestFill};
 ghost use Rattle.model.specs.Filling.{fillingOf, recordAfter, filledList, OnlyReleases};
 ghost use Rattle.exports.specs.Answers.{endedFor, longestFor, filledFor};
@@ -26,8 +26,8 @@ pub extern "C" fn nobyaluk_fill(
         ≡ recordAfter (lawsOf (now (kinds .entry)) (now (numbers .entry))) (now (bytes .entry)) (now (lanes .entry)) (now (list .entry)) ⌝ }
     ensures list { λ r. ⌜ now (list .exit)
         ≡ filledList (lawsOf (now (kinds .entry)) (now (numbers .entry))) (now (bytes .entry)) (now (lanes .entry)) (now (list .entry)) ⌝ }
-    ensures demand { λ r. ⌜ (Taken (now (bytes .entry)) (now (lanes .entry))
-        → Promised (now (bytes .exit)) (now (lanes .entry)) (now (list .exit))
+    ensures demand { λ r. ⌜ (Openable (now (bytes .entry)) (now (lanes .entry))
+        → DemandAndGrounds (now (bytes .exit)) (now (lanes .entry)) (now (list .exit))
         (fillingOf (lawsOf (now (kinds .entry)) (now (numbers .entry))) (now (bytes .entry)) (now (lanes .entry)) (now (list .entry)))) ⌝ }
     ensures releases { λ r. ⌜ OnlyReleases (now (bytes .entry)) (now (bytes .exit)) ⌝ }
 {
@@ -52,8 +52,8 @@ pub extern "C" fn nobyaluk_fill_longest(
         ≡ recordAfter (lawsOf (now (kinds .entry)) (now (numbers .entry))) (now (bytes .entry)) (now (lanes .entry)) (now (list .entry)) ⌝ }
     ensures list { λ r. ⌜ now (list .exit)
         ≡ filledList (lawsOf (now (kinds .entry)) (now (numbers .entry))) (now (bytes .entry)) (now (lanes .entry)) (now (list .entry)) ⌝ }
-    ensures demand { λ r. ⌜ (Taken (now (bytes .entry)) (now (lanes .entry))
-        → Promised (now (bytes .exit)) (now (lanes .entry)) (now (list .exit))
+    ensures demand { λ r. ⌜ (Openable (now (bytes .entry)) (now (lanes .entry))
+        → DemandAndGrounds (now (bytes .exit)) (now (lanes .entry)) (now (list .exit))
         (fillingOf (lawsOf (now (kinds .entry)) (now (numbers .entry))) (now (bytes .entry)) (now (lanes .entry)) (now (list .entry)))) ⌝ }
     ensures releases { λ r. ⌜ OnlyReleases (now (bytes .entry)) (now (bytes .exit)) ⌝ }
 {

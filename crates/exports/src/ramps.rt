@@ -16,7 +16,7 @@ ghost use Rattle.model.specs.Wanted.{wantedOf, tableAfter, WantedEnds};
 ghost use Rattle.model.specs.Street.{grantingOf, grantsAfter, GrantEnds};
 ghost use Rattle.model.specs.Put.{puttingOf, releasedRecord, PutEnds};
 ghost use Rattle.exports.specs.Answers.{loadedFor, wantedFor, releasedFor};
-ghost use Rattle.exports.specs.Laws.{realAt, lawOf, lawsOf};
+ghost use Rattle.exports.specs.Laws.{floatAt, lawOf, lawsOf};
 
 // The kinds of meter laws; every other kind is a fixed rate.
 const ALINEA: u8 = 1;
@@ -110,7 +110,7 @@ pub extern "C" fn nobyaluk_put(
 
 // The number at i, 0 past the end.
 fn real_at(numbers: &[f64], i: usize) -> f64
-    ensures { λ r. ⌜ r ≡ realAt (now (numbers .entry)) i ⌝ }
+    ensures { λ r. ⌜ r ≡ floatAt (now (numbers .entry)) i ⌝ }
 {
     if i < numbers.len() {
         return numbers[i];

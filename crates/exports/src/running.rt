@@ -12,10 +12,10 @@ ghost use mathlib.Core.Path.{_≡_};
 ghost use Rattle.model.specs.Numbers.{at};
 ghost use Rattle.model.specs.Stepping.{steppingOf};
 ghost use Rattle.model.specs.Running.{runningOf, listAfter};
-ghost use Rattle.model.specs.Demand.{Taken, Promised, WeightedDemand};
+ghost use Rattle.model.specs.Demand.{Openable, DemandAndGrounds, WeightedDemand};
 ghost use Rattle.model.specs.Weights.{weightedTotalOfRun};
 ghost use Rattle.model.specs.Longest.{longestRun};
-ghost use Rattle.exports.specs.Answers.{endedFor, weighedFor, longestFor, talliedFor, steppedFor};
+ghost use Rattle.exports.specs.Answers.{endedFor, weightedFor, longestFor, talliedFor, steppedFor};
 ghost use Rattle.model.specs.GoingOn.{runningOn, listOn, weightedTotalOn, longestOn};
 
 // One step of a road with a row in the record's order.
@@ -45,8 +45,8 @@ pub extern "C" fn nobyaluk_step(
 pub extern "C" fn nobyaluk_run(bytes: &[u8], lanes: &[u8], list: &mut [u32]) -> NobyalukEnded
     ensures answer { λ r. ⌜ r ≡ endedFor (runningOf (now (bytes .entry)) (now (lanes .entry)) (now (list .entry))) ⌝ }
     ensures list { λ r. ⌜ now (list .exit) ≡ listAfter (now (bytes .entry)) (now (lanes .entry)) (now (list .entry)) ⌝ }
-    ensures demand { λ r. ⌜ (Taken (now (bytes .entry)) (now (lanes .entry))
-        → Promised (now (bytes .entry)) (now (lanes .entry)) (now (list .exit)) (runningOf (now (bytes .entry)) (now (lanes .entry)) (now (list .entry)))) ⌝ }
+    ensures demand { λ r. ⌜ (Openable (now (bytes .entry)) (now (lanes .entry))
+        → DemandAndGrounds (now (bytes .entry)) (now (lanes .entry)) (now (list .exit)) (runningOf (now (bytes .entry)) (now (lanes .entry)) (now (list .entry)))) ⌝ }
 {
     let e = freeway::run(bytes, lanes, list);
     crate::ended(e)
@@ -60,12 +60,12 @@ pub extern "C" fn nobyaluk_run_weighted(
     weights: Weights,
     list: &mut [u32],
 ) -> NobyalukWeighed
-    ensures answer { λ r. ⌜ r ≡ weighedFor (runningOf (now (bytes .entry)) (now (lanes .entry)) (now (list .entry)))
+    ensures answer { λ r. ⌜ r ≡ weightedFor (runningOf (now (bytes .entry)) (now (lanes .entry)) (now (list .entry)))
         (weightedTotalOfRun (at (weights .places)) (at (weights .ramps)) (now (bytes .entry)) (now (lanes .entry)) (now (list .entry))) ⌝ }
     ensures list { λ r. ⌜ now (list .exit) ≡ listAfter (now (bytes .entry)) (now (lanes .entry)) (now (list .entry)) ⌝ }
-    ensures demand { λ r. ⌜ (Taken (now (bytes .entry)) (now (lanes .entry))
-        → Promised (now (bytes .entry)) (now (lanes .entry)) (now (list .exit)) (runningOf (now (bytes .entry)) (now (lanes .entry)) (now (list .entry)))) ⌝ }
-    ensures weights { λ r. ⌜ (Taken (now (bytes .entry)) (now (lanes .entry))
+    ensures demand { λ r. ⌜ (Openable (now (bytes .entry)) (now (lanes .entry))
+        → DemandAndGrounds (now (bytes .entry)) (now (lanes .entry)) (now (list .exit)) (runningOf (now (bytes .entry)) (now (lanes .entry)) (now (list .entry)))) ⌝ }
+    ensures weights { λ r. ⌜ (Openable (now (bytes .entry)) (now (lanes .entry))
         → WeightedDemand (now (bytes .entry)) (now (lanes .entry)) (at (weights .places)) (at (weights .ramps)) (now (list .exit))
         (runningOf (now (bytes .entry)) (now (lanes .entry)) (now (list .entry))) (r .weighted)) ⌝ }
 {
@@ -87,8 +87,8 @@ pub extern "C" fn nobyaluk_run_longest(
     ensures answer { λ r. ⌜ r ≡ longestFor (runningOf (now (bytes .entry)) (now (lanes .entry)) (now (list .entry)))
         (longestRun (now (bytes .entry)) (now (lanes .entry)) (now (list .entry))) ⌝ }
     ensures list { λ r. ⌜ now (list .exit) ≡ listAfter (now (bytes .entry)) (now (lanes .entry)) (now (list .entry)) ⌝ }
-    ensures demand { λ r. ⌜ (Taken (now (bytes .entry)) (now (lanes .entry))
-        → Promised (now (bytes .entry)) (now (lanes .entry)) (now (list .exit)) (runningOf (now (bytes .entry)) (now (lanes .entry)) (now (list .entry)))) ⌝ }
+    ensures demand { λ r. ⌜ (Openable (now (bytes .entry)) (now (lanes .entry))
+        → DemandAndGrounds (now (bytes .entry)) (now (lanes .entry)) (now (list .exit)) (runningOf (now (bytes .entry)) (now (lanes .entry)) (now (list .entry)))) ⌝ }
 {
     let a = freeway::run_longest(bytes, lanes, list);
     crate::longest(a)

@@ -16,7 +16,7 @@ use Rattle.model.specs.Flow.{releaseAt, enteringAt}
 use Rattle.theory.specs.Roads.{step-row}
 use Rattle.theory.specs.RunsLaws.{StudyOk, SharedSteps, shared-less, engine-shared, outflows-shared}
 use Rattle.model.specs.Filling.{MeterState, capAt, meteredOf}
-use Rattle.ramps.specs.RampsLaws.{granted, filled-release, filled-most, last-release, last-entry}
+use Rattle.ramps.specs.RampsLaws.{granted-release, filled-release, filled-most, last-release, last-entry}
 use Rattle.model.specs.Filling.{meteredAfter, meteredFrom, grantedIn, filledStudy}
 use Rattle.filling.specs.FillingLaws.{filledRows, filled-road, filled-run}
 
@@ -83,9 +83,9 @@ module _ (laws : List Law) (a : Study) (ok : StudyOk a) where
     filled-by-law t h = record {
       ramp = λ d.
           released
-          ∙ granted laws (roadAt a t) (m t) (a .rows t) i .ramped (λ z. d (rw (ok .roads t .ramp) at z))
+          ∙ granted-release laws (roadAt a t) (m t) (a .rows t) i .ramped (λ z. d (rw (ok .roads t .ramp) at z))
           ∙ rw (last-is t (omega arith), entry-is t, filled-run laws a t, filled-road laws a t, filled-most laws (roadAt a t) (m t) (a .rows t) i);
-      noRamp = λ z. released ∙ granted laws (roadAt a t) (m t) (a .rows t) i .noRamp (rw (ok .roads t .ramp) z);
+      noRamp = λ z. released ∙ granted-release laws (roadAt a t) (m t) (a .rows t) i .noRamp (rw (ok .roads t .ramp) z);
     }
       where
         released : releaseAt (filledRows laws a t) i ≡ grantedIn laws a t i

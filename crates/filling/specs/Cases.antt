@@ -12,8 +12,8 @@ use Rattle.numbers.specs.Tests.{fault-elim, order}
 use Rattle.model.specs.Schedules.{Study, tableSize}
 use Rattle.model.specs.declared.Law.{Law}
 use Rattle.model.specs.Reading.{readingOf, studyOf}
-use Rattle.model.specs.Running.{EndAnswer, ended, noState, lanesFault, tableOf}
-use Rattle.model.specs.Demand.{Taken}
+use Rattle.model.specs.Running.{EndAnswer, endWith, noState, lanesFault, tableOf}
+use Rattle.model.specs.Demand.{Openable}
 use Rattle.model.specs.Filling.{meteredAfter, filledStudy, filledBytes, lawPlace, fillingOf, recordAfter, filledList}
 
 module _ (laws : List Law) (bytes lanes list : List ℕ) where
@@ -22,7 +22,7 @@ module _ (laws : List Law) (bytes lanes list : List ℕ) where
 
   -- the answer after all steps
   abbrev finished : EndAnswer
-  finished = ended 0 0 0 (a .road) (meteredAfter laws a (a .steps) .state)
+  finished = endWith 0 0 0 (a .road) (meteredAfter laws a (a .steps) .state)
 
   -- an answer, with the record and the list that it leaves
   pub record Leaves (answer : EndAnswer) (record-left list-left : List ℕ) : Type 0 where
@@ -81,13 +81,13 @@ module _ (laws : List Law) (bytes lanes list : List ℕ) where
     refused : (readingOf bytes .number ≡ 0 → ⊥) → Case
     law : readingOf bytes .number ≡ 0 → (lawPlace laws a ≡ 0 → ⊥) → Case
     closed : readingOf bytes .number ≡ 0 → lawPlace laws a ≡ 0 → (lanesFault a .number ≡ 0 → ⊥) → Case
-    short : Taken bytes lanes → lawPlace laws a ≡ 0 → length list < tableSize a → Case
-    all : Taken bytes lanes → lawPlace laws a ≡ 0 → tableSize a ≤ length list → Case
+    short : Openable bytes lanes → lawPlace laws a ≡ 0 → length list < tableSize a → Case
+    all : Openable bytes lanes → lawPlace laws a ≡ 0 → tableSize a ≤ length list → Case
 
   pub case-of : Case
   case-of =
       fault-elim (readingOf bytes .number) refused (λ reads.
       fault-elim (lawPlace laws a) (law reads) (λ finite.
       fault-elim (lanesFault a .number) (closed reads finite) (λ opens.
-      let taken : Taken bytes lanes = record { reads = reads; opens = opens } in
-      ⊎-elim (all taken finite) (short taken finite) (order (tableSize a) (length list)))))
+      let openable : Openable bytes lanes = record { reads = reads; opens = opens } in
+      ⊎-elim (all openable finite) (short openable finite) (order (tableSize a) (length list)))))

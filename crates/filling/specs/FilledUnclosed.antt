@@ -17,7 +17,7 @@ use Rattle.model.specs.Reading.{readingOf, studyOf}
 use Rattle.model.specs.Filling.{MeterState, meterStart, grantedAt, meteredOf}
 use Rattle.model.specs.Put.{putTable}
 use Rattle.put.specs.ReleasesLaws.{put-same}
-use Rattle.model.specs.Running.{EndAnswer, ended, noState}
+use Rattle.model.specs.Running.{EndAnswer, endWith, noState}
 use Rattle.theory.specs.TableLaws.{table-shared}
 use Rattle.theory.specs.NoClosures.{AllOpen, empty-one, open-passes, open-one}
 use Rattle.model.specs.Filling.{meteredAfter, meteredFrom, grantedIn, filledStudy, lawPlace, filledBytes, fillingOf, recordAfter, filledList}
@@ -37,7 +37,7 @@ plainFilling laws bytes list =
     unless (eqb (readingOf bytes .number) 0) (noState (readingOf bytes .number) (readingOf bytes .place))
     (unless (eqb (lawPlace laws (studyOf bytes [])) 0) (noState 16 (lawPlace laws (studyOf bytes [])))
     (unless (leb (tableSize (studyOf bytes [])) (length list)) (noState 11 0)
-    (ended 0 0 0 (studyOf bytes [] .road) (plainMetered laws (studyOf bytes []) (studyOf bytes [] .steps) .state))))
+    (endWith 0 0 0 (studyOf bytes [] .road) (plainMetered laws (studyOf bytes []) (studyOf bytes [] .steps) .state))))
 
 -- a study whose road is the same in each of its steps, as it is with the empty table and with all built lanes open
 module _ (laws : List Law) (a : Study) (one : (k : ℕ) → k < a .steps → roadAt a k ≡ a .road) where

@@ -23,13 +23,13 @@ use Rattle.model.specs.Meter.{lawFaultOf}
 use Rattle.model.specs.Flow.{gateArrivals, arrivalsAt, capacityAt, mostReleaseAt, supplyAt, cumulativeAt, enteringAt}
 use Rattle.model.specs.Move.{nextOf}
 use Rattle.theory.specs.RunsLaws.{StudyOk}
-use Rattle.theory.specs.VersionUnread.{stamped, OtherVersion, share-stamped, outflows-stamped, next-stamped, road-at, same-outflows}
+use Rattle.theory.specs.VersionUnread.{withVersion, OtherVersion, share-version, outflows-version, next-version, road-at, same-outflows}
 use Rattle.model.specs.Reading.{ReadAnswer, readingOf, studyBy, studyOf}
 use Rattle.model.specs.Filling.{MeterState, meterState, meterStart, wishAt, releaseOf, grantedAt, filledRow, nextMetered, meteredOf}
 use Rattle.model.specs.Put.{releaseNumber, releasedRow}
 use Rattle.put.specs.ReleasesLaws.{length-released, released-at, released-gate, released-arrivals}
 use Rattle.model.specs.Running.{EndAnswer, lanesFault, tableOf}
-use Rattle.model.specs.Demand.{Taken}
+use Rattle.model.specs.Demand.{Openable}
 use Rattle.theory.specs.Readable.{readable}
 use Rattle.theory.specs.VersionsAlike.{EndsAlike, same-places, same-table}
 use Rattle.filling.specs.FillingLaws.{filledRows}
@@ -40,7 +40,7 @@ use Rattle.filling.specs.Theorems.{only-releases}
 
 -- two studies that differ only in the road's version and seconds and in their releases
 pub record SameArrivals (a b : Study) : Type 0 where
-  pub road : b .road ≡ stamped (b .road .version) (b .road .seconds) (a .road)
+  pub road : b .road ≡ withVersion (b .road .version) (b .road .seconds) (a .road)
   pub start : b .start ≡ a .start
   pub steps : b .steps ≡ a .steps
   pub lanes : b .lanes ≡ a .lanes
@@ -81,7 +81,7 @@ released-alike f g n row other size same gate arrivals given =
 module _ (laws : List Law) (version seconds : ℕ) (r : Road) (m : MeterState) (row other : List ℕ) (size : length row ≡ 1 + 2 * r .n)
     (same : length other ≡ length row) (gate : gateArrivals other ≡ gateArrivals row) (arrivals : (i : ℕ) → arrivalsAt other i ≡ arrivalsAt row i) where
   abbrev q : Road
-  q = stamped version seconds r
+  q = withVersion version seconds r
 
   granted-alike : (i : ℕ) → grantedAt laws q m other i ≡ grantedAt laws r m row i
   unfolding grantedAt mostReleaseAt capacityAt
@@ -96,12 +96,12 @@ module _ (laws : List Law) (version seconds : ℕ) (r : Road) (m : MeterState) (
   next-alike : (full given : List ℕ) → nextMetered q m full given ≡ nextMetered r m full given
   next-alike full given =
       let y = outflowsOf r (m .state) full in
-      let e = outflows-stamped version seconds r (m .state) full in
+      let e = outflows-version version seconds r (m .state) full in
       ap (λ (z : List ℕ). meterState (nextOf q (m .state) full z) given (fillOf (enteringAt q (m .state) z) (r .n) (m .entries))) e
-      ∙ ap (λ (t : State). meterState t given (fillOf (enteringAt q (m .state) y) (r .n) (m .entries))) (next-stamped version seconds r (m .state) full y)
+      ∙ ap (λ (t : State). meterState t given (fillOf (enteringAt q (m .state) y) (r .n) (m .entries))) (next-version version seconds r (m .state) full y)
       ∙ ap (meterState (nextOf r (m .state) full y) given)
       (fill-same (enteringAt q (m .state) y) (enteringAt r (m .state) y) (r .n) (m .entries)
-      (λ i l. ap (λ (b : ℕ). enteringOf b (cumulativeAt (m .state) i) (at y i)) (share-stamped version seconds r i)))
+      (λ i l. ap (λ (b : ℕ). enteringOf b (cumulativeAt (m .state) i) (at y i)) (share-version version seconds r i)))
 
   metered-alike : meteredOf laws q m other ≡ meteredOf laws r m row
   unfolding meteredOf
@@ -119,7 +119,7 @@ module _ (laws : List Law) {a b : Study} (ok : StudyOk a) (h : SameArrivals a b)
   abbrev seconds : ℕ
   seconds = b .road .seconds
 
-  roads : (k : ℕ) → roadAt b k ≡ stamped version seconds (roadAt a k)
+  roads : (k : ℕ) → roadAt b k ≡ withVersion version seconds (roadAt a k)
   unfolding roadAt
   roads k = road-at {a = a} {b = study (b .road) (b .start) (b .steps) (a .rows) (b .lanes)}
       (record { road = h .road; start = h .start; steps = h .steps; rows = λ j l. refl; lanes = h .lanes }) k
@@ -145,26 +145,26 @@ module _ (laws : List Law) {a b : Study} (ok : StudyOk a) (h : SameArrivals a b)
       ∙ filled-alike laws version seconds (roadAt a k) (meteredAfter laws a k) (a .rows k) (b .rows k) (numbers k l) (h .size k l) (h .gate k l)
       (λ i. h .arrivals k i l)
 
-  filled-restamped : OtherVersion (filledStudy laws a) (filledStudy laws b)
-  filled-restamped = record { road = h .road; start = h .start; steps = h .steps; rows = rows-same; lanes = h .lanes }
+  filled-version : OtherVersion (filledStudy laws a) (filledStudy laws b)
+  filled-version = record { road = h .road; start = h .start; steps = h .steps; rows = rows-same; lanes = h .lanes }
 
   same-law : lawPlace laws b ≡ lawPlace laws a
   same-law = ap (λ (r : Road). lawFaultOf laws (r .ramp) (r .n)) (h .road)
 
   same-size : tableSize b ≡ tableSize a
-  same-size = same-table filled-restamped
+  same-size = same-table filled-version
 
   same-flows : (list : List ℕ) → tableOf (filledStudy laws b) list (b .steps) ≡ tableOf (filledStudy laws a) list (a .steps)
   same-flows list =
       ap (tableOf (filledStudy laws b) list) (h .steps)
-      ∙ front-same (outflowsAt (filledStudy laws b)) (outflowsAt (filledStudy laws a)) (b .road .n + 1) list (a .steps) (λ i l. same-outflows filled-restamped i l)
-      ∙ ap (λ (p : ℕ). frontOf (outflowsAt (filledStudy laws a)) p list (a .steps)) (same-places filled-restamped)
+      ∙ front-same (outflowsAt (filledStudy laws b)) (outflowsAt (filledStudy laws a)) (b .road .n + 1) list (a .steps) (λ i l. same-outflows filled-version i l)
+      ∙ ap (λ (p : ℕ). frontOf (outflowsAt (filledStudy laws a)) p list (a .steps)) (same-places filled-version)
 
   same-last : meteredAfter laws b (b .steps) .state ≡ meteredAfter laws a (a .steps) .state
   same-last = ap (λ (k : ℕ). meteredAfter laws b k .state) (h .steps) ∙ ap (λ (m : MeterState). m .state) (metered-same (a .steps) (le-refl (a .steps)))
 
 -- two records without a refusal
-pub filled-alike-by : (laws : List Law) (s t lanes list : List ℕ) → Taken s lanes → Taken t lanes → SameArrivals (studyOf s lanes) (studyOf t lanes)
+pub filled-alike-by : (laws : List Law) (s t lanes list : List ℕ) → Openable s lanes → Openable t lanes → SameArrivals (studyOf s lanes) (studyOf t lanes)
     → FilledAlike laws s t lanes list
 filled-alike-by laws s t lanes list first other h = go (case-of laws s lanes list)
   where
@@ -198,9 +198,9 @@ filled-alike-by laws s t lanes list first other h = go (case-of laws s lanes lis
         (λ z j m. filled-rows laws t lanes other j (omega (arith, h .steps)) ∙ rows-same laws ok h j m ∙ sym (filled-rows laws s lanes first j m))
 
 -- a record filled in either version gets the same releases
-pub restamped-alike : (laws : List Law) (s t lanes list : List ℕ) → Taken s lanes → Taken t lanes → OtherVersion (studyOf s lanes) (studyOf t lanes)
+pub other-version-alike : (laws : List Law) (s t lanes list : List ℕ) → Openable s lanes → Openable t lanes → OtherVersion (studyOf s lanes) (studyOf t lanes)
     → FilledAlike laws s t lanes list
-restamped-alike laws s t lanes list first other h =
+other-version-alike laws s t lanes list first other h =
     filled-alike-by laws s t lanes list first other (record {
       road = h .road;
       start = h .start;
@@ -212,19 +212,19 @@ restamped-alike laws s t lanes list first other h =
     })
 
 -- a record that differs from one without a refusal only in its releases has no refusal either
-only-taken : {s t lanes : List ℕ} → Taken s lanes → OnlyReleases s t → Taken t lanes
-only-taken {t = t} {lanes = lanes} first h = record {
+only-openable : {s t lanes : List ℕ} → Openable s lanes → OnlyReleases s t → Openable t lanes
+only-openable {t = t} {lanes = lanes} first h = record {
   reads = ap (λ (x : ReadAnswer). x .number) (h .reads) ∙ first .reads;
   opens = ap (λ (x : ReadAnswer). lanesFault (studyBy t lanes (x .road) (x .state) (x .steps)) .number) (h .reads) ∙ first .opens;
 }
 
 -- filling doesn't depend on the releases that the record held before
-pub releases-alike : (laws : List Law) (s t lanes list : List ℕ) → Taken s lanes → OnlyReleases s t → FilledAlike laws s t lanes list
+pub releases-alike : (laws : List Law) (s t lanes list : List ℕ) → Openable s lanes → OnlyReleases s t → FilledAlike laws s t lanes list
 releases-alike laws s t lanes list first h =
     let n = readingOf s .road .n in
     let e : readingOf t .road .n ≡ n = ap (λ (x : ReadAnswer). x .road .n) (h .reads) in
-    filled-alike-by laws s t lanes list first (only-taken first h) (record {
-      road = ap (λ (x : ReadAnswer). stamped (readingOf t .road .version) (readingOf t .road .seconds) (x .road)) (h .reads);
+    filled-alike-by laws s t lanes list first (only-openable first h) (record {
+      road = ap (λ (x : ReadAnswer). withVersion (readingOf t .road .version) (readingOf t .road .seconds) (x .road)) (h .reads);
       start = ap (λ (x : ReadAnswer). x .state) (h .reads);
       steps = ap (λ (x : ReadAnswer). x .steps) (h .reads);
       lanes = refl;
@@ -234,13 +234,13 @@ releases-alike laws s t lanes list first h =
     })
 
 -- if filling is not refused, no refusal of the record or the table applies
-pub filled-taken-by : (laws : List Law) (bytes lanes list : List ℕ) → fillingOf laws bytes lanes list .number ≡ 0 → Taken bytes lanes
-filled-taken-by laws bytes lanes list z = go (case-of laws bytes lanes list)
+pub filled-openable-by : (laws : List Law) (bytes lanes list : List ℕ) → fillingOf laws bytes lanes list .number ≡ 0 → Openable bytes lanes
+filled-openable-by laws bytes lanes list z = go (case-of laws bytes lanes list)
   where
     number : {e : EndAnswer} → fillingOf laws bytes lanes list ≡ e → e .number ≡ 0
     number g = ap (λ (x : EndAnswer). x .number) (sym g) ∙ z
 
-    go : Case laws bytes lanes list → Taken bytes lanes
+    go : Case laws bytes lanes list → Openable bytes lanes
     go (Case.refused h) = absurd (h (number (fills-refused laws bytes lanes list h .answers)))
     go (Case.law r h) = absurd (let q = number (fills-law laws bytes lanes list r h .answers) in omega arith)
     go (Case.closed r h n) = absurd (n (number (fills-closed laws bytes lanes list r h n .answers)))
@@ -248,6 +248,6 @@ filled-taken-by laws bytes lanes list z = go (case-of laws bytes lanes list)
     go (Case.all k h l) = k
 
 -- so filling a filled record gives the same answer, list and rows
-pub filled-twice : (laws : List Law) (bytes lanes list : List ℕ) → Taken bytes lanes → FilledAlike laws bytes (recordAfter laws bytes lanes list) lanes list
+pub filled-twice : (laws : List Law) (bytes lanes list : List ℕ) → Openable bytes lanes → FilledAlike laws bytes (recordAfter laws bytes lanes list) lanes list
 filled-twice laws bytes lanes list first =
     releases-alike laws bytes (recordAfter laws bytes lanes list) lanes list first (only-releases laws bytes lanes list)

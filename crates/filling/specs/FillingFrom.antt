@@ -10,7 +10,7 @@ use Rattle.model.specs.declared.Law.{Law}
 use Rattle.theory.specs.StepLaws.{number-of, fit-releases}
 use Rattle.theory.specs.Roads.{step-row, row-back}
 use Rattle.theory.specs.RunsLaws.{StudyOk, ReachedState}
-use Rattle.model.specs.Running.{runSays}
+use Rattle.model.specs.Running.{runFault}
 use Rattle.theory.specs.SchedulesLaws.{run-reached}
 use Rattle.model.specs.Filling.{MeterState, meteredOf}
 use Rattle.ramps.specs.RampsLaws.{granted-small, filled-fits, filled-row}
@@ -51,7 +51,7 @@ module _ (laws : List Law) (a : Study) (m : MeterState) (starts : a .start ≡ m
     pub filled-released : (k : ℕ) → k < a .steps → ReleasesFit (roadAt a k) (meteredFrom laws a m k .state) (rowsFrom laws a m k)
     filled-released k l = filled-fits laws (roadAt a k) (meteredFrom laws a m k) (a .rows k) (row-of k l .numbers)
 
-    pub filled-passes : (k : ℕ) → k < a .steps → runSays (filledFrom laws a m) k ≡ fault 0 0
+    pub filled-passes : (k : ℕ) → k < a .steps → runFault (filledFrom laws a m) k ≡ fault 0 0
     filled-passes k l =
         rw (filled-run k, filled-road k)
         (fit-releases (roadAt a k) (meteredFrom laws a m k .state) (rowsFrom laws a m k) (filled-released k l))

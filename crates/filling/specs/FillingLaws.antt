@@ -6,7 +6,7 @@ use Rattle.model.specs.Refusals.{fault}
 use Rattle.model.specs.Schedules.{Study, roadAt, ReleasesFit, engineAfter}
 use Rattle.model.specs.declared.Law.{Law}
 use Rattle.theory.specs.RunsLaws.{StudyOk, ReachedState}
-use Rattle.model.specs.Running.{runSays}
+use Rattle.model.specs.Running.{runFault}
 use Rattle.model.specs.Filling.{meterStart}
 use Rattle.model.specs.Filling.{meteredAfter, grantedIn, rowsFrom, filledStudy}
 use Rattle.filling.specs.FillingFrom as from
@@ -32,7 +32,7 @@ module _ (laws : List Law) (a : Study) where
     pub filled-released : (k : ℕ) → k < a .steps → ReleasesFit (roadAt a k) (meteredAfter laws a k .state) (filledRows laws a k)
     filled-released = from.filled-released laws a (meterStart (a .start)) refl ok
 
-    pub filled-passes : (k : ℕ) → k < a .steps → runSays (filledStudy laws a) k ≡ fault 0 0
+    pub filled-passes : (k : ℕ) → k < a .steps → runFault (filledStudy laws a) k ≡ fault 0 0
     filled-passes = from.filled-passes laws a (meterStart (a .start)) refl ok
 
     pub filled-reached : (k : ℕ) → k ≤ a .steps → ReachedState (filledStudy laws a) (engineAfter (filledStudy laws a) k) k

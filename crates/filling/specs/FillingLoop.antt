@@ -16,7 +16,7 @@ use Rattle.passes.specs.Rest.{restIn}
 use Rattle.passes.specs.Supplies.{NoRamp}
 use Rattle.passes.specs.RampList.{Listed, AtRamps}
 use Rattle.ramps.specs.Grants.{meterIn, Lasts}
-use Rattle.ramps.specs.LastStep.{cameIn, CameAsks, lasts-known}
+use Rattle.ramps.specs.LastStep.{cameIn, CameRequires, lasts-known}
 use Rattle.numbers.specs.TablesLaws.{row-ends, mul-more}
 use Rattle.model.specs.declared.Road.{Road}
 use Rattle.model.specs.declared.State.{State}
@@ -34,7 +34,7 @@ use Rattle.theory.specs.TableLaws.{length-table, table-none, table-more}
 use Rattle.theory.specs.Readable.{Readable}
 use Rattle.model.specs.Filling.{meteredFrom, grantedFrom, rowsFrom, filledFrom}
 use Rattle.filling.specs.FillingFrom.{filled-road, filled-run, releases-small, filled-ok, filled-released, filled-reached}
-use Rattle.filling.specs.Turn.{ArraysOk, kept-on, FillAsks, FilledRow}
+use Rattle.filling.specs.Turn.{ArraysOk, kept-on, FillRequires, FillGives}
 
 -- what filling step by step requires: a record that reads, whose rows are the study's, and a list that is long enough
 pub record Fillable (bytes : List ℕ) (a : Study) (list : List ℕ) : Type 0 where
@@ -59,9 +59,9 @@ pub record FillableFrom (bytes : List ℕ) (a : Study) (m : MeterState) (list : 
   pub longReleases : a .road .n ≤ length (m .releases)
   pub longEntries : a .road .n ≤ length (m .entries)
 
-pub came-asks : {bytes : List ℕ} {a : Study} {m : MeterState} {list : List ℕ} → FillableFrom bytes a m list
-    → CameAsks (a .road .n) (a .start .held) (a .start .cumulative) (m .entries)
-came-asks h =
+pub came-ready : {bytes : List ℕ} {a : Study} {m : MeterState} {list : List ℕ} → FillableFrom bytes a m list
+    → CameRequires (a .road .n) (a .start .held) (a .start .cumulative) (m .entries)
+came-ready h =
     let ok = h .fillable .readable .ok in
     record {
       cells = ok .road .cells;
@@ -75,13 +75,13 @@ abbrev emptyColumn : List ℕ
 emptyColumn = replicate 65 0
 
 pub work-begun : {m : MeterState} {P : ℕ → Type 0} {n ramps : ℕ} {cell release came : List ℕ} → Listed P n ramps cell
-    → CameAsks n (m .state .held) (m .state .cumulative) (m .entries) → release ≡ fillOf (λ j. at (m .releases) (at cell j)) ramps emptyColumn
+    → CameRequires n (m .state .held) (m .state .cumulative) (m .entries) → release ≡ fillOf (λ j. at (m .releases) (at cell j)) ramps emptyColumn
     → came ≡ fillOf (cameIn (m .state .held) (m .state .cumulative) (m .entries)) n emptyColumn →
     let work : Table = set (set (replicate 5 emptyColumn) 1 release) 4 came in
     Lasts m ramps cell work × LongColumns n work
-work-begun {m} {n = n} {ramps} {cell} listed asks er ec =
-    let long : n ≤ length emptyColumn = omega (arith, length-replicate {A = ℕ} 65 0, asks .cells) in (
-      lasts-known emptyColumn emptyColumn listed asks er long ec long,
+work-begun {m} {n = n} {ramps} {cell} listed ready er ec =
+    let long : n ≤ length emptyColumn = omega (arith, length-replicate {A = ℕ} 65 0, ready .cells) in (
+      lasts-known emptyColumn emptyColumn listed ready er long ec long,
       record {
         columns = refl;
         room = long;
@@ -179,7 +179,7 @@ module _ {laws : List Law} {bytes : List ℕ} {a : Study} {m₀ : MeterState} {l
       row-is = rw (row-now, em, e)
 
       pub fills : {kinds : List ℕ} {numbers : List Float} {y : List ℕ} → InColumns laws kinds numbers → length y ≡ places a
-          → FillAsks laws now q u state releases entries k kinds numbers ramps cell work y
+          → FillRequires laws now q u state releases entries k kinds numbers ramps cell work y
       fills columns p = record {
         held = record {
           cells = omega (arith, roads .n, ok .readable .row k l .cells);
@@ -213,7 +213,7 @@ module _ {laws : List Law} {bytes : List ℕ} {a : Study} {m₀ : MeterState} {l
       outflows ey = ey ∙ rw (row-is, e, h .state, filled-run laws a m₀ starts k, filled-road laws a m₀ starts k)
 
       pub filled-more : {next : List ℕ} {t : Ledger} {state₁ work₁ : Table} {part : List ℕ}
-          → FilledRow laws now q u state releases entries k next t state₁ ramps cell work₁ part
+          → FillGives laws now q u state releases entries k next t state₁ ramps cell work₁ part
           → FilledSteps laws bytes a m₀ list next (take to out ++ (part ++ drop (to + places a - to) (drop to out))) t state₁ ramps cell work₁ (k + 1) (to + places a)
       unfolding putTable
       filled-more {part = part} f = record {

@@ -59,22 +59,22 @@ entered-is r s row y z (suc i) l =
     (let g : at (nextOf r s row y .cumulative) i - at y (suc i) ≡ at (s .cumulative) i = omega (arith, e) in g)
 
 -- what the code requires: shares, outflows that are at most F, and a row of outflows
-pub record EntriesAsk (n : ℕ) (share cumulative y : List ℕ) : Type 0 where
+pub record EntriesRequire (n : ℕ) (share cumulative y : List ℕ) : Type 0 where
   pub cells : n ≤ mostCells
   pub shares : (i : ℕ) → i < n → at share i ≤ whole
   pub sent : (i : ℕ) → i < n → at y (i + 1) ≤ at cumulative i
   pub places : length y ≡ n + 1
 
 -- the same for a filled record and its list of outflows: the row of the last step is in both
-pub record LastAsks (bytes : List ℕ) (r : Road) (steps : ℕ) (cumulative out : List ℕ) : Type 0 where
+pub record LastStepRequires (bytes : List ℕ) (r : Road) (steps : ℕ) (cumulative out : List ℕ) : Type 0 where
   pub some : 1 ≤ steps
   pub holds : HoldsRow bytes (r .n) (steps - 1)
   pub small : steps * (r .n + 1) ≤ mostOutflows
   pub long : steps * (r .n + 1) ≤ length out
-  pub asks : EntriesAsk (r .n) (r .share) cumulative (rowAt out (r .n + 1) (steps - 1))
+  pub ready : EntriesRequire (r .n) (r .share) cumulative (rowAt out (r .n + 1) (steps - 1))
 
 -- where it is in the list
-pub last-row : {bytes : List ℕ} {r : Road} {steps : ℕ} {cumulative out : List ℕ} → LastAsks bytes r steps cumulative out
+pub last-row : {bytes : List ℕ} {r : Road} {steps : ℕ} {cumulative out : List ℕ} → LastStepRequires bytes r steps cumulative out
     → (steps - 1) * (r .n + 1) + (r .n + 1) ≡ steps * (r .n + 1)
 last-row {r = r} {steps} h =
     let e : steps ≡ steps - 1 + 1 = omega (arith, h .some) in
@@ -152,10 +152,10 @@ module _ (laws : List Law) (a : Study) (m : MeterState) (starts : a .start ≡ m
         ∙ ap (λ (n : ℕ). fillOf f n (M .entries)) (sym cells)
 
     -- so the code's precondition holds
-    pub entries-ask : {y : List ℕ} → y ≡ outflowsAt (filledFrom laws a m) k → length y ≡ a .road .n + 1
-        → EntriesAsk (a .road .n) (a .road .share) (meteredFrom laws a m (suc k) .state .cumulative) y
+    pub entries-ready : {y : List ℕ} → y ≡ outflowsAt (filledFrom laws a m) k → length y ≡ a .road .n + 1
+        → EntriesRequire (a .road .n) (a .road .share) (meteredFrom laws a m (suc k) .state .cumulative) y
     unfolding meteredFrom meteredOf cumulativeAt
-    entries-ask {y} ey p =
+    entries-ready {y} ey p =
         let row = rowsFrom laws a m k in
         let z = outflowsOf q (M .state) row in
         record {
@@ -207,8 +207,8 @@ module _ {bytes : List ℕ} {a : Study} {list : List ℕ} (laws : List Law) (m :
     after-last : u ≡ meteredFrom laws a m (suc (a .steps - 1)) .state
     after-last = eu ∙ ap (λ (j : ℕ). meteredFrom laws a m j .state) (sym whole-run)
 
-    pub last-asks : LastAsks after (a .road) (a .steps) (u .cumulative) out
-    last-asks = record {
+    pub last-ready : LastStepRequires after (a .road) (a .steps) (u .cumulative) out
+    last-ready = record {
       some = some;
       holds = record {
         cells = ok .fillable .readable .row k less .cells;
@@ -216,9 +216,9 @@ module _ {bytes : List ℕ} {a : Study} {list : List ℕ} (laws : List Law) (m :
       };
       small = ok .fillable .readable .outflows;
       long = omega (arith, size-known, ok .fillable .long);
-      asks =
-          subst⁻¹ (λ (s : State). EntriesAsk (a .road .n) (a .road .share) (s .cumulative) (rowAt out (a .road .n + 1) (a .steps - 1))) after-last
-          (entries-ask laws a m starts okay (ok .longReleases) (ok .longEntries) k less flows-known
+      ready =
+          subst⁻¹ (λ (s : State). EntriesRequire (a .road .n) (a .road .share) (s .cumulative) (rowAt out (a .road .n + 1) (a .steps - 1))) after-last
+          (entries-ready laws a m starts okay (ok .longReleases) (ok .longEntries) k less flows-known
           (ap length flows-known ∙ ap length (last-outflows laws a m starts okay (ok .longReleases) (ok .longEntries) k less)
           ∙ length-outflows (roadAt a k) (meteredFrom laws a m k .state) (rowsFrom laws a m k) ∙ ap (λ (n : ℕ). n + 1) (okay .roads k .n)));
     }

@@ -20,16 +20,16 @@ pub record Long (n : ℕ) (p : Progress) : Type 0 where
   pub entries : n ≤ length (p .entries)
 
 -- the record reads and has a step, and neither 7 nor 8 applies
-pub record Started (bytes : List ℕ) (a : Study) (m : MeterState) : Type 0 where
+pub record ProgressOk (bytes : List ℕ) (a : Study) (m : MeterState) : Type 0 where
   pub readable : Readable bytes a
   pub some : 1 ≤ a .steps
   pub entered : (i : ℕ) → i < a .road .n → at (m .entries) i ≤ at (a .start .held) i
   pub releases : a .road .n ≤ length (m .releases)
   pub entries : a .road .n ≤ length (m .entries)
 
-pub started-fillable : {bytes : List ℕ} {a : Study} {m : MeterState} {list : List ℕ} → Started bytes a m
+pub progress-fillable : {bytes : List ℕ} {a : Study} {m : MeterState} {list : List ℕ} → ProgressOk bytes a m
     → ((k : ℕ) → a .rows k ≡ recordRow bytes (a .road .n) k) → tableSize a ≤ length list → FillableFrom bytes a m list
-started-fillable h rows long = record {
+progress-fillable h rows long = record {
   fillable = record { readable = h .readable; rows = rows; long = long };
   entered = h .entered;
   longReleases = h .releases;

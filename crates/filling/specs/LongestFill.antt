@@ -19,8 +19,8 @@ use Rattle.filling.specs.Cases.{fills-all}
 abbrev pub longestFrom : List Law → Study → MeterState → Queues
 longestFrom laws a m = longestOf (a .road .n) (λ k. meteredFrom laws a m k .state) (a .steps)
 
-abbrev pub longestFilled : List Law → Study → Queues
-longestFilled laws a = longestFrom laws a (meterStart (a .start))
+abbrev pub longestFromStart : List Law → Study → Queues
+longestFromStart laws a = longestFrom laws a (meterStart (a .start))
 
 module _ (laws : List Law) (bytes lanes list : List ℕ) where
   -- after a refusal no step is done
@@ -34,7 +34,7 @@ module _ (laws : List Law) (bytes lanes list : List ℕ) where
 
   -- without a refusal all steps are done
   pub longest-all : readingOf bytes .number ≡ 0 → lawPlace laws (studyOf bytes lanes) ≡ 0 → lanesFault (studyOf bytes lanes) .number ≡ 0
-      → tableSize (studyOf bytes lanes) ≤ length list → longestFill laws bytes lanes list ≡ longestFilled laws (studyOf bytes lanes)
+      → tableSize (studyOf bytes lanes) ≤ length list → longestFill laws bytes lanes list ≡ longestFromStart laws (studyOf bytes lanes)
   unfolding longestFill
   longest-all reads finite opens l =
       let a = studyOf bytes lanes in

@@ -20,13 +20,13 @@ use Rattle.model.specs.Meter.{lawFaultOf}
 use Rattle.model.specs.Stepping.{tableFault}
 use Rattle.model.specs.Schedules.{Study, tableSize}
 use Rattle.model.specs.Reading.{ReadAnswer, readingOf, studyBy}
-use Rattle.model.specs.Running.{EndAnswer, ended, noState, lanesFault, stepsMade, tableOf}
+use Rattle.model.specs.Running.{EndAnswer, endWith, noState, lanesFault, stepsMade, tableOf}
 use Rattle.model.specs.Filling.{MeterState, meterState, meterStart}
 use Rattle.model.specs.Put.{putTable}
 use Rattle.model.specs.Filling.{lawPlace, meteredFrom, grantedFrom, filledFrom}
 use Rattle.model.specs.Longest.{Queues, longestOf}
 use Rattle.model.specs.GoingOn.{studyAfter, entriesOk, progressFault, fillingOn, progressOn, recordOn, filledListOn, longestFillOn}
-use Rattle.theory.specs.StartingState.{Begins}
+use Rattle.theory.specs.StartingState.{StartOk}
 use Rattle.counts.specs.Longest.{noQueues}
 use Rattle.counts.specs.LongestLaws.{longest-none}
 use Rattle.filling.specs.LongestFill.{longestFrom}
@@ -42,7 +42,7 @@ module _ (laws : List Law) (bytes lanes : List ℕ) (m : MeterState) (list : Lis
   a = studyAfter bytes lanes m
 
   abbrev finished : EndAnswer
-  finished = ended 0 0 0 (a .road) (meteredFrom laws a m (a .steps) .state)
+  finished = endWith 0 0 0 (a .road) (meteredFrom laws a m (a .steps) .state)
 
   -- the answer, the record and the list afterwards, the longest queues, and what a further record goes on from
   abbrev pub PromiseOn : EndAnswer → List ℕ → List ℕ → Queues → MeterState → Type 0
@@ -138,10 +138,10 @@ module _ (laws : List Law) (bytes lanes : List ℕ) (m : MeterState) (list : Lis
             starts = sym start-is ∙ z
 
             -- the start is within its limits, and so are the last entries
-            begins-on : Begins (studyAfter bytes lanes m) × ((i : ℕ) → i < readingOf bytes .road .n → at (m .entries) i ≤ at (m .state .held) i)
+            begins-on : StartOk (studyAfter bytes lanes m) × ((i : ℕ) → i < readingOf bytes .road .n → at (m .entries) i ≤ at (m .state .held) i)
             unfolding progressFault entriesOk
             begins-on =
-                let P = Begins a × ((i : ℕ) → i < readingOf bytes .road .n → at (m .entries) i ≤ at (m .state .held) i) in
+                let P = StartOk a × ((i : ℕ) → i < readingOf bytes .road .n → at (m .entries) i ≤ at (m .state .held) i) in
                 let test = stateOk (a .road) (m .state) && allOf (λ i. leb (at (m .entries) i) (at (m .state .held) i)) (a .road .n) in
                 unless-elim (λ (k : ℕ). k ≡ 0 → P) test (λ _ e. absurd (omega arith)) (λ y.
                 unless-elim (λ (k : ℕ). k ≡ 0 → P) (leb (a .start .done + a .steps) mostSteps) (λ _ e. absurd (omega arith)) (λ l e.
@@ -150,7 +150,7 @@ module _ (laws : List Law) (bytes lanes : List ℕ) (m : MeterState) (list : Lis
                   λ i less. leb-true _ _ (all-at (λ j. leb (at (m .entries) j) (at (m .state .held) j)) (a .road .n) (b .1) i less),
                 ))) starts
 
-            pub starts-found : Begins (studyBy bytes lanes (x .road) (m .state) (x .steps))
+            pub starts-found : StartOk (studyBy bytes lanes (x .road) (m .state) (x .steps))
                 × ((i : ℕ) → i < x .road .n → at (m .entries) i ≤ at (m .state .held) i)
             starts-found = rw ex begins-on
 
@@ -165,7 +165,7 @@ module _ (laws : List Law) (bytes lanes : List ℕ) (m : MeterState) (list : Lis
                 ee eq ep
 
             pub on-all : {e : EndAnswer} {after out : List ℕ} {q : Queues} {p : MeterState} → tableSize (studyBy bytes lanes (x .road) (m .state) (x .steps)) ≤ length list
-                → e ≡ ended 0 0 0 (x .road) (meteredFrom laws (studyBy bytes lanes (x .road) (m .state) (x .steps)) m (x .steps) .state)
+                → e ≡ endWith 0 0 0 (x .road) (meteredFrom laws (studyBy bytes lanes (x .road) (m .state) (x .steps)) m (x .steps) .state)
                 → after ≡ putTable bytes (x .road .n) (grantedFrom laws (studyBy bytes lanes (x .road) (m .state) (x .steps)) m) (x .steps)
                 → out ≡ tableOf (filledFrom laws (studyBy bytes lanes (x .road) (m .state) (x .steps)) m) list (x .steps)
                 → q ≡ longestFrom laws (studyBy bytes lanes (x .road) (m .state) (x .steps)) m

@@ -15,16 +15,16 @@ use Rattle.put.specs.ReleasesLaws.{PutTable, put-table, table-head}
 use Rattle.put.specs.SameReading.{rows-replaced}
 use Rattle.theory.specs.StepLaws.{number-of}
 use Rattle.theory.specs.RunsLaws.{StudyOk, SharedSteps, shared-less, engine-shared}
-use Rattle.model.specs.Running.{runSays, firstStep, ended, lanesFault, runEnd, runningOf, tableOf, listAfter}
+use Rattle.model.specs.Running.{runFault, firstStep, endWith, lanesFault, runEnd, runningOf, tableOf, listAfter}
 use Rattle.theory.specs.SchedulesLaws.{runTable, step-none, end-all}
 use Rattle.theory.specs.TableLaws.{table-shared}
 use Rattle.theory.specs.RunEnds.{runs-long, writes-long}
-use Rattle.model.specs.Demand.{Taken}
+use Rattle.model.specs.Demand.{Openable}
 use Rattle.theory.specs.Readable.{readable}
 use Rattle.model.specs.Filling.{meteredAfter, grantedIn, filledStudy, filledBytes}
 use Rattle.filling.specs.FillingLaws.{filledRows, filled-run, releases-small, filled-ok, filled-passes}
 
-module _ (laws : List Law) (bytes lanes : List ℕ) (taken : Taken bytes lanes) where
+module _ (laws : List Law) (bytes lanes : List ℕ) (openable : Openable bytes lanes) where
   abbrev a : Study
   a = studyOf bytes lanes
 
@@ -35,13 +35,13 @@ module _ (laws : List Law) (bytes lanes : List ℕ) (taken : Taken bytes lanes) 
   filled = filledBytes laws bytes lanes
 
   ok : StudyOk (studyOf bytes lanes)
-  ok = readable bytes lanes (readingOf bytes) refl (taken .reads) (taken .opens) .ok
+  ok = readable bytes lanes (readingOf bytes) refl (openable .reads) (openable .opens) .ok
 
   -- only the releases of its rows change
   pub filled-table : PutTable bytes (filledBytes laws bytes lanes) (studyOf bytes lanes .road .n) (grantedIn laws (studyOf bytes lanes)) (studyOf bytes lanes .steps)
   unfolding filledBytes
   filled-table =
-      put-table bytes (a .road .n) (grantedIn laws a) (a .steps) (readable bytes lanes (readingOf bytes) refl (taken .reads) (taken .opens) .row)
+      put-table bytes (a .road .n) (grantedIn laws a) (a .steps) (readable bytes lanes (readingOf bytes) refl (openable .reads) (openable .opens) .row)
       (λ t i l m. releases-small laws a t i)
 
   -- its rows are the filled ones
@@ -54,7 +54,7 @@ module _ (laws : List Law) (bytes lanes : List ℕ) (taken : Taken bytes lanes) 
   -- it reads as the record did
   pub filled-reads : readingOf (filledBytes laws bytes lanes) ≡ readingOf bytes
   filled-reads =
-      rows-replaced bytes filled (filled-table .size) (taken .reads) (table-head filled-table)
+      rows-replaced bytes filled (filled-table .size) (openable .reads) (table-head filled-table)
       (λ t l. rw (filled-rows t l) (row-ok (a .road) (filledRows laws a t) (ok .road) (filled-ok laws a ok .row t l)))
 
   pub same-study : studyOf (filledBytes laws bytes lanes) lanes
@@ -67,20 +67,20 @@ module _ (laws : List Law) (bytes lanes : List ℕ) (taken : Taken bytes lanes) 
   unfolding roadAt
   filled-shared = record { start = refl; roads = λ j l. refl; rows = filled-rows }
 
-  filled-says : (k : ℕ) → k < a .steps → runSays (studyBy filled lanes (a .road) (a .start) (a .steps)) k .number ≡ 0
-  filled-says k l =
-      let e : runSays (studyBy filled lanes (a .road) (a .start) (a .steps)) k ≡ runSays b k =
+  filled-faults : (k : ℕ) → k < a .steps → runFault (studyBy filled lanes (a .road) (a .start) (a .steps)) k .number ≡ 0
+  filled-faults k l =
+      let e : runFault (studyBy filled lanes (a .road) (a .start) (a .steps)) k ≡ runFault b k =
       rw (engine-shared k (shared-less filled-shared k (omega arith)), filled-shared .roads k l, filled-shared .rows k l) in
       number-of (e ∙ filled-passes laws a ok k l)
 
-  none : firstStep (runSays (studyBy filled lanes (a .road) (a .start) (a .steps))) (a .steps) ≡ a .steps
-  none = step-none (runSays (studyBy filled lanes (a .road) (a .start) (a .steps))) (a .steps) filled-says
+  none : firstStep (runFault (studyBy filled lanes (a .road) (a .start) (a .steps))) (a .steps) ≡ a .steps
+  none = step-none (runFault (studyBy filled lanes (a .road) (a .start) (a .steps))) (a .steps) filled-faults
 
   -- so no refusal applies to it under the table that it was filled with
-  pub filled-taken : Taken (filledBytes laws bytes lanes) lanes
-  filled-taken = record {
-    reads = ap (λ (x : ReadAnswer). x .number) filled-reads ∙ taken .reads;
-    opens = ap (λ (x : Study). lanesFault x .number) same-study ∙ taken .opens;
+  pub filled-openable : Openable (filledBytes laws bytes lanes) lanes
+  filled-openable = record {
+    reads = ap (λ (x : ReadAnswer). x .number) filled-reads ∙ openable .reads;
+    opens = ap (λ (x : Study). lanesFault x .number) same-study ∙ openable .opens;
   }
 
   -- running it with a list that is long enough is not refused, and ends in the state of filling
@@ -92,17 +92,17 @@ module _ (laws : List Law) (bytes lanes : List ℕ) (taken : Taken bytes lanes) 
     long-on = subst⁻¹ (λ (x : Study). tableSize x ≤ length list) same-study long
 
     pub filled-runs : runningOf (filledBytes laws bytes lanes) lanes list
-        ≡ ended 0 0 0 (studyOf bytes lanes .road) (meteredAfter laws (studyOf bytes lanes) (studyOf bytes lanes .steps) .state)
+        ≡ endWith 0 0 0 (studyOf bytes lanes .road) (meteredAfter laws (studyOf bytes lanes) (studyOf bytes lanes .steps) .state)
     filled-runs =
-        runs-long filled lanes filled-taken list long-on
+        runs-long filled lanes filled-openable list long-on
         ∙ ap runEnd same-study
-        ∙ end-all c (runSays c) (engineAfter c) none
-        ∙ ap (ended 0 0 0 (a .road)) (engine-shared (a .steps) filled-shared ∙ filled-run laws a (a .steps))
+        ∙ end-all c (runFault c) (engineAfter c) none
+        ∙ ap (endWith 0 0 0 (a .road)) (engine-shared (a .steps) filled-shared ∙ filled-run laws a (a .steps))
 
     -- it writes the outflows of all filled steps
     pub filled-writes : listAfter (filledBytes laws bytes lanes) lanes list ≡ tableOf (filledStudy laws (studyOf bytes lanes)) list (studyOf bytes lanes .steps)
     filled-writes =
-        writes-long filled lanes filled-taken list long-on
+        writes-long filled lanes filled-openable list long-on
         ∙ ap (λ (x : Study). runTable x list) same-study
         ∙ ap (tableOf c list) none
         ∙ table-shared refl list (a .steps) filled-shared

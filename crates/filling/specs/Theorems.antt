@@ -16,37 +16,37 @@ use Rattle.theory.specs.RunsLaws.{StudyOk, shared-less}
 use Rattle.model.specs.Running.{EndAnswer, runningOf, listAfter}
 use Rattle.theory.specs.RunEnds.{runs-refused, writes-refused, runs-closed, writes-closed, runs-short, writes-short}
 use Rattle.theory.specs.Readable.{readable}
-use Rattle.model.specs.Demand.{Taken, Promised}
-use Rattle.theory.specs.DemandWhole.{unbegun, promised}
+use Rattle.model.specs.Demand.{Openable, DemandAndGrounds}
+use Rattle.theory.specs.DemandWhole.{unbegun, demand-and-grounds}
 use Rattle.ramps.specs.RampsLaws.{filled-gate, filled-arrivals}
-use Rattle.filling.specs.Rerun.{filled-table, filled-rows, filled-reads, same-study, filled-shared, filled-taken, filled-runs, filled-writes}
+use Rattle.filling.specs.Rerun.{filled-table, filled-rows, filled-reads, same-study, filled-shared, filled-openable, filled-runs, filled-writes}
 use Rattle.filling.specs.Cases.{Leaves, fills-refused, fills-law, fills-closed, fills-short, fills-all, Case, case-of}
 use Rattle.filling.specs.ByLaw.{ByLaw, filled-by-law, shared-by-law}
 
 unchanged : (bytes : List ℕ) → OnlyReleases bytes bytes
 unchanged bytes = record { size = refl; byte = λ b o. refl; reads = refl; gate = λ t l. refl; arrivals = λ t i l. refl }
 
-module _ (laws : List Law) (bytes lanes : List ℕ) (taken : Taken bytes lanes) where
+module _ (laws : List Law) (bytes lanes : List ℕ) (openable : Openable bytes lanes) where
   abbrev a : Study
   a = studyOf bytes lanes
 
   filled-only : OnlyReleases bytes (filledBytes laws bytes lanes)
   filled-only = record {
-    size = filled-table laws bytes lanes taken .size;
-    byte = filled-table laws bytes lanes taken .byte;
-    reads = filled-reads laws bytes lanes taken;
+    size = filled-table laws bytes lanes openable .size;
+    byte = filled-table laws bytes lanes openable .byte;
+    reads = filled-reads laws bytes lanes openable;
     gate = λ t l.
-        ap gateArrivals (filled-rows laws bytes lanes taken t l) ∙ filled-gate laws (roadAt a t) (meteredAfter laws a t) (a .rows t);
+        ap gateArrivals (filled-rows laws bytes lanes openable t l) ∙ filled-gate laws (roadAt a t) (meteredAfter laws a t) (a .rows t);
     arrivals = λ t i l.
-        ap (λ (row : List ℕ). arrivalsAt row i) (filled-rows laws bytes lanes taken t l)
+        ap (λ (row : List ℕ). arrivalsAt row i) (filled-rows laws bytes lanes openable t l)
         ∙ filled-arrivals laws (roadAt a t) (meteredAfter laws a t) (a .rows t) i;
   }
 
   by-law : (t i : ℕ) → t < a .steps → i < a .road .n → ByLaw laws (studyOf (filledBytes laws bytes lanes) lanes) t i
   by-law t i l j =
-      let ok : StudyOk (studyOf bytes lanes) = readable bytes lanes (readingOf bytes) refl (taken .reads) (taken .opens) .ok in
-      rw (same-study laws bytes lanes taken)
-      (shared-by-law i t refl (shared-less (filled-shared laws bytes lanes taken) _ l) (filled-by-law laws a ok i j t l))
+      let ok : StudyOk (studyOf bytes lanes) = readable bytes lanes (readingOf bytes) refl (openable .reads) (openable .opens) .ok in
+      rw (same-study laws bytes lanes openable)
+      (shared-by-law i t refl (shared-less (filled-shared laws bytes lanes openable) _ l) (filled-by-law laws a ok i j t l))
 
 -- 1: filling changes only the record's releases
 pub only-releases : (laws : List Law) (bytes lanes list : List ℕ) → OnlyReleases bytes (recordAfter laws bytes lanes list)
@@ -81,7 +81,7 @@ rerun laws bytes lanes list n = go (case-of laws bytes lanes list)
         rerun-by (fills-all laws bytes lanes list (k .reads) h (k .opens) l) (filled-runs laws bytes lanes k list l) (filled-writes laws bytes lanes k list l)
 
 -- so filling is never refused with 9 or 10
-pub never-refused : (laws : List Law) (bytes lanes list : List ℕ) → Taken bytes lanes → lawPlace laws (studyOf bytes lanes) ≡ 0
+pub never-refused : (laws : List Law) (bytes lanes list : List ℕ) → Openable bytes lanes → lawPlace laws (studyOf bytes lanes) ≡ 0
     → tableSize (studyOf bytes lanes) ≤ length list → fillingOf laws bytes lanes list .number ≡ 0
 never-refused laws bytes lanes list k h l = ap (λ (e : EndAnswer). e .number) (fills-all laws bytes lanes list (k .reads) h (k .opens) l .answers)
 
@@ -101,24 +101,24 @@ each-by-law laws bytes lanes list z t i lt li = go (case-of laws bytes lanes lis
     go (Case.all k h l) = rw (fills-all laws bytes lanes list (k .reads) h (k .opens) l .bytes-are) (by-law laws bytes lanes k t i lt li)
 
 -- 4: demand 3 for the filled record, its list and the answer: every rival has the filled releases
-pub filled-promised : (laws : List Law) (bytes lanes list : List ℕ) → Taken bytes lanes
-    → Promised (recordAfter laws bytes lanes list) lanes (filledList laws bytes lanes list) (fillingOf laws bytes lanes list)
+pub filled-promised : (laws : List Law) (bytes lanes list : List ℕ) → Openable bytes lanes
+    → DemandAndGrounds (recordAfter laws bytes lanes list) lanes (filledList laws bytes lanes list) (fillingOf laws bytes lanes list)
 unfolding began oneOf
-filled-promised laws bytes lanes list taken = go (case-of laws bytes lanes list)
+filled-promised laws bytes lanes list openable = go (case-of laws bytes lanes list)
   where
-    by : {e : EndAnswer} {after out : List ℕ} → Leaves laws bytes lanes list e after out → Promised after lanes out e
-        → Promised (recordAfter laws bytes lanes list) lanes (filledList laws bytes lanes list) (fillingOf laws bytes lanes list)
+    by : {e : EndAnswer} {after out : List ℕ} → Leaves laws bytes lanes list e after out → DemandAndGrounds after lanes out e
+        → DemandAndGrounds (recordAfter laws bytes lanes list) lanes (filledList laws bytes lanes list) (fillingOf laws bytes lanes list)
     by h p = rw (h .bytes-are, h .list-is, h .answers) p
 
     go : Case laws bytes lanes list
-        → Promised (recordAfter laws bytes lanes list) lanes (filledList laws bytes lanes list) (fillingOf laws bytes lanes list)
-    go (Case.refused h) = absurd (h (taken .reads))
+        → DemandAndGrounds (recordAfter laws bytes lanes list) lanes (filledList laws bytes lanes list) (fillingOf laws bytes lanes list)
+    go (Case.refused h) = absurd (h (openable .reads))
     go (Case.law r h) =
-        by (fills-law laws bytes lanes list r h) (unbegun bytes lanes taken list 16 (lawPlace laws (studyOf bytes lanes)) (λ e. omega arith) refl)
-    go (Case.closed r h n) = absurd (n (taken .opens))
+        by (fills-law laws bytes lanes list r h) (unbegun bytes lanes openable list 16 (lawPlace laws (studyOf bytes lanes)) (λ e. omega arith) refl)
+    go (Case.closed r h n) = absurd (n (openable .opens))
     go (Case.short k h l) =
-        by (fills-short laws bytes lanes list (k .reads) h (k .opens) l) (unbegun bytes lanes taken list 11 0 (λ e. omega arith) refl)
+        by (fills-short laws bytes lanes list (k .reads) h (k .opens) l) (unbegun bytes lanes openable list 11 0 (λ e. omega arith) refl)
     go (Case.all k h l) =
         by (fills-all laws bytes lanes list (k .reads) h (k .opens) l)
         (rw (← filled-runs laws bytes lanes k list l, ← filled-writes laws bytes lanes k list l)
-        (promised (filledBytes laws bytes lanes) lanes (filled-taken laws bytes lanes k) list))
+        (demand-and-grounds (filledBytes laws bytes lanes) lanes (filled-openable laws bytes lanes k) list))

@@ -25,14 +25,14 @@ use Rattle.passes.specs.declared.columns.Size.{Size}
 use Rattle.passes.specs.Tables.{Table, roadIn, stateIn, cellCol, heldCol, roomCol, demandCol, cameCol, LongColumns}
 use Rattle.passes.specs.Tables.{StoredRooms, store-rooms, StoredDemands, store-demands}
 use Rattle.passes.specs.Rest.{Remainders}
-use Rattle.passes.specs.Supplies.{NoRamp, Supplies, supplyIn, supply-model, demandIn}
+use Rattle.passes.specs.Supplies.{NoRamp, SuppliesRequire, supplyIn, supply-model, demandIn}
 use Rattle.passes.specs.RampList.{Listed, AtRamps}
-use Rattle.passes.specs.Next.{NextAsks, demands-are, Stepped}
+use Rattle.passes.specs.Next.{NextRequires, demands-are, NextGives}
 use Rattle.model.specs.Filling.{MeterState, grantedAt, filledRow, meteredOf}
 use Rattle.model.specs.Put.{putReleases}
 use Rattle.put.specs.ReleasesLaws.{PutRow, put-releases}
 use Rattle.ramps.specs.RampsLaws.{granted-small, filled-release, last-release, last-entry}
-use Rattle.ramps.specs.Grants.{meterIn, Lasts, GrantAsks, Granted}
+use Rattle.ramps.specs.Grants.{meterIn, Lasts, GrantRequires, GrantGives}
 
 -- what is kept from step to step: the cells with a ramp are listed, with what the last step left there; the remainders are those of b × F; each
 -- column has an entry per cell
@@ -47,12 +47,13 @@ pub record ArraysOk (n : ℕ) (share ramp : List ℕ) (m : MeterState) (ramps : 
   pub long : LongColumns n work
 
 pub kept-on : {n n′ : ℕ} {share share′ ramp ramp′ : List ℕ} {m m′ : MeterState} {ramps : ℕ} {cell : List ℕ} {state work : Table}
-    → n′ ≡ n → share′ ≡ share → ramp′ ≡ ramp → m′ ≡ m → ArraysOk n share ramp m ramps cell state work → ArraysOk n′ share′ ramp′ m′ ramps cell state work
+    → n′ ≡ n → share′ ≡ share → ramp′ ≡ ramp → m′ ≡ m → ArraysOk n share ramp m ramps cell state work
+    → ArraysOk n′ share′ ramp′ m′ ramps cell state work
 kept-on en es er em h = rw (en, es, er, em) h
 
 -- what filling a step requires: the bytes hold its row, which is within its limits; a step with the filled row may be made; the laws are in
 -- columns; y has room for its outflows
-pub record FillAsks (laws : List Law) (bytes : List ℕ) (q : Road) (l : Ledger) (state : Table) (releases entries : List ℕ) (k : ℕ) (kinds : List ℕ)
+pub record FillRequires (laws : List Law) (bytes : List ℕ) (q : Road) (l : Ledger) (state : Table) (releases entries : List ℕ) (k : ℕ) (kinds : List ℕ)
     (numbers : List Float) (ramps : ℕ) (cell : List ℕ) (work : Table) (y : List ℕ) : Type 0 where
   pub held : HoldsRow bytes (q .n) k
   pub row : RowOk q (recordRow bytes (q .n) k)
@@ -68,10 +69,10 @@ pub record FillLent (bytes : List ℕ) (k : ℕ) (z : Size) (rates sizes : Table
   pub road : Road
   pub releases : List ℕ
   pub entries : List ℕ
-  pub fills : FillAsks laws bytes (roadIn road z rates sizes) l state releases entries k kinds numbers (z .ramps) (cellCol sizes) work y
+  pub ready : FillRequires laws bytes (roadIn road z rates sizes) l state releases entries k kinds numbers (z .ramps) (cellCol sizes) work y
 
 -- what filling a step gives: the bytes with its releases, the state after it, its outflows, and what is kept
-pub record FilledRow (laws : List Law) (bytes : List ℕ) (q : Road) (l₀ : Ledger) (state₀ : Table) (releases₀ entries₀ : List ℕ) (k : ℕ) (put : List ℕ)
+pub record FillGives (laws : List Law) (bytes : List ℕ) (q : Road) (l₀ : Ledger) (state₀ : Table) (releases₀ entries₀ : List ℕ) (k : ℕ) (put : List ℕ)
     (l : Ledger) (table : Table) (ramps : ℕ) (cell : List ℕ) (work : Table) (y : List ℕ) : Type 0 where
   pub releases : put ≡ putReleases bytes (q .n) k (grantedAt laws q (meterIn l₀ state₀ releases₀ entries₀) (recordRow bytes (q .n) k)) (q .n)
   pub state : stateIn l table ≡ meteredOf laws q (meterIn l₀ state₀ releases₀ entries₀) (recordRow bytes (q .n) k) .state
@@ -79,7 +80,8 @@ pub record FilledRow (laws : List Law) (bytes : List ℕ) (q : Road) (l₀ : Led
   pub kept : ArraysOk (q .n) (q .share) (q .ramp) (meteredOf laws q (meterIn l₀ state₀ releases₀ entries₀) (recordRow bytes (q .n) k)) ramps cell table work
 
 module _ {laws : List Law} {bytes : List ℕ} {q : Road} {l₀ : Ledger} {state₀ : Table} {releases₀ entries₀ : List ℕ} {k : ℕ} {kinds : List ℕ} {numbers : List Float}
-    {ramps : ℕ} {cell : List ℕ} {work₀ : Table} {y₀ : List ℕ} (f : FillAsks laws bytes q l₀ state₀ releases₀ entries₀ k kinds numbers ramps cell work₀ y₀) where
+    {ramps : ℕ} {cell : List ℕ} {work₀ : Table} {y₀ : List ℕ}
+    (f : FillRequires laws bytes q l₀ state₀ releases₀ entries₀ k kinds numbers ramps cell work₀ y₀) where
   abbrev m : MeterState
   m = meterIn l₀ state₀ releases₀ entries₀
 
@@ -93,8 +95,8 @@ module _ {laws : List Law} {bytes : List ℕ} {q : Road} {l₀ : Ledger} {state�
   y = outflowsOf q (m .state) filled
 
   -- the supplies, and then granting, have no further precondition
-  pub supplies-ask : Supplies (q .n) (q .wave) (q .jam) (m .state .held)
-  supplies-ask = record {
+  pub supplies-ready : SuppliesRequire (q .n) (q .wave) (q .jam) (m .state .held)
+  supplies-ready = record {
     cells = f .step .input .road .cells;
     waves = f .step .input .road .wave;
     jams = f .step .input .road .jam;
@@ -109,8 +111,8 @@ module _ {laws : List Law} {bytes : List ℕ} {q : Road} {l₀ : Ledger} {state�
     supplied : StoredRooms work₀ (set work₀ 0 room₁) room₁
     supplied = store-rooms work₀ (f .kept .long .columns) room₁
 
-    pub grants-ask : GrantAsks laws q (meterIn l₀ state₀ releases₀ entries₀) bytes k start ramps cell kinds numbers (set work₀ 0 room₁)
-    grants-ask =
+    pub grant-ready : GrantRequires laws q (meterIn l₀ state₀ releases₀ entries₀) bytes k start ramps cell kinds numbers (set work₀ 0 room₁)
+    grant-ready =
         let w = f .kept .long in
         record {
           step = f .step;
@@ -134,7 +136,7 @@ module _ {laws : List Law} {bytes : List ℕ} {q : Road} {l₀ : Ledger} {state�
         }
 
     -- the releases are granted
-    module _ {put : List ℕ} {work₁ : Table} (g : Granted laws q (meterIn l₀ state₀ releases₀ entries₀) bytes k ramps cell put work₁) where
+    module _ {put : List ℕ} {work₁ : Table} (g : GrantGives laws q (meterIn l₀ state₀ releases₀ entries₀) bytes k ramps cell put work₁) where
       changed : PutRow bytes put (q .n) k (grantedAt laws q m row) (q .n)
       changed =
           rw (g .puts) (put-releases bytes (q .n) k (grantedAt laws q m row) (q .n) (le-refl (q .n)) (f .held) (λ i _. granted-small laws q m row i))
@@ -182,7 +184,7 @@ module _ {laws : List Law} {bytes : List ℕ} {q : Road} {l₀ : Ledger} {state�
         demanded = store-demands work₁ (g .long .columns) demand
 
         pub step-ready : {arrivals : ℕ} → arrivals ≡ numberOf put start numberSize
-            → NextAsks q l₀ state₀ (filledRow laws q (meterIn l₀ state₀ releases₀ entries₀) (recordRow bytes (q .n) k)) ramps arrivals cell (set work₁ 3 demand)
+            → NextRequires q l₀ state₀ (filledRow laws q (meterIn l₀ state₀ releases₀ entries₀) (recordRow bytes (q .n) k)) ramps arrivals cell (set work₁ 3 demand)
         step-ready e = record {
           columns = f .kept .columns;
           steppable = f .step;
@@ -198,8 +200,8 @@ module _ {laws : List Law} {bytes : List ℕ} {q : Road} {l₀ : Ledger} {state�
 
         -- after it the step is filled
         pub row-filled : {t : Ledger} {state : Table} {y : List ℕ}
-            → Stepped q (stateIn l₀ state₀) (filledRow laws q (meterIn l₀ state₀ releases₀ entries₀) (recordRow bytes (q .n) k)) t state y
-            → FilledRow laws bytes q l₀ state₀ releases₀ entries₀ k put t state ramps cell (set work₁ 3 demand) y
+            → NextGives q (stateIn l₀ state₀) (filledRow laws q (meterIn l₀ state₀ releases₀ entries₀) (recordRow bytes (q .n) k)) t state y
+            → FillGives laws bytes q l₀ state₀ releases₀ entries₀ k put t state ramps cell (set work₁ 3 demand) y
         unfolding meteredOf
         row-filled st = record {
           releases = g .puts;

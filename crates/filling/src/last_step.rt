@@ -6,7 +6,7 @@ ghost use Rattle.model.specs.Flow.{whole, enteringOf};
 ghost use Rattle.model.specs.Flow.{releaseAt};
 ghost use Rattle.model.specs.Record.{recordRow};
 ghost use Rattle.fields.specs.FieldsLaws.{HoldsRow};
-ghost use Rattle.filling.specs.LastStep.{enteredIn, EntriesAsk};
+ghost use Rattle.filling.specs.LastStep.{enteredIn, EntriesRequire};
 
 // Puts the releases of step `k` of the first n cells into an array.
 pub fn put_releases(bytes: &[u8], n: usize, k: usize, releases: &mut [u32; 64])
@@ -37,7 +37,7 @@ pub fn put_entries(
     y: &[u32],
     entries: &mut [u32; 64],
 )
-    requires { ⌜ EntriesAsk n (now share) (now cumulative) (now y) ⌝ }
+    requires { ⌜ EntriesRequire n (now share) (now cumulative) (now y) ⌝ }
     ensures { λ _. ⌜ now (entries .exit) ≡ fillOf (enteredIn (now (share .entry)) (now (cumulative .entry)) (now (y .entry))) n (now (entries .entry)) ⌝ }
 {
     let mut entering = y[0];

@@ -32,12 +32,12 @@ ghost use Rattle.passes.specs.Tables.{roadIn, cellCol, LongColumns};
 ghost use Rattle.passes.specs.Supplies.{NoRamp};
 ghost use Rattle.passes.specs.RampList.{Listed};
 ghost use Rattle.ramps.specs.Grants.{Lasts};
-ghost use Rattle.ramps.specs.LastStep.{CameAsks};
+ghost use Rattle.ramps.specs.LastStep.{CameRequires};
 ghost use Rattle.model.specs.Reading.{studyBy};
 ghost use Rattle.model.specs.Filling.{meterState};
 ghost use Rattle.model.specs.Put.{putTable};
-ghost use Rattle.model.specs.Running.{ended, endAnswer, tableOf};
-ghost use Rattle.model.specs.Demand.{Taken, Promised};
+ghost use Rattle.model.specs.Running.{endWith, endAnswer, tableOf};
+ghost use Rattle.model.specs.Demand.{Openable, DemandAndGrounds};
 ghost use Rattle.model.specs.Longest.{longestQueues, longestFill};
 ghost use Rattle.model.specs.Filling.{meteredFrom, grantedFrom, filledFrom, fillingOf, recordAfter, filledList, OnlyReleases};
 ghost use Rattle.model.specs.GoingOn.{progressed, fillingOn, recordOn, filledListOn, longestFillOn, progressOn};
@@ -48,8 +48,8 @@ ghost use Rattle.model.specs.Road.{mostCells, zeros, withoutState};
 ghost use Rattle.model.specs.Flow.{releaseAt};
 ghost use Rattle.model.specs.Record.{recordRow};
 ghost use Rattle.counts.specs.Longest.{noQueues};
-ghost use Rattle.filling.specs.LastStep.{enteredIn, LastAsks};
-ghost use Rattle.filling.specs.Turn.{FillAsks, FillLent, FilledRow};
+ghost use Rattle.filling.specs.LastStep.{enteredIn, LastStepRequires};
+ghost use Rattle.filling.specs.Turn.{FillRequires, FillLent, FillGives};
 ghost use Rattle.filling.specs.FillingLoop.{FillableFrom};
 ghost use Rattle.filling.specs.LongestFill.{longestFrom};
 
@@ -69,9 +69,9 @@ fn fill_row<'a, 'b>(
 ) -> Ledger
     requires { ⌜ FillLent (now bytes) k size (now rates) (now sizes) (now kinds) (now numbers) l (now state) (now work) (now y) ⌝ }
     ensures { λ t. ⌜ ((laws : List Law) (r : Road) (releases entries : List ℕ)
-        → FillAsks laws (now (bytes .entry)) (roadIn r size (now (rates .entry)) (now (sizes .entry))) l (now (state .entry)) releases entries k
+        → FillRequires laws (now (bytes .entry)) (roadIn r size (now (rates .entry)) (now (sizes .entry))) l (now (state .entry)) releases entries k
         (now (kinds .entry)) (now (numbers .entry)) (size .ramps) (cellCol (now (sizes .entry))) (now (work .entry)) (now (y .entry))
-        → FilledRow laws (now (bytes .entry)) (roadIn r size (now (rates .entry)) (now (sizes .entry))) l (now (state .entry)) releases entries k
+        → FillGives laws (now (bytes .entry)) (roadIn r size (now (rates .entry)) (now (sizes .entry))) l (now (state .entry)) releases entries k
         (now (bytes .exit)) t (now (state .exit)) (size .ramps) (cellCol (now (sizes .entry))) (now (work .exit)) (now (y .exit))) ⌝ }
 {
     let n = size.n;
@@ -116,7 +116,7 @@ fn fill_row<'a, 'b>(
 
 // What the passes fill, before the first step: with the last release at each listed ramp, and what had come into each cell.
 fn begun(r: Road, ramps: usize, cell: &[u32; 64], from: Progress) -> [[u32; 65]; 5]
-    requires { ⌜ Listed (NoRamp (r .ramp)) (r .n) ramps (now cell) × CameAsks (r .n) (from .state .held) (from .state .cumulative) (from .entries) ⌝ }
+    requires { ⌜ Listed (NoRamp (r .ramp)) (r .n) ramps (now cell) × CameRequires (r .n) (from .state .held) (from .state .cumulative) (from .entries) ⌝ }
     ensures { λ w. ⌜ Lasts (progressed from) ramps (now (cell .entry)) w × LongColumns (r .n) w ⌝ }
 {
     let s = from.state;
@@ -144,7 +144,7 @@ fn fill_rows(
     ensures list { λ e. ⌜ now (out .exit)
         ≡ tableOf (filledFrom laws (studyBy (now (bytes .entry)) (now (table .entry)) r (from .state) steps) (progressed from)) (now (out .entry)) steps ⌝ }
     ensures answer { λ e. ⌜ endAnswer (e .ended)
-        ≡ ended 0 0 0 r (meteredFrom laws (studyBy (now (bytes .entry)) (now (table .entry)) r (from .state) steps) (progressed from) steps .state) ⌝ }
+        ≡ endWith 0 0 0 r (meteredFrom laws (studyBy (now (bytes .entry)) (now (table .entry)) r (from .state) steps) (progressed from) steps .state) ⌝ }
     ensures longest { λ e. ⌜ (longs ≡ true
         → longestQueues e ≡ longestFrom laws (studyBy (now (bytes .entry)) (now (table .entry)) r (from .state) steps) (progressed from)) ⌝ }
 {
@@ -200,8 +200,8 @@ fn fill_opened(
     ensures answer { λ e. ⌜ endAnswer (e .ended) ≡ fillingOf laws (now (bytes .entry)) (now (table .entry)) (now (out .entry)) ⌝ }
     ensures bytes { λ e. ⌜ now (bytes .exit) ≡ recordAfter laws (now (bytes .entry)) (now (table .entry)) (now (out .entry)) ⌝ }
     ensures list { λ e. ⌜ now (out .exit) ≡ filledList laws (now (bytes .entry)) (now (table .entry)) (now (out .entry)) ⌝ }
-    ensures demand { λ e. ⌜ (Taken (now (bytes .entry)) (now (table .entry))
-        → Promised (now (bytes .exit)) (now (table .entry)) (now (out .exit)) (endAnswer (e .ended))) ⌝ }
+    ensures demand { λ e. ⌜ (Openable (now (bytes .entry)) (now (table .entry))
+        → DemandAndGrounds (now (bytes .exit)) (now (table .entry)) (now (out .exit)) (endAnswer (e .ended))) ⌝ }
     ensures releases { λ e. ⌜ OnlyReleases (now (bytes .entry)) (now (bytes .exit)) ⌝ }
     ensures longest { λ e. ⌜ (longs ≡ true → longestQueues e ≡ longestFill laws (now (bytes .entry)) (now (table .entry)) (now (out .entry))) ⌝ }
 {
@@ -240,7 +240,8 @@ pub fn fill(bytes: &mut [u8], laws: [Law; 64], table: &[u8], out: &mut [u32]) ->
     ensures answer { λ e. ⌜ endAnswer e ≡ fillingOf laws (now (bytes .entry)) (now (table .entry)) (now (out .entry)) ⌝ }
     ensures bytes { λ e. ⌜ now (bytes .exit) ≡ recordAfter laws (now (bytes .entry)) (now (table .entry)) (now (out .entry)) ⌝ }
     ensures list { λ e. ⌜ now (out .exit) ≡ filledList laws (now (bytes .entry)) (now (table .entry)) (now (out .entry)) ⌝ }
-    ensures demand { λ e. ⌜ (Taken (now (bytes .entry)) (now (table .entry)) → Promised (now (bytes .exit)) (now (table .entry)) (now (out .exit)) (endAnswer e)) ⌝ }
+    ensures demand { λ e. ⌜
+        (Openable (now (bytes .entry)) (now (table .entry)) → DemandAndGrounds (now (bytes .exit)) (now (table .entry)) (now (out .exit)) (endAnswer e)) ⌝ }
     ensures releases { λ e. ⌜ OnlyReleases (now (bytes .entry)) (now (bytes .exit)) ⌝ }
 {
     let filled = fill_opened(bytes, laws, table, false, out);
@@ -253,8 +254,8 @@ pub fn fill_longest(bytes: &mut [u8], laws: [Law; 64], table: &[u8], out: &mut [
     ensures bytes { λ e. ⌜ now (bytes .exit) ≡ recordAfter laws (now (bytes .entry)) (now (table .entry)) (now (out .entry)) ⌝ }
     ensures list { λ e. ⌜ now (out .exit) ≡ filledList laws (now (bytes .entry)) (now (table .entry)) (now (out .entry)) ⌝ }
     ensures longest { λ e. ⌜ longestQueues e ≡ longestFill laws (now (bytes .entry)) (now (table .entry)) (now (out .entry)) ⌝ }
-    ensures demand { λ e. ⌜ (Taken (now (bytes .entry)) (now (table .entry))
-        → Promised (now (bytes .exit)) (now (table .entry)) (now (out .exit)) (endAnswer (e .ended))) ⌝ }
+    ensures demand { λ e. ⌜ (Openable (now (bytes .entry)) (now (table .entry))
+        → DemandAndGrounds (now (bytes .exit)) (now (table .entry)) (now (out .exit)) (endAnswer (e .ended))) ⌝ }
     ensures releases { λ e. ⌜ OnlyReleases (now (bytes .entry)) (now (bytes .exit)) ⌝ }
 {
     fill_opened(bytes, laws, table, true, out)
@@ -297,7 +298,7 @@ fn with_last(
     longest: Longest,
     out: &[u32],
 ) -> FilledOn
-    requires { ⌜ LastAsks (now bytes) r steps (longest .ended .state .cumulative) (now out) ⌝ }
+    requires { ⌜ LastStepRequires (now bytes) r steps (longest .ended .state .cumulative) (now out) ⌝ }
     ensures { λ e. ⌜ (e .longest ≡ longest)
         × ((e .releases ≡ fillOf (releaseAt (recordRow (now (bytes .entry)) (r .n) (steps - 1))) (r .n) (from .releases))
         × (e .entries ≡ fillOf (enteredIn (r .share) (longest .ended .state .cumulative) (rowAt (now (out .entry)) (r .n + 1) (steps - 1))) (r .n) (from .entries))) ⌝ }

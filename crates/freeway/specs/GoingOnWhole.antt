@@ -26,7 +26,7 @@ use Rattle.model.specs.Schedules.{Study, roadAt, outflowsOf, engineAfter, Obeys
 use Rattle.model.specs.Reading.{readingOf, studyOf}
 use Rattle.reading.specs.Within.{read-within}
 use Rattle.reading.specs.Numbers.{read-numbers}
-use Rattle.model.specs.Running.{EndAnswer, runSays, firstStep, lanesFault, runningOf}
+use Rattle.model.specs.Running.{EndAnswer, runFault, firstStep, lanesFault, runningOf}
 use Rattle.model.specs.GoingOn.{studyAfter, stateFault, runningOn, judgingOn, entriesOk, progressFault, fillingOn, recordOn}
 use Rattle.model.specs.Judging.{judgingOf}
 use Rattle.model.specs.Filling.{MeterState, meterStart, filledRow, meteredOf}
@@ -35,7 +35,7 @@ use Rattle.model.specs.Record.{recordRow}
 use Rattle.model.specs.Filling.{meteredFrom, grantedFrom, rowsFrom, filledFrom, lawPlace, fillingOf, OnlyReleases}
 use Rattle.model.specs.Weights.{weightedPresent, weightedTotal}
 use Rattle.model.specs.Longest.{maximumOf, stayedOf, Queues, longestOf}
-use Rattle.model.specs.Demand.{Taken, Ahead}
+use Rattle.model.specs.Demand.{Openable, Ahead}
 use Rattle.numbers.specs.Zeros.{length-zeros, zeros-at}
 use Rattle.theory.specs.RulesLaws.{Sized, demand-at-cell, outflows-obey}
 use Rattle.theory.specs.MoveLaws.{next-held}
@@ -46,7 +46,7 @@ use Rattle.theory.specs.RunsLaws.{StudyOk}
 use Rattle.theory.specs.SchedulesLaws.{run-reached, step-within}
 use Rattle.theory.specs.WeightsLaws.{weighted-total-none, weighted-total-more}
 use Rattle.theory.specs.DemandLaws.{engine-best}
-use Rattle.theory.specs.GoingOn.{Rest, first-rest, metered-rest, engine-rest, says-rest}
+use Rattle.theory.specs.GoingOn.{Rest, first-rest, metered-rest, engine-rest, faults-rest}
 use Rattle.put.specs.ReleasesLaws.{PutTable, put-table, table-head}
 use Rattle.put.specs.SameReading.{rows-replaced}
 use Rattle.ramps.specs.RampsLaws.{filled-gate, filled-arrivals, filled-row}
@@ -64,7 +64,7 @@ filled-roads laws a m j = refl
 
 module _ {a b : Study} {k : ℕ} (h : Rest a b k) where
   -- going on from the run's own state is never refused with 7 or 8
-  pub starts-rest : StudyOk a → ((j : ℕ) → j < k → runSays a j .number ≡ 0) → b .start ≡ engineAfter a k → stateFault b ≡ 0
+  pub starts-rest : StudyOk a → ((j : ℕ) → j < k → runFault a j .number ≡ 0) → b .start ≡ engineAfter a k → stateFault b ≡ 0
   starts-rest ok none s =
       let r = run-reached a ok k (omega (arith, h .steps)) none in
       let done : b .start .done ≡ a .start .done + k = ap (λ (u : State). u .done) s ∙ r .done in
@@ -141,11 +141,11 @@ module _ {a b : Study} {k : ℕ} (h : Rest a b k) (s : b .start ≡ engineAfter 
   longest-rest = longest-states (engineAfter a) (engineAfter b) k (b .steps) (engine-rest h s)
 
   -- demand 3: no schedule of the whole study is ahead of a run in stretches, after k + j steps that both reach
-  pub best-rest : StudyOk a → ((j : ℕ) → j < k → runSays a j .number ≡ 0) → (zs : List ℕ) (j : ℕ) → j ≤ firstStep (runSays b) (b .steps)
+  pub best-rest : StudyOk a → ((j : ℕ) → j < k → runFault a j .number ≡ 0) → (zs : List ℕ) (j : ℕ) → j ≤ firstStep (runFault b) (b .steps)
       → ObeysUpTo a (proposedAt a zs) (k + j) → Ahead (a .road) (engineAfter b j) (scheduledAt a zs (k + j))
   best-rest ok none zs j l obeys =
-      let e = first-rest h (runSays a) (runSays b) (engineAfter a) (engineAfter b) none (says-rest h s) (engine-rest h s) in
-      subst⁻¹ (λ (u : State). Ahead (a .road) u (scheduledAt a zs (k + j))) (engine-rest h s j (omega (arith, step-within (runSays b) (b .steps))))
+      let e = first-rest h (runFault a) (runFault b) (engineAfter a) (engineAfter b) none (faults-rest h s) (engine-rest h s) in
+      subst⁻¹ (λ (u : State). Ahead (a .road) u (scheduledAt a zs (k + j))) (engine-rest h s j (omega (arith, step-within (runFault b) (b .steps))))
       (engine-best a ok zs (k + j) (omega (arith, e)) obeys)
 
 -- the same for filling, whose states go on from a progress
@@ -253,7 +253,7 @@ progress-rest {a} {b} {k} h ok laws m p starts s long e =
 unchanged : (bytes : List ℕ) → OnlyReleases bytes bytes
 unchanged bytes = record { size = refl; byte = λ b o. refl; reads = refl; gate = λ t l. refl; arrivals = λ t i l. refl }
 
-module _ (laws : List Law) (bytes lanes : List ℕ) (m : MeterState) (taken : Taken bytes lanes) where
+module _ (laws : List Law) (bytes lanes : List ℕ) (m : MeterState) (openable : Openable bytes lanes) where
   abbrev a : Study
   a = studyAfter bytes lanes m
 
@@ -261,7 +261,7 @@ module _ (laws : List Law) (bytes lanes : List ℕ) (m : MeterState) (taken : Ta
   filled = putTable bytes (readingOf bytes .road .n) (grantedFrom laws (studyAfter bytes lanes m) m) (readingOf bytes .steps)
 
   read : Readable bytes (studyOf bytes lanes)
-  read = readable bytes lanes (readingOf bytes) refl (taken .reads) (taken .opens)
+  read = readable bytes lanes (readingOf bytes) refl (openable .reads) (openable .opens)
 
   road-of : (k : ℕ) → StepRoad (readingOf bytes .road) (roadAt (studyAfter bytes lanes m) k)
   road-of k = rw (← same-roads (studyOf bytes lanes) (m .state) k) (read .ok .roads k)
@@ -284,7 +284,7 @@ module _ (laws : List Law) (bytes lanes : List ℕ) (m : MeterState) (taken : Ta
   filled-on = record {
     size = put-on .size;
     byte = put-on .byte;
-    reads = rows-replaced bytes filled (put-on .size) (taken .reads) (table-head put-on)
+    reads = rows-replaced bytes filled (put-on .size) (openable .reads) (table-head put-on)
         (λ t l. rw (rows-on t l) (row-ok (readingOf bytes .road) (rowsFrom laws a m t) (read .ok .road) (within-on t l)));
     gate = λ t l. ap gateArrivals (rows-on t l) ∙ filled-gate laws (roadAt a t) (meteredFrom laws a m t) (a .rows t);
     arrivals = λ t i l.
@@ -292,11 +292,11 @@ module _ (laws : List Law) (bytes lanes : List ℕ) (m : MeterState) (taken : Ta
   }
 
 -- if it is not refused, no refusal of the record or the table applies
-taken-on : (laws : List Law) (bytes lanes : List ℕ) (m : MeterState) (list : List ℕ) → fillingOn laws bytes lanes m list .number ≡ 0 → Taken bytes lanes
+openable-on : (laws : List Law) (bytes lanes : List ℕ) (m : MeterState) (list : List ℕ) → fillingOn laws bytes lanes m list .number ≡ 0 → Openable bytes lanes
 unfolding fillingOn
-taken-on laws bytes lanes m list =
+openable-on laws bytes lanes m list =
     let a = studyAfter bytes lanes m in
-    let P : EndAnswer → Type 0 = λ (e : EndAnswer). e .number ≡ 0 → Taken bytes lanes in
+    let P : EndAnswer → Type 0 = λ (e : EndAnswer). e .number ≡ 0 → Openable bytes lanes in
     unless-elim P (eqb (readingOf bytes .number) 0) (λ f z. absurd (eqb-false (readingOf bytes .number) 0 f z)) (λ r.
     unless-elim P (eqb (lawPlace laws a) 0) (λ _ z. absurd (omega arith)) (λ _.
     unless-elim P (eqb (lanesFault a .number) 0) (λ f z. absurd (eqb-false (lanesFault a .number) 0 f z)) (λ o _.
@@ -306,4 +306,4 @@ pub only-releases-on : (laws : List Law) (bytes lanes : List ℕ) (m : MeterStat
 unfolding recordOn
 only-releases-on laws bytes lanes m list =
     unless-elim (OnlyReleases bytes) (eqb (fillingOn laws bytes lanes m list .number) 0) (λ _. unchanged bytes)
-    (λ e. filled-on laws bytes lanes m (taken-on laws bytes lanes m list (eqb-true (fillingOn laws bytes lanes m list .number) 0 e)))
+    (λ e. filled-on laws bytes lanes m (openable-on laws bytes lanes m list (eqb-true (fillingOn laws bytes lanes m list .number) 0 e)))

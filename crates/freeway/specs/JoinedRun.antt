@@ -7,25 +7,25 @@ use Rattle.model.specs.Stepping.{tableFault}
 use Rattle.model.specs.Joining.{joiningOf}
 use Rattle.joining.specs.Theorems.{joinedBytes, joined-reads}
 use Rattle.model.specs.Running.{runningOf, listAfter}
-use Rattle.theory.specs.Readable.{taken-open}
-use Rattle.model.specs.Demand.{Taken, Promised}
-use Rattle.theory.specs.DemandWhole.{promised}
+use Rattle.theory.specs.Readable.{openable-empty}
+use Rattle.model.specs.Demand.{Openable, DemandAndGrounds}
+use Rattle.theory.specs.DemandWhole.{demand-and-grounds}
 
 module _ (up down : List ℕ) (share : ℕ) (target : List ℕ) (joined : joiningOf up down share target .number ≡ 0) where
   -- with the empty table no refusal applies
-  pub joined-open : Taken (joinedBytes up down share target) []
-  joined-open = taken-open (joinedBytes up down share target) (ap (λ (x : ReadAnswer). x .number) (joined-reads up down share target joined))
+  pub joined-open : Openable (joinedBytes up down share target) []
+  joined-open = openable-empty (joinedBytes up down share target) (ap (λ (x : ReadAnswer). x .number) (joined-reads up down share target joined))
 
   -- nor with a table for T steps and the cells of both
-  pub joined-taken : (lanes : List ℕ) → tableFault lanes (readingOf up .road .n + readingOf down .road .n) (readingOf up .steps) .number ≡ 0
-      → Taken (joinedBytes up down share target) lanes
-  joined-taken lanes h = record {
+  pub joined-openable : (lanes : List ℕ) → tableFault lanes (readingOf up .road .n + readingOf down .road .n) (readingOf up .steps) .number ≡ 0
+      → Openable (joinedBytes up down share target) lanes
+  joined-openable lanes h = record {
     reads = ap (λ (x : ReadAnswer). x .number) (joined-reads up down share target joined);
     opens = rw (joined-reads up down share target joined) h;
   }
 
   -- demand 3 holds for it
-  pub joined-promised : (lanes : List ℕ) → Taken (joinedBytes up down share target) lanes → (list : List ℕ)
-      → Promised (joinedBytes up down share target) lanes (listAfter (joinedBytes up down share target) lanes list)
+  pub joined-promised : (lanes : List ℕ) → Openable (joinedBytes up down share target) lanes → (list : List ℕ)
+      → DemandAndGrounds (joinedBytes up down share target) lanes (listAfter (joinedBytes up down share target) lanes list)
       (runningOf (joinedBytes up down share target) lanes list)
-  joined-promised lanes taken list = promised (joinedBytes up down share target) lanes taken list
+  joined-promised lanes openable list = demand-and-grounds (joinedBytes up down share target) lanes openable list

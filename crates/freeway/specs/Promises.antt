@@ -20,7 +20,7 @@ use Rattle.model.specs.Road.{mostRate, startIn, totalOf}
 use Rattle.model.specs.Refusals.{refusalNumber, fault}
 use Rattle.model.specs.Record.{secondVersion, versionOf, rowNumbers}
 use Rattle.limits.specs.LimitsLaws.{RoadOk}
-use Rattle.model.specs.Load.{loaded, loadingOf, loadedList, LoadEnds}
+use Rattle.model.specs.Load.{loadWith, loadingOf, loadedList, LoadEnds}
 use Rattle.load.specs.Theorems as loads
 use Rattle.model.specs.Wanted.{TableObeys, searchAnswer, wantedAnswer, wantedOf, tableAfter, Least, WantedEnds, WantedRequest}
 use Rattle.wanted.specs.Theorems as wants
@@ -34,7 +34,7 @@ use Rattle.theory.specs.Conservation.{arrivalsOf}
 use Rattle.model.specs.Schedules.{Study, ReleasesFit, outflowsOf, scheduleAfter, engineAfter, ObeysUpTo, proposedAt, scheduledAt}
 use Rattle.theory.specs.RulesLaws.{Sized}
 use Rattle.theory.specs.RunsLaws.{ReleasesFitUpTo, StudyOk}
-use Rattle.theory.specs.BetterRoad.{Improved}
+use Rattle.theory.specs.BetterRoad.{BetterRoad}
 use Rattle.theory.specs.Conservation as conservation
 use Rattle.theory.specs.Edges as edges
 use Rattle.model.specs.Reading.{cellsOf, readingOf, readingWithin, refusedOf, acceptedOf, studyOf}
@@ -51,9 +51,9 @@ use Rattle.taking.specs.TakenRows as taking
 use Rattle.model.specs.Joining.{joinedRoad, joinedStart, joiningOf, joinedTarget}
 use Rattle.joining.specs.Theorems as joins
 use Rattle.model.specs.Judging.{judgingOf}
-use Rattle.model.specs.Running.{runSays, firstStep, runEnd, runningOf, listAfter, stepsMade}
+use Rattle.model.specs.Running.{runFault, firstStep, runEnd, runningOf, listAfter, stepsMade}
 use Rattle.model.specs.GoingOn.{stateFault}
-use Rattle.model.specs.Demand.{Taken, Promised, WeightedDemand, Reaches, Ahead, AcceptsExactly}
+use Rattle.model.specs.Demand.{Openable, DemandAndGrounds, WeightedDemand, Reaches, Ahead, AcceptsExactly}
 use Rattle.theory.specs.DemandWhole as whole
 use Rattle.model.specs.Weights.{weightedTotalOfRun}
 use Rattle.theory.specs.DemandByWeights as weighting
@@ -64,7 +64,7 @@ use Rattle.theory.specs.Accounts as accounting
 use Rattle.theory.specs.JudgingExact as judged
 use Rattle.theory.specs.NoClosures as unclosed
 use Rattle.theory.specs.Finer.{scaled}
-use Rattle.theory.specs.WholeShares.{AllOn}
+use Rattle.theory.specs.WholeShares.{SharesWhole}
 use Rattle.theory.specs.AnyShares.{Most}
 use Rattle.theory.specs.NearRuns.{Deciding}
 use Rattle.theory.specs.Rounding as rounds
@@ -110,69 +110,69 @@ read-within s h = within.read-within s (readingOf s) refl h
 
 -- 'the rounding decides where they say nothing': how far F is from that of the same study counted K times finer. After every step that both reach
 -- the difference is at most 2 k parts, divided by the part of the traffic that reaches the end; less if all that leaves a cell goes on
-pub rounding : (bytes lanes : List ℕ) → Taken bytes lanes → (K : ℕ) → 0 < K → rounds.Within lanes K → (k : ℕ)
+pub rounding : (bytes lanes : List ℕ) → Openable bytes lanes → (K : ℕ) → 0 < K → rounds.Within lanes K → (k : ℕ)
     → ReleasesFitUpTo (studyOf bytes lanes) k → ReleasesFitUpTo (scaled K (studyOf bytes lanes)) k
     → rounds.Near K k (studyOf bytes lanes .road) (engineAfter (studyOf bytes lanes) k) (engineAfter (scaled K (studyOf bytes lanes)) k)
-rounding bytes lanes taken K some within k own fine = rounds.rounding (rounds.countable bytes lanes taken K some within) k own fine
+rounding bytes lanes openable K some within k own fine = rounds.rounding (rounds.finer-ready bytes lanes openable K some within) k own fine
 
-pub rounding-whole : (bytes lanes : List ℕ) → Taken bytes lanes → (K : ℕ) → 0 < K → rounds.Within lanes K → (k : ℕ)
-    → ReleasesFitUpTo (studyOf bytes lanes) k → AllOn (studyOf bytes lanes .road) → ReleasesFitUpTo (scaled K (studyOf bytes lanes)) k
+pub rounding-whole : (bytes lanes : List ℕ) → Openable bytes lanes → (K : ℕ) → 0 < K → rounds.Within lanes K → (k : ℕ)
+    → ReleasesFitUpTo (studyOf bytes lanes) k → SharesWhole (studyOf bytes lanes .road) → ReleasesFitUpTo (scaled K (studyOf bytes lanes)) k
     → rounds.NearWhole K k (studyOf bytes lanes .road) (engineAfter (studyOf bytes lanes) k) (engineAfter (scaled K (studyOf bytes lanes)) k)
-rounding-whole bytes lanes taken K some within k own on fine =
-    rounds.rounding-whole (rounds.countable bytes lanes taken K some within) k own on fine
+rounding-whole bytes lanes openable K some within k own on fine =
+    rounds.rounding-whole (rounds.finer-ready bytes lanes openable K some within) k own on fine
 
 -- present and the total, if some of what leaves each cell goes on
-pub rounding-total : (bytes lanes : List ℕ) → Taken bytes lanes → (K : ℕ) → 0 < K → rounds.Within lanes K → totals.SomeOn (studyOf bytes lanes .road)
+pub rounding-total : (bytes lanes : List ℕ) → Openable bytes lanes → (K : ℕ) → 0 < K → rounds.Within lanes K → totals.SharesNotZero (studyOf bytes lanes .road)
     → (k : ℕ) → ReleasesFitUpTo (studyOf bytes lanes) k → ReleasesFitUpTo (scaled K (studyOf bytes lanes)) k
     → totals.NearTotal K k (studyOf bytes lanes .road) (engineAfter (studyOf bytes lanes) k) (engineAfter (scaled K (studyOf bytes lanes)) k)
-rounding-total bytes lanes taken K some within on k own fine =
-    totals.rounding-total (rounds.countable bytes lanes taken K some within) on k own fine
+rounding-total bytes lanes openable K some within on k own fine =
+    totals.rounding-total (rounds.finer-ready bytes lanes openable K some within) on k own fine
 
 -- the same bound for every schedule of the finer study in which demand or room decides, as in the papers' rules
-pub rounding-papers : (bytes lanes : List ℕ) → Taken bytes lanes → (K : ℕ) → 0 < K → rounds.Within lanes K → (k : ℕ)
+pub rounding-papers : (bytes lanes : List ℕ) → Openable bytes lanes → (K : ℕ) → 0 < K → rounds.Within lanes K → (k : ℕ)
     → ReleasesFitUpTo (studyOf bytes lanes) k → (zs : ℕ → List ℕ) → ObeysUpTo (scaled K (studyOf bytes lanes)) zs k
     → Deciding (scaled K (studyOf bytes lanes)) zs k
     → rounds.Near K k (studyOf bytes lanes .road) (engineAfter (studyOf bytes lanes) k) (scheduleAfter (scaled K (studyOf bytes lanes)) zs k)
-rounding-papers bytes lanes taken K some within k own zs fine decide =
-    rounds.papers-near (rounds.countable bytes lanes taken K some within) k own zs fine decide
+rounding-papers bytes lanes openable K some within k own zs fine decide =
+    rounds.papers-near (rounds.finer-ready bytes lanes openable K some within) k own zs fine decide
 
 -- demand 3 within that bound: no schedule of the finer study is further ahead
-pub rounding-schedules : (bytes lanes : List ℕ) → Taken bytes lanes → (K : ℕ) → 0 < K → rounds.Within lanes K → (k : ℕ)
+pub rounding-schedules : (bytes lanes : List ℕ) → Openable bytes lanes → (K : ℕ) → 0 < K → rounds.Within lanes K → (k : ℕ)
     → ReleasesFitUpTo (studyOf bytes lanes) k → (zs : List ℕ) → Reaches (scaled K (studyOf bytes lanes)) zs k
     → Most K (2 * k * K) (studyOf bytes lanes .road) (engineAfter (studyOf bytes lanes) k) (scheduledAt (scaled K (studyOf bytes lanes)) zs k)
-rounding-schedules bytes lanes taken K some within k own zs reaches =
-    rounds.finer-schedules (rounds.countable bytes lanes taken K some within) k own zs reaches
+rounding-schedules bytes lanes openable K some within k own zs reaches =
+    rounds.finer-schedules (rounds.finer-ready bytes lanes openable K some within) k own zs reaches
 
-pub rounding-schedules-total : (bytes lanes : List ℕ) → Taken bytes lanes → (K : ℕ) → 0 < K → rounds.Within lanes K
-    → totals.SomeOn (studyOf bytes lanes .road) → (k : ℕ) → ReleasesFitUpTo (studyOf bytes lanes) k
+pub rounding-schedules-total : (bytes lanes : List ℕ) → Openable bytes lanes → (K : ℕ) → 0 < K → rounds.Within lanes K
+    → totals.SharesNotZero (studyOf bytes lanes .road) → (k : ℕ) → ReleasesFitUpTo (studyOf bytes lanes) k
     → (zs : List ℕ) → Reaches (scaled K (studyOf bytes lanes)) zs k
-    → totals.SoonerOn K k (studyOf bytes lanes .road) (engineAfter (studyOf bytes lanes) k) (scheduledAt (scaled K (studyOf bytes lanes)) zs k)
-rounding-schedules-total bytes lanes taken K some within on k own zs reaches =
-    totals.finer-schedules-total (rounds.countable bytes lanes taken K some within) on k own zs reaches
+    → totals.AboveByShares K k (studyOf bytes lanes .road) (engineAfter (studyOf bytes lanes) k) (scheduledAt (scaled K (studyOf bytes lanes)) zs k)
+rounding-schedules-total bytes lanes openable K some within on k own zs reaches =
+    totals.finer-schedules-total (rounds.finer-ready bytes lanes openable K some within) on k own zs reaches
 
 -- demand 2. A proposed schedule is accepted if it obeys the rules and otherwise refused
 pub accepts-exactly : (bytes lanes zs : List ℕ) → AcceptsExactly bytes lanes zs (judgingOf bytes lanes zs)
 accepts-exactly bytes lanes zs = judged.accepts-exactly bytes lanes zs refl
 
 -- the times and the total are the sums of present over the steps done, for gate, road and ramps and together; start plus arrivals equals present plus exits
-pub accounts : (bytes lanes zs : List ℕ) → Taken bytes lanes → (k : ℕ) → Reaches (studyOf bytes lanes) zs k → accounting.Accounts (studyOf bytes lanes) zs k
+pub accounts : (bytes lanes zs : List ℕ) → Openable bytes lanes → (k : ℕ) → Reaches (studyOf bytes lanes) zs k → accounting.Accounts (studyOf bytes lanes) zs k
 accounts = accounting.accounts
 
 -- demand 3, for every record that reads and every schedule (`Demand`, with the meaning of its words)
-pub demand-three : (bytes lanes : List ℕ) → Taken bytes lanes → (list : List ℕ)
-    → Promised bytes lanes (listAfter bytes lanes list) (runningOf bytes lanes list)
-demand-three = whole.promised
+pub demand-three : (bytes lanes : List ℕ) → Openable bytes lanes → (list : List ℕ)
+    → DemandAndGrounds bytes lanes (listAfter bytes lanes list) (runningOf bytes lanes list)
+demand-three = whole.demand-and-grounds
 
 -- request 1. A written record reads back as given; bytes beyond it are unchanged
 pub written-back : (road : Road) (T : ℕ) (start : Start) (rows target : List ℕ) → writingOf road T start rows target .number ≡ 0
     → saving.SavedRecord road T start rows target
-written-back = saving.saved
+written-back = saving.saved-record
 
 -- a record that was read and is written again has the same bytes, with its rows taken into any list that has room for them
 pub written-again : (s : List ℕ) → readingOf s .number ≡ 0 → (list : List ℕ) → readingOf s .steps * rowNumbers (readingOf s .road .n) ≤ length list
     → ((i : ℕ) → at s i < 256) → (target : List ℕ) → length s ≤ length target
     → take (length s) (targetAfter (readingOf s .road) (readingOf s .steps) (startIn (readingOf s .state))
-    (taking.rowsTaken s (readingOf s .road .n) (readingOf s .steps) list) target) ≡ s
+    (taking.takenNumbers s (readingOf s .road .n) (readingOf s .steps) list) target) ≡ s
 written-again = taking.same-bytes
 
 -- every refusal leaves the target unchanged, and the count is 0
@@ -203,8 +203,8 @@ pub rerun : (laws : List Law) (bytes lanes list : List ℕ) → (fillingOf laws 
 rerun = filling.rerun
 
 -- rival schedules have the same filled releases
-pub filled : (laws : List Law) (bytes lanes list : List ℕ) → Taken bytes lanes
-    → Promised (recordAfter laws bytes lanes list) lanes (filledList laws bytes lanes list) (fillingOf laws bytes lanes list)
+pub filled : (laws : List Law) (bytes lanes list : List ℕ) → Openable bytes lanes
+    → DemandAndGrounds (recordAfter laws bytes lanes list) lanes (filledList laws bytes lanes list) (fillingOf laws bytes lanes list)
 filled = filling.filled-promised
 
 -- request 4. The division and the greatest outflow are the same number, for every demand, share, F and room
@@ -225,7 +225,7 @@ pub first-refuses : (s : List ℕ) → versionOf s ≡ secondVersion → (readin
 first-refuses = versions.first-refuses
 
 -- request 8. If no place weighs more than the one before it, gate first, the run's weighted total is at most every schedule's over the steps both reach
-pub weighted : (bytes lanes : List ℕ) → Taken bytes lanes → (list : List ℕ) (w u : ℕ → ℕ)
+pub weighted : (bytes lanes : List ℕ) → Openable bytes lanes → (list : List ℕ) (w u : ℕ → ℕ)
     → WeightedDemand bytes lanes w u (listAfter bytes lanes list) (runningOf bytes lanes list) (weightedTotalOfRun w u bytes lanes list)
 weighted = weighting.weighted-demand
 
@@ -236,19 +236,19 @@ pub weights-unread : (bytes lanes : List ℕ) (w v u x : ℕ → ℕ) → ((p : 
 weights-unread = unread.run-unread
 
 -- a larger v, w, J or C of cells never makes the total larger, after every step that both roads reach; releases, start, arrivals and closures are the same
-pub raised : (s t lanes : List ℕ) → Taken s lanes → Taken t lanes → Improved (studyOf s lanes) (studyOf t lanes) → (list out : List ℕ) (k : ℕ)
+pub better-road : (s t lanes : List ℕ) → Openable s lanes → Openable t lanes → BetterRoad (studyOf s lanes) (studyOf t lanes) → (list out : List ℕ) (k : ℕ)
     → k ≤ stepsMade (studyOf s lanes) (runningOf s lanes list) → k ≤ stepsMade (studyOf t lanes) (runningOf t lanes out)
     → Ahead (studyOf s lanes .road) (engineAfter (studyOf t lanes) k) (engineAfter (studyOf s lanes) k)
-raised = improving.improved-steps
+better-road = improving.better-steps
 
 -- so, if both accept, the total returned is not larger; and an example in which it falls
-pub raised-accepted : (s t lanes : List ℕ) → Taken s lanes → Taken t lanes → Improved (studyOf s lanes) (studyOf t lanes) → (list out : List ℕ)
+pub better-road-accepted : (s t lanes : List ℕ) → Openable s lanes → Openable t lanes → BetterRoad (studyOf s lanes) (studyOf t lanes) → (list out : List ℕ)
     → runningOf s lanes list .number ≡ 0 → runningOf t lanes out .number ≡ 0
     → totalOf (runningOf t lanes out .state) ≤ totalOf (runningOf s lanes list .state)
-raised-accepted = improving.improved-accepted
+better-road-accepted = improving.better-accepted
 
-pub raised-profits : worked.Profits
-raised-profits = worked.profits
+pub faster-road : worked.FasterRoad
+faster-road = worked.faster-road
 
 -- request 9. The result reads without refusal, as upstream's cells, then downstream's, with the stated share at the joint
 pub joined : (up down : List ℕ) (share : ℕ) (target : List ℕ) → joiningOf up down share target .number ≡ 0
@@ -274,8 +274,8 @@ joined-ends = joins.ends
 
 -- the joined record reads, so demand 3 holds for it
 pub joined-compared : (up down : List ℕ) (share : ℕ) (target : List ℕ) → joiningOf up down share target .number ≡ 0 → (lanes : List ℕ)
-    → Taken (joins.joinedBytes up down share target) lanes → (list : List ℕ)
-    → Promised (joins.joinedBytes up down share target) lanes (listAfter (joins.joinedBytes up down share target) lanes list)
+    → Openable (joins.joinedBytes up down share target) lanes → (list : List ℕ)
+    → DemandAndGrounds (joins.joinedBytes up down share target) lanes (listAfter (joins.joinedBytes up down share target) lanes list)
     (runningOf (joins.joinedBytes up down share target) lanes list)
 joined-compared = joinedRun.joined-promised
 
@@ -313,13 +313,13 @@ pub wanted-ends : (start ceiling rate : ℕ) (arrivals table : List ℕ)
 wanted-ends = wants.ends
 
 -- 'running checks it': a ramp has the start queue, the arrivals and the releases of a table that obeys. Then running never refuses that ramp with 9
-pub never-nine : (bytes lanes : List ℕ) → Taken bytes lanes → (i start ceiling rate : ℕ) (arrivals table : List ℕ)
+pub never-nine : (bytes lanes : List ℕ) → Openable bytes lanes → (i start ceiling rate : ℕ) (arrivals table : List ℕ)
     → wantedRun.Follows (studyOf bytes lanes) i start arrivals table → TableObeys start ceiling rate arrivals table
     → (list : List ℕ) → runningOf bytes lanes list .number ≡ 9 → runningOf bytes lanes list .place ≡ i + 1 → ⊥
 never-nine = wantedRun.running-never-nine
 
 -- a table found for a ramp's own queue and arrivals is put into the record without a refusal, and the record's run then keeps the queue
-pub found-put : (bytes lanes : List ℕ) → Taken bytes lanes → (i : ℕ) → Ramp (readingOf bytes .road .ramp) (readingOf bytes .road .n) (i + 1)
+pub found-put : (bytes lanes : List ℕ) → Openable bytes lanes → (i : ℕ) → Ramp (readingOf bytes .road .ramp) (readingOf bytes .road .n) (i + 1)
     → (ceiling rate : ℕ) (lent : List ℕ)
     → wantedOf (at (readingOf bytes .state .queue) i) ceiling rate (wantedPut.rampArrivals bytes i) (length lent) .found ≡ true
     → wantedPut.QueueKept bytes lanes i ceiling
@@ -365,15 +365,15 @@ pub put-ends : (bytes : List ℕ) (step cell release : ℕ)
 put-ends = puts.ends
 
 -- a run that makes that step has checked the release against queue and supply
-pub put-checked : (bytes lanes : List ℕ) → Taken bytes lanes → (step cell release : ℕ) → puttingOf bytes step cell release .number ≡ 0 → (list : List ℕ)
+pub put-checked : (bytes lanes : List ℕ) → Openable bytes lanes → (step cell release : ℕ) → puttingOf bytes step cell release .number ≡ 0 → (list : List ℕ)
     → step < stepsMade (studyOf (releasedRecord bytes step cell release) lanes) (runningOf (releasedRecord bytes step cell release) lanes list)
     → (i : ℕ) → i + 1 ≡ cell → putting.ReleaseChecked (studyOf (releasedRecord bytes step cell release) lanes)
     (listAfter (releasedRecord bytes step cell release) lanes list) step release i
 put-checked = putting.put-checked
 
 -- each road is then compared with its own rivals
-pub put-compared : (bytes lanes : List ℕ) → Taken bytes lanes → (step cell release : ℕ) → puttingOf bytes step cell release .number ≡ 0 → (list : List ℕ)
-    → Promised (releasedRecord bytes step cell release) lanes (listAfter (releasedRecord bytes step cell release) lanes list)
+pub put-compared : (bytes lanes : List ℕ) → Openable bytes lanes → (step cell release : ℕ) → puttingOf bytes step cell release .number ≡ 0 → (list : List ℕ)
+    → DemandAndGrounds (releasedRecord bytes step cell release) lanes (listAfter (releasedRecord bytes step cell release) lanes list)
     (runningOf (releasedRecord bytes step cell release) lanes list)
 put-compared = putting.put-promised
 
@@ -390,7 +390,7 @@ pub peak-refused : (seed peak n : ℕ) → loadingOf seed peak n .number ≡ 25 
 peak-refused = loads.refused-exactly
 
 pub peak-refused-if : (seed peak : ℕ) (list : List ℕ) → mostRate < peak
-    → (loadingOf seed peak (length list) ≡ loaded 25 seed) × (loadedList seed peak list ≡ list)
+    → (loadingOf seed peak (length list) ≡ loadWith 25 seed) × (loadedList seed peak list ≡ list)
 peak-refused-if = loads.refused-if
 
 -- the only other case is the seed's arrivals in their order, with the last number
@@ -415,16 +415,16 @@ caller-larger = callers.within-larger
 
 -- going on from a state: b is the rest of a after k steps without a fault. Going on is not refused with 7 or 8, and the whole ends as the rest does.
 -- No schedule of the whole is ahead of a run in stretches
-pub stretch-starts : {a b : Study} {k : ℕ} → onward.Rest a b k → StudyOk a → ((j : ℕ) → j < k → runSays a j .number ≡ 0) → b .start ≡ engineAfter a k
+pub stretch-starts : {a b : Study} {k : ℕ} → onward.Rest a b k → StudyOk a → ((j : ℕ) → j < k → runFault a j .number ≡ 0) → b .start ≡ engineAfter a k
     → stateFault b ≡ 0
 stretch-starts h ok none s = stretches.starts-rest h ok none s
 
-pub stretch-ends : {a b : Study} {k : ℕ} → onward.Rest a b k → b .start ≡ engineAfter a k → ((j : ℕ) → j < k → runSays a j .number ≡ 0)
+pub stretch-ends : {a b : Study} {k : ℕ} → onward.Rest a b k → b .start ≡ engineAfter a k → ((j : ℕ) → j < k → runFault a j .number ≡ 0)
     → onward.EndsAs a b k (runEnd a) (runEnd b)
 stretch-ends h s none = onward.run-rest h s none
 
-pub stretch-best : {a b : Study} {k : ℕ} → onward.Rest a b k → b .start ≡ engineAfter a k → StudyOk a → ((j : ℕ) → j < k → runSays a j .number ≡ 0)
-    → (zs : List ℕ) (j : ℕ) → j ≤ firstStep (runSays b) (b .steps) → ObeysUpTo a (proposedAt a zs) (k + j)
+pub stretch-best : {a b : Study} {k : ℕ} → onward.Rest a b k → b .start ≡ engineAfter a k → StudyOk a → ((j : ℕ) → j < k → runFault a j .number ≡ 0)
+    → (zs : List ℕ) (j : ℕ) → j ≤ firstStep (runFault b) (b .steps) → ObeysUpTo a (proposedAt a zs) (k + j)
     → Ahead (a .road) (engineAfter b j) (scheduledAt a zs (k + j))
 stretch-best h s ok none zs j l obeys = stretches.best-rest h s ok none zs j l obeys
 

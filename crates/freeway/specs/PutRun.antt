@@ -18,15 +18,15 @@ use Rattle.model.specs.Put.{puttingOf, releasedRecord, Ramp, PutRequest, Releas
 use Rattle.put.specs.Theorems.{puts, put-if}
 use Rattle.model.specs.Running.{stepsMade, runningOf, listAfter}
 use Rattle.theory.specs.Readable.{readable}
-use Rattle.model.specs.Demand.{Taken, Promised}
-use Rattle.theory.specs.DemandWhole.{promised}
+use Rattle.model.specs.Demand.{Openable, DemandAndGrounds}
+use Rattle.theory.specs.DemandWhole.{demand-and-grounds}
 
 -- a release at i in the state before a step of a table of outflows: it is at most queue plus arrivals, and at most the supply
 pub record ReleaseChecked (a : Study) (out : List ℕ) (step release i : ℕ) : Type 0 where
   pub queue : release ≤ mostReleaseAt (scheduledAt a out step) (a .rows step) i
   pub supply : release ≤ supplyAt (roadAt a step) (scheduledAt a out step) i
 
-module _ (bytes lanes : List ℕ) (taken : Taken bytes lanes) (step cell release : ℕ) (put : puttingOf bytes step cell release .number ≡ 0) where
+module _ (bytes lanes : List ℕ) (openable : Openable bytes lanes) (step cell release : ℕ) (put : puttingOf bytes step cell release .number ≡ 0) where
   abbrev after : List ℕ
   after = releasedRecord bytes step cell release
 
@@ -40,10 +40,10 @@ module _ (bytes lanes : List ℕ) (taken : Taken bytes lanes) (step cell release
   request = puts bytes step cell release put .0
 
   -- the new record is opened as the old one was
-  pub put-taken : Taken (releasedRecord bytes step cell release) lanes
-  put-taken = record {
-    reads = ap (λ (x : ReadAnswer). x .number) (release-put .reads) ∙ taken .reads;
-    opens = rw (release-put .reads) (taken .opens);
+  pub put-openable : Openable (releasedRecord bytes step cell release) lanes
+  put-openable = record {
+    reads = ap (λ (x : ReadAnswer). x .number) (release-put .reads) ∙ openable .reads;
+    opens = rw (release-put .reads) (openable .opens);
   }
 
   -- its study has the release in that step's row; the other rows are unchanged
@@ -55,9 +55,9 @@ module _ (bytes lanes : List ℕ) (taken : Taken bytes lanes) (step cell release
 
   -- demand 3 holds for it: each road is compared with its own rivals
   pub put-promised : (list : List ℕ)
-      → Promised (releasedRecord bytes step cell release) lanes (listAfter (releasedRecord bytes step cell release) lanes list)
+      → DemandAndGrounds (releasedRecord bytes step cell release) lanes (listAfter (releasedRecord bytes step cell release) lanes list)
       (runningOf (releasedRecord bytes step cell release) lanes list)
-  put-promised list = promised (releasedRecord bytes step cell release) lanes put-taken list
+  put-promised list = demand-and-grounds (releasedRecord bytes step cell release) lanes put-openable list
 
   -- the release is in the row where the model reads it
   pub put-release : (i : ℕ) → i + 1 ≡ cell → releaseAt (studyOf (releasedRecord bytes step cell release) lanes .rows step) i ≡ release
@@ -73,7 +73,7 @@ module _ (bytes lanes : List ℕ) (taken : Taken bytes lanes) (step cell release
         (listAfter (releasedRecord bytes step cell release) lanes list) step release i
     put-checked i e =
         let own = put-promised list .grounds .own (stepsMade a (runningOf after lanes list)) (le-refl _) .obeys step made .released in
-        let ok = readable after lanes (readingOf after) refl (put-taken .reads) (put-taken .opens) .ok in
+        let ok = readable after lanes (readingOf after) refl (put-openable .reads) (put-openable .opens) .ok in
         let n : i < roadAt a step .n =
         omega (arith, ok .roads step .n, request .ramp .within, ap (λ (x : ReadAnswer). x .road .n) (release-put .reads)) in
         record { queue = omega (arith, put-release i e, own .queue i n); supply = omega (arith, put-release i e, own .supply i n) }

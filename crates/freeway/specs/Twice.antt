@@ -15,7 +15,7 @@ use Rattle.writing.specs.WrittenAgain.{same-bytes}
 use Rattle.model.specs.declared.Law.{Law}
 use Rattle.model.specs.Filling.{fillingOf, recordAfter}
 use Rattle.filling.specs.Theorems.{only-releases}
-use Rattle.filling.specs.FillingAgain.{filled-taken-by, filled-twice}
+use Rattle.filling.specs.FillingAgain.{filled-openable-by, filled-twice}
 
 -- each number of a list is a byte
 abbrev pub Bytes : List ℕ → Type 0
@@ -57,7 +57,7 @@ module _ (laws : List Law) (bytes lanes list : List ℕ) where
       go false e = refused-again e
       go true e =
           let z = eqb-true (fillingOf laws bytes lanes list .number) 0 e in
-          let taken = filled-taken-by laws bytes lanes list z in
+          let taken = filled-openable-by laws bytes lanes list z in
           let reads : readingOf once ≡ readingOf bytes = only-releases laws bytes lanes list .reads in
           let again : readingOf (recordAfter laws once lanes list) ≡ readingOf once = only-releases laws once lanes list .reads in
           let rows : (k : ℕ) → k < readingOf bytes .steps

@@ -24,7 +24,7 @@ use Rattle.model.specs.Put.{Outside}
 use Rattle.model.specs.Put.{puttingOf, releasedRecord, Ramp, ReleasePut}
 use Rattle.put.specs.Theorems.{puts, put-if}
 use Rattle.model.specs.Running.{runningOf}
-use Rattle.model.specs.Demand.{Taken}
+use Rattle.model.specs.Demand.{Openable}
 use Rattle.theory.specs.Readable.{readable}
 use Rattle.freeway.specs.WantedRun.{Follows, ceiling-kept, running-never-nine}
 
@@ -97,13 +97,13 @@ rampArrivals bytes i = listOf (λ k. arrivalsAt (recordRow bytes (readingOf byte
 -- what holds after a found table was put: for every schedule and for running, with any lent list
 pub record QueueKept (bytes lanes : List ℕ) (i ceiling : ℕ) (table after : List ℕ) : Type 0 where
   pub put : PutSteps bytes (i + 1) table (readingOf bytes .steps) after
-  pub taken : Taken after lanes
+  pub openable : Openable after lanes
   pub follows : Follows (studyOf after lanes) i (at (readingOf bytes .state .queue) i) (rampArrivals bytes i) table
   pub under : (ys : ℕ → List ℕ) (k : ℕ) → k < studyOf after lanes .steps → at (scheduleAfter (studyOf after lanes) ys (suc k) .queue) i ≤ ceiling
   pub noNine : (list : List ℕ) → runningOf after lanes list .number ≡ 9 → runningOf after lanes list .place ≡ i + 1 → ⊥
 
 -- a record and a table of lanes without a refusal, and a ramp of the record
-module _ (bytes lanes : List ℕ) (taken : Taken bytes lanes) (i : ℕ)
+module _ (bytes lanes : List ℕ) (openable : Openable bytes lanes) (i : ℕ)
     (ramp : Ramp (readingOf bytes .road .ramp) (readingOf bytes .road .n) (i + 1)) where
   abbrev n : ℕ
   n = readingOf bytes .road .n
@@ -137,10 +137,10 @@ module _ (bytes lanes : List ℕ) (taken : Taken bytes lanes) (i : ℕ)
         (at (readingOf bytes .state .queue) i) (rampArrivals bytes i) table) (p .reads)
         (record { cell = omega (arith, ramp .within); steps = arrivals-length; queue = refl; comes = comes; goes = goes })
 
-    pub puts-taken : Taken after lanes
-    puts-taken = record {
-      reads = ap (λ (x : ReadAnswer). x .number) (p .reads) ∙ taken .reads;
-      opens = rw (p .reads) (taken .opens);
+    pub puts-openable : Openable after lanes
+    puts-openable = record {
+      reads = ap (λ (x : ReadAnswer). x .number) (p .reads) ∙ openable .reads;
+      opens = rw (p .reads) (openable .opens);
     }
 
   -- a table found for the ramp's own queue and arrivals is put without a refusal, and keeps the queue
@@ -170,12 +170,12 @@ module _ (bytes lanes : List ℕ) (taken : Taken bytes lanes) (i : ℕ)
     found-kept =
         let T = readingOf bytes .steps in
         let after = putSteps bytes (i + 1) table T in
-        let p = steps-put bytes (i + 1) table (taken .reads) ramp rates T (le-refl T) in
+        let p = steps-put bytes (i + 1) table (openable .reads) ramp rates T (le-refl T) in
         let f = puts-follow table after p in
-        let t = puts-taken table after p in
+        let t = puts-openable table after p in
         record {
           put = p;
-          taken = t;
+          openable = t;
           follows = f;
           under = ceiling-kept (studyOf after lanes) (readable after lanes (readingOf after) refl (t .reads) (t .opens) .ok)
               i start ceiling rate arrivals table f obeys;

@@ -19,11 +19,11 @@ use Rattle.theory.specs.RulesLaws.{Sized}
 use Rattle.model.specs.Stepping.{lowestOf, releaseFault, releaseFaultAt}
 use Rattle.theory.specs.RunsLaws.{StudyOk, schedule-sized, engine-schedule}
 use Rattle.model.specs.Reading.{readingOf, studyOf}
-use Rattle.model.specs.Running.{runSays, firstStep, EndAnswer, runEnd, runningOf}
+use Rattle.model.specs.Running.{runFault, firstStep, EndAnswer, runEnd, runningOf}
 use Rattle.theory.specs.SchedulesLaws.{step-within, end-all, end-fault}
 use Rattle.theory.specs.RunEnds.{runs-long, runs-short}
 use Rattle.theory.specs.Readable.{readable}
-use Rattle.model.specs.Demand.{Taken}
+use Rattle.model.specs.Demand.{Openable}
 use Rattle.model.specs.Wanted.{rampQueueAfter, TableObeys}
 
 -- the ramp of the cell at i has this start queue, these arrivals and this table's releases
@@ -97,33 +97,33 @@ module _ (a : Study) (ok : StudyOk a) (i start ceiling rate : ℕ) (arrivals tab
       (rw (engine-schedule a k) (release-fits (outflowsAt a) k l))
 
   pub never-nine : runEnd a .number ≡ 9 → runEnd a .place ≡ i + 1 → ⊥
-  never-nine = go (eqb (firstStep (runSays a) (a .steps)) (a .steps)) refl
+  never-nine = go (eqb (firstStep (runFault a) (a .steps)) (a .steps)) refl
     where
-      go : (b : Bool) → eqb (firstStep (runSays a) (a .steps)) (a .steps) ≡ b → runEnd a .number ≡ 9 → runEnd a .place ≡ i + 1 → ⊥
+      go : (b : Bool) → eqb (firstStep (runFault a) (a .steps)) (a .steps) ≡ b → runEnd a .number ≡ 9 → runEnd a .place ≡ i + 1 → ⊥
       go true e n p =
-          let z = ap (λ (x : EndAnswer). x .number) (end-all a (runSays a) (engineAfter a) (eqb-true _ _ e)) in
+          let z = ap (λ (x : EndAnswer). x .number) (end-all a (runFault a) (engineAfter a) (eqb-true _ _ e)) in
           omega arith
       go false e n p =
-          let k = firstStep (runSays a) (a .steps) in
-          let l : k < a .steps = omega (arith, step-within (runSays a) (a .steps), eqb-false k (a .steps) e) in
-          let end = end-fault a (runSays a) (engineAfter a) l in
+          let k = firstStep (runFault a) (a .steps) in
+          let l : k < a .steps = omega (arith, step-within (runFault a) (a .steps), eqb-false k (a .steps) e) in
+          let end = end-fault a (runFault a) (engineAfter a) l in
           no-nine-in k l
           (nine-there (releaseFaultAt (roadAt a k) (engineAfter a k) (a .rows k)) (roadAt a k .n) i
           (sym (ap (λ (x : EndAnswer). x .number) end) ∙ n) (sym (ap (λ (x : EndAnswer). x .place) end) ∙ p))
 
 -- the same for running's answer for a record, with any lent list
-module _ (bytes lanes : List ℕ) (taken : Taken bytes lanes) (i start ceiling rate : ℕ) (arrivals table : List ℕ)
+module _ (bytes lanes : List ℕ) (openable : Openable bytes lanes) (i start ceiling rate : ℕ) (arrivals table : List ℕ)
     (follows : Follows (studyOf bytes lanes) i start arrivals table) (obeys : TableObeys start ceiling rate arrivals table) where
   within : StudyOk (studyOf bytes lanes)
-  within = readable bytes lanes (readingOf bytes) refl (taken .reads) (taken .opens) .ok
+  within = readable bytes lanes (readingOf bytes) refl (openable .reads) (openable .opens) .ok
 
   pub running-never-nine : (list : List ℕ) → runningOf bytes lanes list .number ≡ 9 → runningOf bytes lanes list .place ≡ i + 1 → ⊥
   running-never-nine list n p = ⊎-elim
       (λ (l : tableSize (studyOf bytes lanes) ≤ length list).
-      let e = runs-long bytes lanes taken list l in
+      let e = runs-long bytes lanes openable list l in
       never-nine (studyOf bytes lanes) within i start ceiling rate arrivals table follows obeys
       (sym (ap (λ (x : EndAnswer). x .number) e) ∙ n) (sym (ap (λ (x : EndAnswer). x .place) e) ∙ p))
       (λ (l : length list < tableSize (studyOf bytes lanes)).
-      let z = ap (λ (x : EndAnswer). x .number) (runs-short bytes lanes taken list l) in
+      let z = ap (λ (x : EndAnswer). x .number) (runs-short bytes lanes openable list l) in
       omega (arith, n))
       (order (tableSize (studyOf bytes lanes)) (length list))

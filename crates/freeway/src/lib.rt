@@ -30,7 +30,7 @@ ghost use Rattle.model.specs.Numbers.{at};
 ghost use Rattle.model.specs.Weights.{weightedPresent, weightedTotalOfRun};
 ghost use Rattle.model.specs.Reading.{readAnswer, readingOf, readingWithin};
 ghost use Rattle.model.specs.Running.{endAnswer, runningOf, listAfter};
-ghost use Rattle.model.specs.Demand.{Taken, Promised, WeightedDemand, AcceptsExactly};
+ghost use Rattle.model.specs.Demand.{Openable, DemandAndGrounds, WeightedDemand, AcceptsExactly};
 ghost use Rattle.model.specs.Longest.{longestQueues, longestRun, longestFill};
 ghost use Rattle.model.specs.Many.{manyFault, runAnswers, runLists, runRecord, fillAnswers, fillLists, fillRecord};
 ghost use Rattle.model.specs.Judging.{judgingOf};
@@ -182,7 +182,8 @@ pub fn read_within(bytes: &[u8], cells: usize, most: usize) -> Reading
 pub fn run(bytes: &[u8], table: &[u8], out: &mut [u32]) -> Ended
     ensures answer { λ e. ⌜ endAnswer e ≡ runningOf (now (bytes .entry)) (now (table .entry)) (now (out .entry)) ⌝ }
     ensures list { λ e. ⌜ now (out .exit) ≡ listAfter (now (bytes .entry)) (now (table .entry)) (now (out .entry)) ⌝ }
-    ensures demand { λ e. ⌜ (Taken (now (bytes .entry)) (now (table .entry)) → Promised (now (bytes .entry)) (now (table .entry)) (now (out .exit)) (endAnswer e)) ⌝ }
+    ensures demand { λ e. ⌜
+        (Openable (now (bytes .entry)) (now (table .entry)) → DemandAndGrounds (now (bytes .entry)) (now (table .entry)) (now (out .exit)) (endAnswer e)) ⌝ }
 {
     running::run(bytes, table, out)
 }
@@ -192,9 +193,9 @@ pub fn run_weighted(bytes: &[u8], table: &[u8], weights: Weights, out: &mut [u32
     ensures answer { λ e. ⌜ endAnswer (e .ended) ≡ runningOf (now (bytes .entry)) (now (table .entry)) (now (out .entry)) ⌝ }
     ensures list { λ e. ⌜ now (out .exit) ≡ listAfter (now (bytes .entry)) (now (table .entry)) (now (out .entry)) ⌝ }
     ensures weighted { λ e. ⌜ e .weighted ≡ weightedTotalOfRun (at (weights .places)) (at (weights .ramps)) (now (bytes .entry)) (now (table .entry)) (now (out .entry)) ⌝ }
-    ensures demand { λ e. ⌜ (Taken (now (bytes .entry)) (now (table .entry))
-        → Promised (now (bytes .entry)) (now (table .entry)) (now (out .exit)) (endAnswer (e .ended))) ⌝ }
-    ensures weights { λ e. ⌜ (Taken (now (bytes .entry)) (now (table .entry))
+    ensures demand { λ e. ⌜ (Openable (now (bytes .entry)) (now (table .entry))
+        → DemandAndGrounds (now (bytes .entry)) (now (table .entry)) (now (out .exit)) (endAnswer (e .ended))) ⌝ }
+    ensures weights { λ e. ⌜ (Openable (now (bytes .entry)) (now (table .entry))
         → WeightedDemand (now (bytes .entry)) (now (table .entry)) (at (weights .places)) (at (weights .ramps)) (now (out .exit)) (endAnswer (e .ended)) (e .weighted)) ⌝ }
 {
     running::run_weighted(bytes, table, weights, out)
@@ -205,8 +206,8 @@ pub fn run_longest(bytes: &[u8], table: &[u8], out: &mut [u32]) -> Longest
     ensures answer { λ e. ⌜ endAnswer (e .ended) ≡ runningOf (now (bytes .entry)) (now (table .entry)) (now (out .entry)) ⌝ }
     ensures list { λ e. ⌜ now (out .exit) ≡ listAfter (now (bytes .entry)) (now (table .entry)) (now (out .entry)) ⌝ }
     ensures longest { λ e. ⌜ longestQueues e ≡ longestRun (now (bytes .entry)) (now (table .entry)) (now (out .entry)) ⌝ }
-    ensures demand { λ e. ⌜ (Taken (now (bytes .entry)) (now (table .entry))
-        → Promised (now (bytes .entry)) (now (table .entry)) (now (out .exit)) (endAnswer (e .ended))) ⌝ }
+    ensures demand { λ e. ⌜ (Openable (now (bytes .entry)) (now (table .entry))
+        → DemandAndGrounds (now (bytes .entry)) (now (table .entry)) (now (out .exit)) (endAnswer (e .ended))) ⌝ }
 {
     running::run_longest(bytes, table, out)
 }
@@ -300,7 +301,8 @@ pub fn fill(bytes: &mut [u8], laws: [Law; 64], table: &[u8], out: &mut [u32]) ->
     ensures answer { λ e. ⌜ endAnswer e ≡ fillingOf laws (now (bytes .entry)) (now (table .entry)) (now (out .entry)) ⌝ }
     ensures bytes { λ e. ⌜ now (bytes .exit) ≡ recordAfter laws (now (bytes .entry)) (now (table .entry)) (now (out .entry)) ⌝ }
     ensures list { λ e. ⌜ now (out .exit) ≡ filledList laws (now (bytes .entry)) (now (table .entry)) (now (out .entry)) ⌝ }
-    ensures demand { λ e. ⌜ (Taken (now (bytes .entry)) (now (table .entry)) → Promised (now (bytes .exit)) (now (table .entry)) (now (out .exit)) (endAnswer e)) ⌝ }
+    ensures demand { λ e. ⌜
+        (Openable (now (bytes .entry)) (now (table .entry)) → DemandAndGrounds (now (bytes .exit)) (now (table .entry)) (now (out .exit)) (endAnswer e)) ⌝ }
     ensures releases { λ e. ⌜ OnlyReleases (now (bytes .entry)) (now (bytes .exit)) ⌝ }
 {
     filling::fill(bytes, laws, table, out)
@@ -312,8 +314,8 @@ pub fn fill_longest(bytes: &mut [u8], laws: [Law; 64], table: &[u8], out: &mut [
     ensures bytes { λ e. ⌜ now (bytes .exit) ≡ recordAfter laws (now (bytes .entry)) (now (table .entry)) (now (out .entry)) ⌝ }
     ensures list { λ e. ⌜ now (out .exit) ≡ filledList laws (now (bytes .entry)) (now (table .entry)) (now (out .entry)) ⌝ }
     ensures longest { λ e. ⌜ longestQueues e ≡ longestFill laws (now (bytes .entry)) (now (table .entry)) (now (out .entry)) ⌝ }
-    ensures demand { λ e. ⌜ (Taken (now (bytes .entry)) (now (table .entry))
-        → Promised (now (bytes .exit)) (now (table .entry)) (now (out .exit)) (endAnswer (e .ended))) ⌝ }
+    ensures demand { λ e. ⌜ (Openable (now (bytes .entry)) (now (table .entry))
+        → DemandAndGrounds (now (bytes .exit)) (now (table .entry)) (now (out .exit)) (endAnswer (e .ended))) ⌝ }
     ensures releases { λ e. ⌜ OnlyReleases (now (bytes .entry)) (now (bytes .exit)) ⌝ }
 {
     filling::fill_longest(bytes, laws, table, out)

@@ -24,7 +24,7 @@ halves n m P up down i l = ⊎-elim
     (order n i)
 
 -- a joined column l of n + m cells: its first n entries are upstream's, the next m are downstream's, and past them all are 0
-pub record Joined (n m : ℕ) (up down l : List ℕ) : Type 0 where
+pub record ColumnJoined (n m : ℕ) (up down l : List ℕ) : Type 0 where
   pub upper : (i : ℕ) → i < n → at l i ≡ at up i
   pub lower : (i : ℕ) → i < m → at l (n + i) ≡ at down i
   pub past : (i : ℕ) → n + m ≤ i → at l i ≡ 0
@@ -60,7 +60,7 @@ module _ (n m : ℕ) (most : n + m ≤ mostCells) (up down : List ℕ) where
   none : (f : ℕ → ℕ) (i : ℕ) → n + m ≤ i → at (fillOf f (n + m) zeros) i ≡ 0
   none f i l = fill-past f (n + m) zeros i l ∙ zeros-at i
 
-  pub column-joined : Joined n m up down (joinedColumn n m up down)
+  pub column-joined : ColumnJoined n m up down (joinedColumn n m up down)
   column-joined = record {
     upper = λ i l. given (joinedEntry n up down) i (omega arith) ∙ entry-up n up down i l;
     lower = λ i l. given (joinedEntry n up down) (n + i) (omega arith) ∙ entry-down n up down i;

@@ -22,11 +22,11 @@ use Rattle.limits.specs.LimitsLaws.{RowOk}
 use Rattle.model.specs.Reading.{sizeOf, ReadAnswer, acceptedOf, readingOf, studyOf}
 use Rattle.reading.specs.Numbers.{Numbers, read-numbers}
 use Rattle.model.specs.Encoding.{recordOf}
-use Rattle.model.specs.Writing.{written}
+use Rattle.model.specs.Writing.{writtenCount}
 use Rattle.writing.specs.ReadBack.{Recordable, reads-back, rows-read}
 use Rattle.writing.specs.ReadStudy.{read-recordable, read-kept}
 use Rattle.model.specs.Joining.{joiningOf, joinedTarget}
-use Rattle.joining.specs.JoinedColumns.{Joined, JoinedShares, JoinedNumbers}
+use Rattle.joining.specs.JoinedColumns.{ColumnJoined, JoinedShares, JoinedNumbers}
 use Rattle.joining.specs.Theorems.{JoinedReading}
 use Rattle.joining.specs.JoinedParts.{Parts, parts-answer, parts-joined}
 use Rattle.joining.specs.RoadParts.{partOf, upperShare, partRoad, partStart, upperOf, lowerOf, part-at, start-part, part-road, part-start, part-row, part-cut}
@@ -185,7 +185,7 @@ module _ (s : List ℕ) (reads : readingOf s .number ≡ 0) (k : ℕ) (some : 1 
 
   -- and they are the parts of the record
   column : (l : List ℕ) → ((i : ℕ) → readingOf s .road .n ≤ i → at l i ≡ 0)
-      → Joined k (readingOf s .road .n - k) (partOf 0 k l) (partOf k (readingOf s .road .n - k) l) l
+      → ColumnJoined k (readingOf s .road .n - k) (partOf 0 k l) (partOf k (readingOf s .road .n - k) l) l
   column l past = record {
     upper = λ i b.
         let e : 0 + i ≡ i = omega arith in
@@ -273,7 +273,7 @@ module _ (s : List ℕ) (reads : readingOf s .number ≡ 0) (k : ℕ) (some : 1 
   -- joined again with the joint's own share they give the record
   module _ (small : (i : ℕ) → at s i < 256) (target : List ℕ) (room : length s ≤ length target) where
     pub cut-answer : joiningOf (recordOf (upperOf k (studyOf s []))) (recordOf (lowerOf k (studyOf s []))) (at (readingOf s .road .share) (k - 1)) target
-        ≡ written (length s)
+        ≡ writtenCount (length s)
     cut-answer = parts-answer s up down (at (r .share) (k - 1)) small cut-parts target room
 
     pub cut-joined : take (length s)

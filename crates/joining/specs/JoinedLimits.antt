@@ -18,10 +18,10 @@ use Rattle.model.specs.Encoding.{recordSize}
 use Rattle.model.specs.Writing.{keptSeconds, cutRoad, cutState}
 use Rattle.writing.specs.ReadBack.{Recordable}
 use Rattle.model.specs.Joining.{joinedEntry, joinedColumn, joinedShare, joinedRoad, joinedStart, joinedRow, joinedStudy}
-use Rattle.joining.specs.JoinedColumns.{halves, Joined, JoinedShares, column-joined, shares-joined, row-joined, cut-own}
+use Rattle.joining.specs.JoinedColumns.{halves, ColumnJoined, JoinedShares, column-joined, shares-joined, row-joined, cut-own}
 
 -- a limit that holds for all entries of both
-most-joined : (n m most : ℕ) {up down l : List ℕ} → Joined n m up down l → ((i : ℕ) → i < n → at up i ≤ most) → ((i : ℕ) → i < m → at down i ≤ most)
+most-joined : (n m most : ℕ) {up down l : List ℕ} → ColumnJoined n m up down l → ((i : ℕ) → i < n → at up i ≤ most) → ((i : ℕ) → i < m → at down i ≤ most)
     → (i : ℕ) → i < n + m → at l i ≤ most
 most-joined n m most {up} {down} {l} j h k =
     halves n m (λ i. at l i ≤ most) (λ i b. omega (arith, j .upper i b, h i b)) (λ i b. omega (arith, j .lower i b, k i b))
@@ -36,7 +36,7 @@ module _ (a b : Road) (share : ℕ) (ra : RoadOk a) (rb : RoadOk b) (stated : sh
   abbrev r : Road
   r = joinedRoad a b share
 
-  column : (up down : List ℕ) → Joined (a .n) (b .n) up down (joinedColumn (a .n) (b .n) up down)
+  column : (up down : List ℕ) → ColumnJoined (a .n) (b .n) up down (joinedColumn (a .n) (b .n) up down)
   column up down = column-joined n m most up down
 
   shares : JoinedShares share (a .n) (b .n) (a .share) (b .share) (joinedRoad a b share .share)

@@ -22,11 +22,11 @@ use Rattle.reading.specs.Numbers.{Numbers, read-numbers}
 use Rattle.reading.specs.Cases.{AcceptedRecord}
 use Rattle.reading.specs.Within.{read-within}
 use Rattle.model.specs.Encoding.{recordSize, recordOf}
-use Rattle.model.specs.Writing.{WriteAnswer, written}
+use Rattle.model.specs.Writing.{WriteAnswer, writtenCount}
 use Rattle.writing.specs.ReadStudy.{read-size}
 use Rattle.writing.specs.WrittenAgain.{same-bytes}
 use Rattle.model.specs.Joining.{joinedEntry, joinedColumn, joinedShare, joinedRoad, joinedStart, joinedRow, joinedOf, joiningOf, joinedTarget}
-use Rattle.joining.specs.JoinedColumns.{halves, Joined, JoinedShares, JoinedNumbers, column-joined, shares-joined, row-joined}
+use Rattle.joining.specs.JoinedColumns.{halves, ColumnJoined, JoinedShares, JoinedNumbers, column-joined, shares-joined, row-joined}
 use Rattle.joining.specs.JoinedTests.{Idle}
 use Rattle.joining.specs.Theorems.{Both, JoinRequest, JoinedReading, RowJoined, joins-if, joined-bytes}
 
@@ -35,7 +35,7 @@ module _ (n m : ℕ) {l r : List ℕ} (long : length l ≡ length r) where
   all-entries : ((i : ℕ) → i < n + m → at l i ≡ at r i) → ((i : ℕ) → n + m ≤ i → at l i ≡ at r i) → l ≡ r
   all-entries h k = ext-getD 0 l r long (λ i _. ⊎-elim (λ (q : n + m ≤ i). k i q) (λ (q : i < n + m). h i q) (order (n + m) i))
 
-  pub column-same : {up down : List ℕ} → Joined n m up down l → Joined n m up down r → l ≡ r
+  pub column-same : {up down : List ℕ} → ColumnJoined n m up down l → ColumnJoined n m up down r → l ≡ r
   column-same a b =
       all-entries
       (halves n m (λ i. at l i ≡ at r i) (λ i q. a .upper i q ∙ sym (b .upper i q)) (λ i q. a .lower i q ∙ sym (b .lower i q)))
@@ -125,7 +125,7 @@ module _ (s up down : List ℕ) (share : ℕ) (small : (i : ℕ) → at s i < 25
   most = omega (arith, p .stands .cells, accepted .road .cells)
 
   -- a column of the joined record is the record's
-  column : (u d l : List ℕ) → length l ≡ mostCells → Joined (readingOf up .road .n) (readingOf down .road .n) u d l
+  column : (u d l : List ℕ) → length l ≡ mostCells → ColumnJoined (readingOf up .road .n) (readingOf down .road .n) u d l
       → joinedColumn (readingOf up .road .n) (readingOf down .road .n) u d ≡ l
   column u d l long h =
       column-same n m (length-fill (joinedEntry n u d) (n + m) zeros ∙ length-zeros ∙ sym long) (column-joined n m most u d) h
@@ -200,8 +200,8 @@ module _ (s up down : List ℕ) (share : ℕ) (small : (i : ℕ) → at s i < 25
           room = omega (arith, size);
         }
 
-    pub parts-answer : joiningOf up down share target ≡ written (length s)
-    parts-answer = joins-if up down share target request ∙ ap written size
+    pub parts-answer : joiningOf up down share target ≡ writtenCount (length s)
+    parts-answer = joins-if up down share target request ∙ ap writtenCount size
 
     -- the target then begins with exactly these bytes
     pub parts-joined : take (length s) (joinedTarget up down share target) ≡ s

@@ -22,7 +22,7 @@ use Rattle.reading.specs.Within.{read-within}
 use Rattle.reading.specs.Headers.{Steps}
 use Rattle.model.specs.Encoding.{recordSize, recordOf}
 use Rattle.encoding.specs.Encoding.{length-record, record-in-target}
-use Rattle.model.specs.Writing.{WriteAnswer, unwritten, written}
+use Rattle.model.specs.Writing.{WriteAnswer, unwritten, writtenCount}
 use Rattle.model.specs.Joining.{joinedStudy, alike, gateIdle, joinedFits, joiningBy, joiningOf, joinedTarget, ReadsJoined}
 use Rattle.joining.specs.Theorems.{joins-only, reads-as-joined}
 use Rattle.joining.specs.JoinedBytes.{JoinNeeds}
@@ -89,26 +89,26 @@ module _ (a b : Study) (share room : ℕ) where
           pub answer-short : room < recordSize joined → unwritten 15 0 ≡ joiningBy a b share room
           answer-short l = rw (le-leb share whole h, k, g, f, lt-leb (recordSize joined) room l)
 
-          pub answer-written : recordSize joined ≤ room → written (recordSize joined) ≡ joiningBy a b share room
+          pub answer-written : recordSize joined ≤ room → writtenCount (recordSize joined) ≡ joiningBy a b share room
           answer-written l = rw (le-leb share whole h, k, g, f, le-leb (recordSize joined) room l)
 
 -- joining's answer, and the target that it leaves; without a refusal the target reads as the joined road
 pub record JoinOutcome (up down : List ℕ) (share : ℕ) (target : List ℕ) (a : WriteAnswer) (left : List ℕ) : Type 0 where
-  pub says : a ≡ joiningOf up down share target
+  pub answer : a ≡ joiningOf up down share target
   pub leaves : left ≡ joinedTarget up down share target
 
 pub promise : {up down : List ℕ} {share : ℕ} {target : List ℕ} {a b : WriteAnswer} {left : List ℕ} → JoinOutcome up down share target a left → b ≡ a
     → (b ≡ joiningOf up down share target)
     × ((left ≡ joinedTarget up down share target) × (b .number ≡ 0 → ReadsJoined up down share (b .count) left))
 promise {up} {down} {share} {target} h e =
-    let says = e ∙ h .says in
-    (says, (h .leaves, λ z. reads-as-joined up down share target says (h .leaves) z))
+    let answer = e ∙ h .answer in
+    (answer, (h .leaves, λ z. reads-as-joined up down share target answer (h .leaves) z))
 
 -- each case of the answer
 module _ (up down : List ℕ) (share : ℕ) (target : List ℕ) where
   left-refused : (a : WriteAnswer) → (a .number ≡ 0 → ⊥) → a ≡ joiningOf up down share target → JoinOutcome up down share target a target
   unfolding joinedTarget
-  left-refused a n e = record { says = e; leaves = rw (← e, ne-eqb (a .number) 0 n) }
+  left-refused a n e = record { answer = e; leaves = rw (← e, ne-eqb (a .number) 0 n) }
 
   module _ {x : ReadAnswer} (e : x ≡ readingOf up) where
     pub ends-upstream : (x .number ≡ 0 → ⊥) → JoinOutcome up down share target (unwritten (x .number) (x .place)) target
@@ -178,6 +178,6 @@ module _ (up down : List ℕ) (share : ℕ) (target : List ℕ) where
               let j = joinedStudy first second share in
               let r : Puts target 0 (recordOf j) after end = rw (es, eq) at p in
               record {
-                says = k ∙ by-studies;
+                answer = k ∙ by-studies;
                 leaves = record-in-target j target after end (length-record j) enough r .1 ∙ sym target-joined;
               }

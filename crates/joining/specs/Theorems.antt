@@ -8,7 +8,7 @@ use lib.Dec.{leb, eqb}
 use lib.ListN.{length, take, drop}
 use lib.Seq.{take-at, drop-at}
 use borrow.Author.Tests.{leb-true, leb-false, eqb-true, eqb-false}
-use Rattle.numbers.specs.Tests.{unless-elim, never}
+use Rattle.numbers.specs.Tests.{unless-elim, not-both}
 use Rattle.model.specs.Flow.{whole}
 use Rattle.model.specs.Schedules.{Study}
 use Rattle.model.specs.Record.{recordRow}
@@ -16,11 +16,11 @@ use Rattle.fields.specs.FieldsLaws.{length-row}
 use Rattle.model.specs.Reading.{ReadAnswer, acceptedOf, readingOf, studyOf}
 use Rattle.model.specs.Encoding.{recordSize, recordOf}
 use Rattle.encoding.specs.Encoding.{length-record}
-use Rattle.model.specs.Writing.{WriteAnswer, unwritten, written}
+use Rattle.model.specs.Writing.{WriteAnswer, unwritten, writtenCount}
 use Rattle.writing.specs.ReadBack.{Recordable, reads-back, rows-read}
 use Rattle.writing.specs.ReadStudy.{read-recordable, read-kept}
 use Rattle.model.specs.Joining.{joinedRoad, joinedStart, joinedRow, alike, gateIdle, joinedFits, joinedOf, joiningOf, joinedTarget, ReadsJoined}
-use Rattle.joining.specs.JoinedColumns.{Joined, JoinedShares, JoinedNumbers, column-joined, shares-joined, row-joined}
+use Rattle.joining.specs.JoinedColumns.{ColumnJoined, JoinedShares, JoinedNumbers, column-joined, shares-joined, row-joined}
 use Rattle.joining.specs.JoinedLimits.{road-cut, start-cut, study-joined}
 use Rattle.joining.specs.JoinedTests.{Alike, Idle, Small, alike-facts, facts-alike, idle-facts, facts-idle, small-facts, facts-small}
 
@@ -53,7 +53,7 @@ pub data Ends (up down : List ℕ) (share : ℕ) (target : List ℕ) : WriteAnsw
   short : Both up down → share ≤ whole → Alike (studyOf up []) (studyOf down []) → Idle (studyOf down []) → Small (joinedOf up down share)
       → length target < recordSize (joinedOf up down share) → Ends up down share target (unwritten 15 0) target
   joined : JoinRequest up down share target
-      → Ends up down share target (written (recordSize (joinedOf up down share)))
+      → Ends up down share target (writtenCount (recordSize (joinedOf up down share)))
       (recordOf (joinedOf up down share) ++ drop (recordSize (joinedOf up down share)) target)
 
 module _ (up down : List ℕ) (share : ℕ) (target : List ℕ) where
@@ -79,11 +79,11 @@ module _ (up down : List ℕ) (share : ℕ) (target : List ℕ) where
       let both : Both up down = record { upper = upper; lower = eqb-true (readingOf down .number) 0 r } in
       unless-elim End (leb share whole) (λ s. above both (leb-false share whole s)) (λ s.
       let stated = leb-true share whole s in
-      unless-elim End (alike a b) (λ t. unlike both stated (λ h. never (facts-alike a b h) t)) (λ t.
+      unless-elim End (alike a b) (λ t. unlike both stated (λ h. not-both (facts-alike a b h) t)) (λ t.
       let same = alike-facts a b t in
-      unless-elim End (gateIdle b) (λ u. busy both stated same (λ h. never (facts-idle b h) u)) (λ u.
+      unless-elim End (gateIdle b) (λ u. busy both stated same (λ h. not-both (facts-idle b h) u)) (λ u.
       let idle = idle-facts b u in
-      unless-elim End (joinedFits j) (λ v. large both stated same idle (λ h. never (facts-small j h) v)) (λ v.
+      unless-elim End (joinedFits j) (λ v. large both stated same idle (λ h. not-both (facts-small j h) v)) (λ v.
       let small = small-facts j v in
       unless-elim End (leb (recordSize j) (length target)) (λ w. short both stated same idle small (leb-false (recordSize j) (length target) w)) (λ w.
       joined (record {
@@ -96,33 +96,33 @@ module _ (up down : List ℕ) (share : ℕ) (target : List ℕ) where
       }))))))))
 
 -- there is no refusal exactly if all of these conditions hold
-joined-asked : {up down : List ℕ} {share : ℕ} {target : List ℕ} {a : WriteAnswer} {after : List ℕ} → Ends up down share target a after → a .number ≡ 0
+joined-request : {up down : List ℕ} {share : ℕ} {target : List ℕ} {a : WriteAnswer} {after : List ℕ} → Ends up down share target a after → a .number ≡ 0
     → JoinRequest up down share target
-    × ((a ≡ written (recordSize (joinedOf up down share)))
+    × ((a ≡ writtenCount (recordSize (joinedOf up down share)))
     × (after ≡ recordOf (joinedOf up down share) ++ drop (recordSize (joinedOf up down share)) target))
-joined-asked (Ends.upperUnread h) e = absurd (h e)
-joined-asked (Ends.lowerUnread q h) e = absurd (h e)
-joined-asked (Ends.above q h) e = absurd (omega arith)
-joined-asked (Ends.unlike q s h) e = absurd (omega arith)
-joined-asked (Ends.busy q s l h) e = absurd (omega arith)
-joined-asked (Ends.large q s l i h) e = absurd (omega arith)
-joined-asked (Ends.short q s l i m h) e = absurd (omega arith)
-joined-asked (Ends.joined q) e = (q, (refl, refl))
+joined-request (Ends.upperUnread h) e = absurd (h e)
+joined-request (Ends.lowerUnread q h) e = absurd (h e)
+joined-request (Ends.above q h) e = absurd (omega arith)
+joined-request (Ends.unlike q s h) e = absurd (omega arith)
+joined-request (Ends.busy q s l h) e = absurd (omega arith)
+joined-request (Ends.large q s l i h) e = absurd (omega arith)
+joined-request (Ends.short q s l i m h) e = absurd (omega arith)
+joined-request (Ends.joined q) e = (q, (refl, refl))
 
-asked-joined : {up down : List ℕ} {share : ℕ} {target : List ℕ} {a : WriteAnswer} {after : List ℕ} → Ends up down share target a after
-    → JoinRequest up down share target → a ≡ written (recordSize (joinedOf up down share))
-asked-joined (Ends.upperUnread h) k = absurd (h (k .both .upper))
-asked-joined (Ends.lowerUnread q h) k = absurd (h (k .both .lower))
-asked-joined (Ends.above q h) k = absurd (omega (arith, k .stated))
-asked-joined (Ends.unlike q s h) k = absurd (h (k .alike))
-asked-joined (Ends.busy q s l h) k = absurd (h (k .idle))
-asked-joined (Ends.large q s l i h) k = absurd (h (k .small))
-asked-joined (Ends.short q s l i m h) k = absurd (omega (arith, k .room))
-asked-joined (Ends.joined q) k = refl
+request-joined : {up down : List ℕ} {share : ℕ} {target : List ℕ} {a : WriteAnswer} {after : List ℕ} → Ends up down share target a after
+    → JoinRequest up down share target → a ≡ writtenCount (recordSize (joinedOf up down share))
+request-joined (Ends.upperUnread h) k = absurd (h (k .both .upper))
+request-joined (Ends.lowerUnread q h) k = absurd (h (k .both .lower))
+request-joined (Ends.above q h) k = absurd (omega (arith, k .stated))
+request-joined (Ends.unlike q s h) k = absurd (h (k .alike))
+request-joined (Ends.busy q s l h) k = absurd (h (k .idle))
+request-joined (Ends.large q s l i h) k = absurd (h (k .small))
+request-joined (Ends.short q s l i m h) k = absurd (omega (arith, k .room))
+request-joined (Ends.joined q) k = refl
 
 pub joins-if : (up down : List ℕ) (share : ℕ) (target : List ℕ) → JoinRequest up down share target
-    → joiningOf up down share target ≡ written (recordSize (joinedOf up down share))
-joins-if up down share target = asked-joined (ends up down share target)
+    → joiningOf up down share target ≡ writtenCount (recordSize (joinedOf up down share))
+joins-if up down share target = request-joined (ends up down share target)
 
 -- 'No refusal touches the target', and the count is 0
 refused-left : {up down : List ℕ} {share : ℕ} {target : List ℕ} {a : WriteAnswer} {after : List ℕ} → Ends up down share target a after → (a .number ≡ 0 → ⊥)
@@ -155,15 +155,15 @@ pub record JoinedReading (share : ℕ) (x y z : ReadAnswer) : Type 0 where
   pub gateCapacity : z .road .«gate_capacity» ≡ x .road .«gate_capacity»
   pub gateQueue : z .state .«gate_queue» ≡ x .state .«gate_queue»
   -- the cells
-  pub speed : Joined (x .road .n) (y .road .n) (x .road .speed) (y .road .speed) (z .road .speed)
-  pub wave : Joined (x .road .n) (y .road .n) (x .road .wave) (y .road .wave) (z .road .wave)
+  pub speed : ColumnJoined (x .road .n) (y .road .n) (x .road .speed) (y .road .speed) (z .road .speed)
+  pub wave : ColumnJoined (x .road .n) (y .road .n) (x .road .wave) (y .road .wave) (z .road .wave)
   pub shares : JoinedShares share (x .road .n) (y .road .n) (x .road .share) (y .road .share) (z .road .share)
-  pub ramp : Joined (x .road .n) (y .road .n) (x .road .ramp) (y .road .ramp) (z .road .ramp)
-  pub jam : Joined (x .road .n) (y .road .n) (x .road .jam) (y .road .jam) (z .road .jam)
-  pub capacity : Joined (x .road .n) (y .road .n) (x .road .capacity) (y .road .capacity) (z .road .capacity)
+  pub ramp : ColumnJoined (x .road .n) (y .road .n) (x .road .ramp) (y .road .ramp) (z .road .ramp)
+  pub jam : ColumnJoined (x .road .n) (y .road .n) (x .road .jam) (y .road .jam) (z .road .jam)
+  pub capacity : ColumnJoined (x .road .n) (y .road .n) (x .road .capacity) (y .road .capacity) (z .road .capacity)
   -- the start
-  pub held : Joined (x .road .n) (y .road .n) (x .state .held) (y .state .held) (z .state .held)
-  pub queue : Joined (x .road .n) (y .road .n) (x .state .queue) (y .state .queue) (z .state .queue)
+  pub held : ColumnJoined (x .road .n) (y .road .n) (x .state .held) (y .state .held) (z .state .held)
+  pub queue : ColumnJoined (x .road .n) (y .road .n) (x .state .queue) (y .state .queue) (z .state .queue)
 
 -- 'rows joined step by step': each row of the bytes, compared with those of both records
 abbrev pub RowJoined : List ℕ → List ℕ → List ℕ → ℕ → Type 0
@@ -189,14 +189,14 @@ module _ (up down : List ℕ) (share : ℕ) (target : List ℕ) (h : joiningOf u
   result = joinedOf up down share
 
   pub joins-only : JoinRequest up down share target
-  joins-only = joined-asked (ends up down share target) h .0
+  joins-only = joined-request (ends up down share target) h .0
 
   -- 'What is returned and the bytes beyond are as in writing': the record's bytes are counted, and the bytes beyond them are unchanged
   pub joined-count : joiningOf up down share target .count ≡ recordSize (joinedOf up down share)
-  joined-count = ap (λ (q : WriteAnswer). q .count) (joined-asked (ends up down share target) h .1 .0)
+  joined-count = ap (λ (q : WriteAnswer). q .count) (joined-request (ends up down share target) h .1 .0)
 
   after : joinedTarget up down share target ≡ recordOf (joinedOf up down share) ++ drop (recordSize (joinedOf up down share)) target
-  after = joined-asked (ends up down share target) h .1 .1
+  after = joined-request (ends up down share target) h .1 .1
 
   pub joined-beyond : drop (recordSize (joinedOf up down share)) (joinedTarget up down share target) ≡ drop (recordSize (joinedOf up down share)) target
   joined-beyond =

@@ -15,10 +15,10 @@ use Rattle.model.specs.Judging.{verdictOf}
 use Rattle.theory.specs.VerdictLaws.{verdict-obeys}
 use Rattle.outflows.specs.Columns.{roadOf}
 use Rattle.stepping.specs.StepNeeds.{Movable}
-use Rattle.judging.specs.ProposedRow.{Proposed}
+use Rattle.judging.specs.ProposedRow.{RowLengths}
 
 -- it requires: on some road with these columns everything is within the limits, a step is left, and the rows have all their numbers
-pub record Judges (n gate : ℕ) (speed wave share jam capacity : List ℕ) (s : State) (row y : List ℕ) : Type 0 where
+pub record JudgeStepLent (n gate : ℕ) (speed wave share jam capacity : List ℕ) (s : State) (row y : List ℕ) : Type 0 where
   pub road : Road
   pub input : InputOk (roadOf road n gate speed wave share jam capacity) s row
   pub sized : Sized (roadOf road n gate speed wave share jam capacity) s
@@ -26,9 +26,9 @@ pub record Judges (n gate : ℕ) (speed wave share jam capacity : List ℕ) (s :
   pub places : length y ≡ n + 1
 
 module _ {n gate : ℕ} {speed wave share jam capacity : List ℕ} {s : State} {row y : List ℕ}
-    (h : Judges n gate speed wave share jam capacity s row y) where
-  pub proposed : Proposed n row y
-  proposed = record { cells = h .input .road .cells; numbers = h .input .row .numbers; places = h .places }
+    (h : JudgeStepLent n gate speed wave share jam capacity s row y) where
+  pub row-lengths : RowLengths n row y
+  row-lengths = record { cells = h .input .road .cells; numbers = h .input .row .numbers; places = h .places }
 
   -- a row without a fault may be used for the move
   pub movable : {f : FaultAnswer} → f ≡ verdictOf (roadOf (h .road) n gate speed wave share jam capacity) s row y → f .number ≡ 0
@@ -41,7 +41,7 @@ module _ {n gate : ℕ} {speed wave share jam capacity : List ℕ} {s : State} {
   }
 
 -- its fault, and the state t after it: the state before it if there is a fault
-pub record JudgedStep (q : Road) (s : State) (row y : List ℕ) (f : FaultAnswer) (t : State) : Type 0 where
+pub record JudgeStepGives (q : Road) (s : State) (row y : List ℕ) (f : FaultAnswer) (t : State) : Type 0 where
   pub found : f ≡ verdictOf q s row y
   pub moved : f .number ≡ 0 → t ≡ nextOf q s row y
   pub kept : (f .number ≡ 0 → ⊥) → t ≡ s

@@ -8,7 +8,7 @@ use Rattle.numbers.specs.TablesLaws.{front-same}
 use Rattle.model.specs.declared.State.{State}
 use Rattle.model.specs.Schedules.{Study, places, engineAfter, outflowsAt, proposedAt}
 use Rattle.theory.specs.RunsLaws.{StudyOk}
-use Rattle.model.specs.Running.{runSays, firstStep}
+use Rattle.model.specs.Running.{runFault, firstStep}
 use Rattle.theory.specs.DemandLaws.{own-state}
 use Rattle.model.specs.Judging.{placesOf, heldRow, queueRow, heldTable, queueTable}
 
@@ -20,8 +20,8 @@ abbrev pub engineQueue : Study → ℕ → List ℕ
 engineQueue a k = placesOf 0 (engineAfter a (suc k) .queue) (a .road .n)
 
 -- a table whose rows are the engine's, as running writes them
-module _ (a : Study) (ok : StudyOk a) (zs : List ℕ) (same : (j : ℕ) → j < firstStep (runSays a) (a .steps) → proposedAt a zs j ≡ outflowsAt a j)
-    (list : List ℕ) (k : ℕ) (l : k ≤ firstStep (runSays a) (a .steps)) where
+module _ (a : Study) (ok : StudyOk a) (zs : List ℕ) (same : (j : ℕ) → j < firstStep (runFault a) (a .steps) → proposedAt a zs j ≡ outflowsAt a j)
+    (list : List ℕ) (k : ℕ) (l : k ≤ firstStep (runFault a) (a .steps)) where
   pub own-held : heldTable a zs list k ≡ frontOf (engineHeld a) (places a) list k
   own-held =
       front-same (heldRow a zs) (engineHeld a) (places a) list k

@@ -18,8 +18,8 @@ use Rattle.theory.specs.StepLaws.{number-of, lowest-stop, lowest-end}
 use Rattle.theory.specs.VerdictLaws.{fault-before-last, last-passes, last-above-demand, verdict-releases, verdict-outflows}
 use Rattle.outflows.specs.CarriedValues.{CarriedValues}
 
--- the row of a step and a row of outflows, gate first, for a road of n cells
-pub record Proposed (n : ℕ) (row y : List ℕ) : Type 0 where
+-- the lengths of a step's row and of a row of outflows, gate first, for a road of n cells
+pub record RowLengths (n : ℕ) (row y : List ℕ) : Type 0 where
   pub cells : n ≤ mostCells
   pub numbers : length row ≡ 1 + 2 * n
   pub places : length y ≡ n + 1

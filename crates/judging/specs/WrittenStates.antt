@@ -8,8 +8,8 @@ use native.Mathlib.Omega.{arith}
 use lib.ListN.{length, take, drop}
 use lib.Seq.{drop-drop}
 use Rattle.model.specs.Schedules.{Study, places, tableSize, scheduledAt}
-use Rattle.model.specs.Judging.{judgeSays, judgeEnd}
-use Rattle.model.specs.Running.{firstStep, EndAnswer, ended}
+use Rattle.model.specs.Judging.{judgeFault, judgeEnd}
+use Rattle.model.specs.Running.{firstStep, EndAnswer, endWith}
 use Rattle.model.specs.Judging.{heldTable, queueTable, placesOf, heldRow, queueRow}
 use Rattle.numbers.specs.FirstLaws.{faultless-stop, faultless-end}
 use Rattle.numbers.specs.RowsLaws.{length-list}
@@ -21,12 +21,12 @@ use Rattle.model.specs.declared.Road.{Road}
 use Rattle.model.specs.declared.State.{State}
 use Rattle.theory.specs.StepLaws.{number-of}
 use Rattle.theory.specs.Readable.{Readable}
-use Rattle.judging.specs.JudgedStep.{JudgedStep}
-use Rattle.judging.specs.JudgingLoop.{ObeyedSteps, JudgeTurn, obeyed-none, obeyed-end, obeyed-more, says, ends-fault}
+use Rattle.judging.specs.JudgedStep.{JudgeStepGives}
+use Rattle.judging.specs.JudgingLoop.{ObeyedSteps, JudgeTurn, obeyed-none, obeyed-end, obeyed-more, fault-is, ends-fault}
 
 -- the steps before a schedule's first fault, and the lists after them
 abbrev pub passedSteps : Study → List ℕ → ℕ
-passedSteps a zs = firstStep (judgeSays a zs) (a .steps)
+passedSteps a zs = firstStep (judgeFault a zs) (a .steps)
 
 abbrev pub heldEnd : Study → List ℕ → List ℕ → List ℕ
 heldEnd a zs list = heldTable a zs list (passedSteps a zs)
@@ -82,7 +82,7 @@ queue-wide : (a : Study) (zs : List ℕ) (k : ℕ) → length (queueRow a zs k) 
 queue-wide a zs k = length-list _ (places a)
 
 -- a schedule judged up to step k, with its states in the lists if they are written
-pub record JudgedTo (a : Study) (zs : List ℕ) (writes : Bool) (held₀ queue₀ held queue : List ℕ) (u : State) (k : ℕ) : Type 0 where
+pub record JudgedSoFar (a : Study) (zs : List ℕ) (writes : Bool) (held₀ queue₀ held queue : List ℕ) (u : State) (k : ℕ) : Type 0 where
   pub obeyed : ObeyedSteps a zs u k
   pub helds : WrittenRows writes (heldRow a zs) (places a) held₀ held k
   pub queues : WrittenRows writes (queueRow a zs) (places a) queue₀ queue k
@@ -93,14 +93,14 @@ Ends a zs writes held₀ queue₀ e held queue =
     (e ≡ judgeEnd a zs) × ((writes ≡ true → held ≡ heldEnd a zs held₀) × (writes ≡ true → queue ≡ queueEnd a zs queue₀))
 
 module _ {a : Study} {zs : List ℕ} {writes : Bool} {held₀ queue₀ : List ℕ} where
-  pub judged-none : JudgedTo a zs writes held₀ queue₀ held₀ queue₀ (a .start) 0
+  pub judged-none : JudgedSoFar a zs writes held₀ queue₀ held₀ queue₀ (a .start) 0
   judged-none = record {
     obeyed = obeyed-none;
     helds = written-none (heldRow a zs) (places a) held₀;
     queues = written-none (queueRow a zs) (places a) queue₀;
   }
 
-  module _ {held queue : List ℕ} {u : State} {k : ℕ} (h : JudgedTo a zs writes held₀ queue₀ held queue u k) where
+  module _ {held queue : List ℕ} {u : State} {k : ℕ} (h : JudgedSoFar a zs writes held₀ queue₀ held queue u k) where
     ends : {e : EndAnswer} → e ≡ judgeEnd a zs → k ≡ passedSteps a zs → Ends a zs writes held₀ queue₀ e held queue
     ends g s = (
       g,
@@ -108,20 +108,20 @@ module _ {a : Study} {zs : List ℕ} {writes : Bool} {held₀ queue₀ : List �
     )
 
     -- all steps are made
-    pub judged-end : {e : EndAnswer} → a .steps ≤ k → e ≡ ended 0 0 0 (a .road) u → Ends a zs writes held₀ queue₀ e held queue
+    pub judged-end : {e : EndAnswer} → a .steps ≤ k → e ≡ endWith 0 0 0 (a .road) u → Ends a zs writes held₀ queue₀ e held queue
     judged-end l g = ends (obeyed-end (h .obeyed) l g) (faultless-end (h .obeyed .faultless) l)
 
-    module _ {q : Road} {row y : List ℕ} (t : JudgeTurn a zs u k q row y) {f : FaultAnswer} {v : State} (j : JudgedStep q u row y f v) where
+    module _ {q : Road} {row y : List ℕ} (t : JudgeTurn a zs u k q row y) {f : FaultAnswer} {v : State} (j : JudgeStepGives q u row y f v) where
       -- a fault leaves the rows before it
-      pub judged-fault : {e : EndAnswer} → (f .number ≡ 0 → ⊥) → e ≡ ended (f .number) k (f .place) (a .road) v
+      pub judged-fault : {e : EndAnswer} → (f .number ≡ 0 → ⊥) → e ≡ endWith (f .number) k (f .place) (a .road) v
           → Ends a zs writes held₀ queue₀ e held queue
-      judged-fault n g = ends (ends-fault t j n g) (faultless-stop (t .obeyed .faultless) (t .left) (number-of (says t j)) n)
+      judged-fault n g = ends (ends-fault t j n g) (faultless-stop (t .obeyed .faultless) (t .left) (number-of (fault-is t j)) n)
 
       -- without a fault the state after the step is written too
       pub judged-more : f .number ≡ 0 → (writes ≡ true → (tableSize a ≤ length held₀) × (tableSize a ≤ length queue₀)) → {held₁ queue₁ : List ℕ}
           → held₁ ≡ cond writes (placed held (k * places a) (placesOf (v .«gate_queue») (v .held) (a .road .n))) held
           → queue₁ ≡ cond writes (placed queue (k * places a) (placesOf 0 (v .queue) (a .road .n))) queue
-          → JudgedTo a zs writes held₀ queue₀ held₁ queue₁ v (k + 1)
+          → JudgedSoFar a zs writes held₀ queue₀ held₁ queue₁ v (k + 1)
       judged-more z long eh eq =
           let p = obeyed-more t j z in
           let s : v ≡ scheduledAt a zs (suc k) = p .state ∙ ap (scheduledAt a zs) (add-one k) in

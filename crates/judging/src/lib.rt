@@ -22,12 +22,12 @@ ghost use Rattle.model.specs.Listing.{mostOutflows};
 ghost use Rattle.model.specs.Running.{endAnswer};
 ghost use Rattle.model.specs.Judging.{judgeEnd, judgingOf};
 ghost use Rattle.model.specs.Demand.{AcceptsExactly};
-ghost use Rattle.judging.specs.JudgedStep.{Judges, JudgedStep};
+ghost use Rattle.judging.specs.JudgedStep.{JudgeStepLent, JudgeStepGives};
 ghost use Rattle.model.specs.Judging.{placesOf, historyOf, heldAfter, queueAfter};
 ghost use Rattle.judging.specs.WrittenStates.{heldEnd, queueEnd, Judgeable};
 ghost use Rattle.model.specs.GoingOn.{judgingOn, historyOn, heldOn, queueOn};
-ghost use Rattle.opening.specs.OpenedStudy.{Opens};
-ghost use Rattle.judging.specs.JudgingEnds.{JudgedBy};
+ghost use Rattle.opening.specs.OpenedStudy.{OpenedReadable};
+ghost use Rattle.judging.specs.JudgingEnds.{JudgeGives};
 
 // The fault of a step, and the ledger after it: the ledger before it if there is a fault.
 struct Judged {
@@ -52,9 +52,9 @@ fn judge_step<'a>(
     row: &[u32],
     y: &[u32],
 ) -> Judged
-    requires { ⌜ Judges n «gate_capacity» (now speed) (now wave) (now share) (now jam) (now capacity)
+    requires { ⌜ JudgeStepLent n «gate_capacity» (now speed) (now wave) (now share) (now jam) (now capacity)
         (stateOf l (now held) (now queue) (now cumulative)) (now row) (now y) ⌝ }
-    ensures { λ j. ⌜ ((r : Road) → JudgedStep
+    ensures { λ j. ⌜ ((r : Road) → JudgeStepGives
         (roadOf r n «gate_capacity» (now (speed .entry)) (now (wave .entry)) (now (share .entry)) (now (jam .entry)) (now (capacity .entry)))
         (stateOf l (now (held .entry)) (now (queue .entry)) (now (cumulative .entry))) (now (row .entry)) (now (y .entry))
         (fault (refusalNumber (j .refusal)) (j .place)) (stateOf (j .ledger) (now (held .exit)) (now (queue .exit)) (now (cumulative .exit)))) ⌝ }
@@ -182,8 +182,8 @@ fn judge_opened(
     held: &mut [u32],
     queue: &mut [u32],
 ) -> Ended
-    requires { ⌜ Opens (now bytes) (now table) (readAnswer a) ⌝ }
-    ensures { λ e. ⌜ JudgedBy writes (now (schedule .entry)) (now (held .entry)) (now (queue .entry)) (now (bytes .entry)) (now (table .entry)) (readAnswer a)
+    requires { ⌜ OpenedReadable (now bytes) (now table) (readAnswer a) ⌝ }
+    ensures { λ e. ⌜ JudgeGives writes (now (schedule .entry)) (now (held .entry)) (now (queue .entry)) (now (bytes .entry)) (now (table .entry)) (readAnswer a)
         (endAnswer e) (now (held .exit)) (now (queue .exit)) ⌝ }
 {
     let refusal = a.refusal;

@@ -11,10 +11,10 @@ ghost use Rattle.model.specs.Road.{mostCells};
 ghost use Rattle.model.specs.declared.Road.{Road};
 ghost use Rattle.model.specs.Judging.{outflowFault, outflowsFaultOf, verdictOf};
 ghost use Rattle.outflows.specs.declared.Ledger.{Ledger};
-ghost use Rattle.outflows.specs.Columns.{roadOf, sending, gated, stateOf};
+ghost use Rattle.outflows.specs.Columns.{roadOf, withDemands, withGate, stateOf};
 ghost use Rattle.outflows.specs.Rooms.{Rooms};
 ghost use Rattle.model.specs.Refusals.{refusalNumber, faultAnswer};
-ghost use Rattle.judging.specs.ProposedRow.{Proposed};
+ghost use Rattle.judging.specs.ProposedRow.{RowLengths};
 
 // The refusal of one place's outflow: 13 above its demand, then 14 if more than the room enters the next cell.
 fn outflow_refusal(outflow: u32, demand: u32, entering: u64, room: u32) -> Refusal
@@ -46,10 +46,10 @@ fn outflows_fault<'a, 'b>(
 ) -> Fault
     requires { ⌜ (n ≤ mostCells) × (length (now y) ≡ n + 1) ⌝ }
     ensures { λ q. ⌜ ((r : Road) (l : Ledger) (queue row : List ℕ)
-        → Rooms (sending r n «gate_capacity» (now (speed .entry)) (now (share .entry)) (now (capacity .entry)))
-        (stateOf (gated l «gate_queue» «gate_cumulative») (now (held .entry)) queue (now (cumulative .entry))) row (now (room .entry))
-        → faultAnswer q ≡ outflowsFaultOf (sending r n «gate_capacity» (now (speed .entry)) (now (share .entry)) (now (capacity .entry)))
-        (stateOf (gated l «gate_queue» «gate_cumulative») (now (held .entry)) queue (now (cumulative .entry))) row (now (y .entry))) ⌝ }
+        → Rooms (withDemands r n «gate_capacity» (now (speed .entry)) (now (share .entry)) (now (capacity .entry)))
+        (stateOf (withGate l «gate_queue» «gate_cumulative») (now (held .entry)) queue (now (cumulative .entry))) row (now (room .entry))
+        → faultAnswer q ≡ outflowsFaultOf (withDemands r n «gate_capacity» (now (speed .entry)) (now (share .entry)) (now (capacity .entry)))
+        (stateOf (withGate l «gate_queue» «gate_cumulative») (now (held .entry)) queue (now (cumulative .entry))) row (now (y .entry))) ⌝ }
 {
     let mut part = Road::WHOLE;
     let mut before = gate_cumulative;
@@ -100,10 +100,10 @@ pub fn verdict<'a, 'b>(
     room: &mut [u32; 64],
     y: &[u32],
 ) -> Fault
-    requires { ⌜ (Proposed n (now row) (now y)) × (length (now room) ≡ mostCells) ⌝ }
+    requires { ⌜ (RowLengths n (now row) (now y)) × (length (now room) ≡ mostCells) ⌝ }
     ensures fault { λ q. ⌜ ((r : Road) (l : Ledger) → faultAnswer q
         ≡ verdictOf (roadOf r n «gate_capacity» (now (speed .entry)) (now (wave .entry)) (now (share .entry)) (now (jam .entry)) (now (capacity .entry)))
-        (stateOf (gated l «gate_queue» «gate_cumulative») (now (held .entry)) (now (queue .entry)) (now (cumulative .entry))) (now (row .entry)) (now (y .entry))) ⌝ }
+        (stateOf (withGate l «gate_queue» «gate_cumulative») (now (held .entry)) (now (queue .entry)) (now (cumulative .entry))) (now (row .entry)) (now (y .entry))) ⌝ }
     ensures length { λ q. ⌜ length (now (room .exit)) ≡ mostCells ⌝ }
 {
     let q = outflows::lent::releases(n, wave, jam, capacity, held, queue, row, room);

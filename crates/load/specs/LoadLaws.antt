@@ -10,7 +10,7 @@ use borrow.Author.Tests.{le-leb, lt-leb}
 use Rattle.model.specs.Numbers.{at}
 use Rattle.numbers.specs.RowsLaws.{length-list, list-at}
 use Rattle.model.specs.Road.{mostRate}
-use Rattle.model.specs.Load.{numbers, half, nextNumber, arrivalOf, numberAfter, arrivalAt, arrivalsOf, loaded, loadingOf, loadedList}
+use Rattle.model.specs.Load.{numbers, half, nextNumber, arrivalOf, numberAfter, arrivalAt, arrivalsOf, loadWith, loadingOf, loadedList}
 
 -- one law for every width: the product of two numbers of k bits has at most 2k bits
 pub product-below : (k : ℕ) {a b : ℕ} → a < 2 ^ k → b < 2 ^ k → a * b < 2 ^ (k + k)
@@ -53,7 +53,7 @@ module _ (seed peak : ℕ) where
 
   -- both cases of the answer, by the peak
   module _ (h : mostRate < peak) where
-    pub refused-answer : (n : ℕ) → loadingOf seed peak n ≡ loaded 25 seed
+    pub refused-answer : (n : ℕ) → loadingOf seed peak n ≡ loadWith 25 seed
     unfolding loadingOf
     refused-answer n = rw (lt-leb peak mostRate h)
 
@@ -62,7 +62,7 @@ module _ (seed peak : ℕ) where
     refused-list list = rw (lt-leb peak mostRate h)
 
   module _ (h : peak ≤ mostRate) where
-    pub loaded-answer : (n : ℕ) → loadingOf seed peak n ≡ loaded 0 (numberAfter seed n)
+    pub loaded-answer : (n : ℕ) → loadingOf seed peak n ≡ loadWith 0 (numberAfter seed n)
     unfolding loadingOf
     loaded-answer n = rw (le-leb peak mostRate h)
 

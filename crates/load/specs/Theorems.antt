@@ -9,7 +9,7 @@ use lib.ListN.{length, length-append}
 use Rattle.model.specs.Numbers.{at, listOf}
 use Rattle.numbers.specs.Tests.{order}
 use Rattle.model.specs.Road.{mostRate}
-use Rattle.model.specs.Load.{nextNumber, numberAfter, arrivalAt, arrivalsOf, LoadAnswer, loaded, loadingOf, loadedList, Arrivals, LoadEnds}
+use Rattle.model.specs.Load.{nextNumber, numberAfter, arrivalAt, arrivalsOf, LoadAnswer, loadWith, loadingOf, loadedList, Arrivals, LoadEnds}
 use Rattle.load.specs.LoadLaws.{arrival-most, number-none, number-below, arrivals-length, arrivals-at, refused-answer, refused-list, loaded-answer, loaded-list}
 
 -- 1: every arrival is at most the peak
@@ -75,7 +75,7 @@ refused-exactly seed peak n e = ⊎-elim
     (λ (h : mostRate < peak). h)
     (order peak mostRate)
 
-pub refused-if : (seed peak : ℕ) (list : List ℕ) → mostRate < peak → (loadingOf seed peak (length list) ≡ loaded 25 seed) × (loadedList seed peak list ≡ list)
+pub refused-if : (seed peak : ℕ) (list : List ℕ) → mostRate < peak → (loadingOf seed peak (length list) ≡ loadWith 25 seed) × (loadedList seed peak list ≡ list)
 refused-if seed peak list h = (refused-answer seed peak h (length list), refused-list seed peak h list)
 
 pub arrivals : (seed peak : ℕ) (list : List ℕ) → peak ≤ mostRate → Arrivals seed peak list (loadedList seed peak list)
@@ -93,6 +93,6 @@ ends seed peak list = ⊎-elim
     (order peak mostRate)
 
 -- an answer and a list that the definitions give are one of the cases, so a contract may promise all three
-pub ended : (seed peak : ℕ) (list : List ℕ) {a : LoadAnswer} {left : List ℕ} → a ≡ loadingOf seed peak (length list) → left ≡ loadedList seed peak list
+pub meets-contract : (seed peak : ℕ) (list : List ℕ) {a : LoadAnswer} {left : List ℕ} → a ≡ loadingOf seed peak (length list) → left ≡ loadedList seed peak list
     → (a ≡ loadingOf seed peak (length list)) × ((left ≡ loadedList seed peak list) × LoadEnds seed peak list a left)
-ended seed peak list e f = (e, (f, rw (e, f) (ends seed peak list)))
+meets-contract seed peak list e f = (e, (f, rw (e, f) (ends seed peak list)))

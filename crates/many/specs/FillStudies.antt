@@ -16,11 +16,11 @@ use Rattle.fields.specs.FieldsLaws.{length-row, row-at}
 use Rattle.model.specs.Flow.{arrivalsAt}
 use Rattle.model.specs.Reading.{ReadAnswer, readingOf, studyOf}
 use Rattle.reading.specs.Within.{read-row}
-use Rattle.theory.specs.VersionUnread.{stamped}
+use Rattle.theory.specs.VersionUnread.{withVersion}
 use Rattle.model.specs.Running.{EndAnswer}
 use Rattle.model.specs.Longest.{Queues, longestOf, longestFill}
 use Rattle.model.specs.Filling.{fillingOf, recordAfter, filledList}
-use Rattle.filling.specs.FillingAgain.{SameArrivals, filled-taken-by}
+use Rattle.filling.specs.FillingAgain.{SameArrivals, filled-openable-by}
 use Rattle.filling.specs.Theorems.{only-releases}
 use Rattle.model.specs.Many.{arrivalNumber, withArrivals, arrivalsSize, studyArrivals, withStudyArrivals, studyRecord, entrySize, answerEntry}
 use Rattle.model.specs.Many.{fillEntry, listAfterFillings, recordAfterFillings}
@@ -78,7 +78,7 @@ module _ (bytes arrivals : List ℕ) (reads : readingOf bytes .number ≡ 0) {u 
       let es : readingOf s .road .n ≡ n = q .0 in
       let ev : readingOf v .road .n ≡ n = ap (λ (x : ReadAnswer). x .road .n) studies-alike ∙ q .0 in
       record {
-        road = ap (λ (x : ReadAnswer). stamped (readingOf v .road .version) (readingOf v .road .seconds) (x .road)) studies-alike;
+        road = ap (λ (x : ReadAnswer). withVersion (readingOf v .road .version) (readingOf v .road .seconds) (x .road)) studies-alike;
         start = ap (λ (x : ReadAnswer). x .state) studies-alike;
         steps = ap (λ (x : ReadAnswer). x .steps) studies-alike;
         lanes = refl;
@@ -119,7 +119,7 @@ module _ (laws : List Law) {bytes arrivals : List ℕ} {n T count : ℕ} {answer
       let e = fillingOf laws v lanes list in
       fault-elim (e .number)
       (λ d. rw (ne-eqb (e .number) 0 d) h)
-      (λ z. filled-kept bytes (studies .reads) h (filled-taken-by laws v lanes list z .reads) (only-releases laws v lanes list))
+      (λ z. filled-kept bytes (studies .reads) h (filled-openable-by laws v lanes list z .reads) (only-releases laws v lanes list))
 
   module _ (k : ℕ) {after : List ℕ} (e : after ≡ recordAfterFillings laws bytes lanes arrivals list k) where
     pub left-size : length after ≡ length bytes

@@ -18,14 +18,14 @@ use Rattle.model.specs.Road.{zeros}
 use Rattle.model.specs.Reading.{ReadAnswer, readingOf, studyBy, studyOf}
 use Rattle.model.specs.Stepping.{tableFault}
 use Rattle.model.specs.Meter.{lawFaultOf}
-use Rattle.model.specs.Demand.{Taken}
+use Rattle.model.specs.Demand.{Openable}
 use Rattle.theory.specs.Readable.{readable}
 use Rattle.theory.specs.RunsLaws.{StudyOk}
 use Rattle.model.specs.Filling.{MeterState}
-use Rattle.model.specs.Running.{EndAnswer, ended, noState, lanesFault, stepsMade}
+use Rattle.model.specs.Running.{EndAnswer, endWith, noState, lanesFault, stepsMade}
 use Rattle.model.specs.Longest.{maximumOf, stayedOf, longestOf, filledAfter, longestFill}
 use Rattle.model.specs.Filling.{meteredAfter, meteredFrom, filledBytes, fillingOf, recordAfter, filledList}
-use Rattle.filling.specs.FillingAgain.{SameArrivals, metered-same, filled-alike-by, filled-taken-by}
+use Rattle.filling.specs.FillingAgain.{SameArrivals, metered-same, filled-alike-by, filled-openable-by}
 
 -- what filling answers, from reading's answer and the state after all steps
 abbrev endBy : List Law → List ℕ → ℕ → ReadAnswer → State → EndAnswer
@@ -36,7 +36,7 @@ endBy laws lanes room x q =
     (unless (eqb p 0) (noState 16 p)
     (unless (eqb (f .number) 0) (noState (f .number) (f .place))
     (unless (leb (x .steps * (x .road .n + 1)) room) (noState 11 0)
-    (ended 0 0 0 (x .road) q))))
+    (endWith 0 0 0 (x .road) q))))
 
 -- the state after all steps of a record
 abbrev lastOf : List Law → List ℕ → List ℕ → State
@@ -79,19 +79,19 @@ longest-same n f g k h =
 -- two records that read alike and have the same arrivals
 module _ (laws : List Law) (lanes s u : List ℕ) (alike : readingOf u ≡ readingOf s)
     (same : readingOf s .number ≡ 0 → SameArrivals (studyOf s lanes) (studyOf u lanes)) where
-  taken-on : Taken s lanes → Taken u lanes
-  taken-on h = record {
+  openable-on : Openable s lanes → Openable u lanes
+  openable-on h = record {
     reads = ap (λ (x : ReadAnswer). x .number) alike ∙ h .reads;
     opens = ap (λ (x : ReadAnswer). lanesFault (studyBy u lanes (x .road) (x .state) (x .steps)) .number) alike ∙ h .opens;
   }
 
   -- they have the same states if no refusal applies
-  states : Taken s lanes → (k : ℕ) → k ≤ readingOf s .steps → filledAfter laws (studyOf u lanes) k ≡ filledAfter laws (studyOf s lanes) k
+  states : Openable s lanes → (k : ℕ) → k ≤ readingOf s .steps → filledAfter laws (studyOf u lanes) k ≡ filledAfter laws (studyOf s lanes) k
   states h k l =
       let ok : StudyOk (studyOf s lanes) = readable s lanes (readingOf s) refl (h .reads) (h .opens) .ok in
       ap (λ (m : MeterState). m .state) (metered-same laws ok (same (h .reads)) k l)
 
-  last-same : Taken s lanes → lastOf laws lanes u ≡ lastOf laws lanes s
+  last-same : Openable s lanes → lastOf laws lanes u ≡ lastOf laws lanes s
   last-same h =
       ap (λ (x : ReadAnswer). filledAfter laws (studyOf u lanes) (x .steps)) alike ∙ states h (readingOf s .steps) (le-refl (readingOf s .steps))
 
@@ -107,7 +107,7 @@ module _ (laws : List Law) (lanes s u : List ℕ) (alike : readingOf u ≡ readi
       unless-same (eqb p 0) (noState 16 p) (λ _.
       unless-same (eqb (f .number) 0) (noState (f .number) (f .place)) (λ o.
       unless-same (leb (x .steps * (x .road .n + 1)) (length list)) (noState 11 0) (λ _.
-      ap (ended 0 0 0 (x .road)) (last-same (record { reads = eqb-true (x .number) 0 r; opens = eqb-true (f .number) 0 o }))))))
+      ap (endWith 0 0 0 (x .road)) (last-same (record { reads = eqb-true (x .number) 0 r; opens = eqb-true (f .number) 0 o }))))))
       ∙ sym (fills-by laws s lanes list)
 
   -- the longest queues are the same
@@ -131,7 +131,7 @@ module _ (laws : List Law) (lanes s u : List ℕ) (alike : readingOf u ≡ readi
       rw z begin)
       (λ h j l.
       let all : k ≡ a .steps = rw (eq-eqb (e .number) 0 h) refl in
-      states (filled-taken-by laws s lanes list h) j (omega arith)))
+      states (filled-openable-by laws s lanes list h) j (omega arith)))
 
   -- the lists are the same
   pub lists-alike : (list : List ℕ) → filledList laws u lanes list ≡ filledList laws s lanes list
@@ -141,7 +141,7 @@ module _ (laws : List Law) (lanes s u : List ℕ) (alike : readingOf u ≡ readi
       let d : fillingOf laws u lanes list .number ≡ e .number = ap (λ (x : EndAnswer). x .number) (fills-alike list) in
       fault-elim (e .number)
       (λ h. rw (d, ne-eqb (e .number) 0 h) refl)
-      (λ h. let taken = filled-taken-by laws s lanes list h in filled-alike-by laws s u lanes list taken (taken-on taken) (same (taken .reads)) .written)
+      (λ h. let openable = filled-openable-by laws s lanes list h in filled-alike-by laws s u lanes list openable (openable-on openable) (same (openable .reads)) .written)
 
 -- filling uses only the length of the list
 module _ (laws : List Law) (s lanes list out : List ℕ) (e : length out ≡ length list) where

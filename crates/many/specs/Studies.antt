@@ -43,7 +43,7 @@ unfolding answerEntry
 length-entry e q h = omega (arith, h)
 
 -- the record, the list and the answers after k studies; the arrivals of the next begin at `from`, and its entry at `to`
-pub record DoneSoFar (entries records lists : ℕ → List ℕ) (size count : ℕ) (answers after out left : List ℕ) (from to k : ℕ) : Type 0 where
+pub record StudiesSoFar (entries records lists : ℕ → List ℕ) (size count : ℕ) (answers after out left : List ℕ) (from to k : ℕ) : Type 0 where
   pub within : k ≤ count
   pub place : from ≡ k * size
   pub entry : to ≡ k * entrySize
@@ -54,7 +54,7 @@ pub record DoneSoFar (entries records lists : ℕ → List ℕ) (size count : �
 module _ (entries records lists : ℕ → List ℕ) {bytes arrivals : List ℕ} {n T count : ℕ} {answers : List ℕ} (studies : Studies bytes arrivals n T count answers)
     (numbers : (k : ℕ) → length (entries k) ≡ entrySize) where
   abbrev After : List ℕ → List ℕ → List ℕ → ℕ → ℕ → ℕ → Type 0
-  After after out left from to k = DoneSoFar entries records lists (arrivalsSize n T) count answers after out left from to k
+  After after out left from to k = StudiesSoFar entries records lists (arrivalsSize n T) count answers after out left from to k
 
   pub accepted : AcceptedRecord bytes (readingOf bytes .steps) (readingOf bytes .road) (readingOf bytes .state)
   accepted = read-within bytes (readingOf bytes) refl (studies .reads)

@@ -16,7 +16,7 @@ ghost use Rattle.model.specs.Many.{putArrivals, withArrivals, entrySize, answer
 ghost use Rattle.model.specs.Many.{fillEntry, fillAnswers, listAfterFillings, fillLists, recordAfterFillings, fillRecord};
 ghost use Rattle.many.specs.Putting.{RowFits, TableFits};
 ghost use Rattle.many.specs.Studies.{Studies};
-ghost use Rattle.many.specs.Whole.{Found};
+ghost use Rattle.many.specs.Whole.{ManyFinding};
 
 // How many numbers an entry has, and how many come before those of the ramps.
 const ENTRY: usize = 75;
@@ -193,7 +193,7 @@ fn refused(refusal: Refusal, place: usize) -> Whole
 
 // The refusals of reading, then 27: tables that are not whole, then no room for an entry a study.
 fn studies(bytes: &[u8], arrivals: &[u32], answers: &[u64]) -> Whole
-    ensures { λ a. ⌜ Found (now (bytes .entry)) (now (arrivals .entry)) (now (answers .entry)) (faultAnswer (a .fault)) (a .n) (a .steps) (a .count) ⌝ }
+    ensures { λ a. ⌜ ManyFinding (now (bytes .entry)) (now (arrivals .entry)) (now (answers .entry)) (faultAnswer (a .fault)) (a .n) (a .steps) (a .count) ⌝ }
 {
     let a = reading::read(bytes);
     let refusal = a.refusal;

@@ -86,18 +86,18 @@ module _ (bytes lanes : List ℕ) where
         → total ≤ weightedTotalOfSchedule w u a zs (stepsMade a (judgingOf bytes lanes zs))
 
   -- no refusal of the record (those of reading) or of its table of lanes (17, 18) applies
-  pub record Taken : Type 0 where
+  pub record Openable : Type 0 where
     pub reads : readingOf bytes .number ≡ 0
     pub opens : lanesFault a .number ≡ 0
 
   -- both: what `run` promises about a record and a table to which no such refusal applies
-  pub record Promised (out : List ℕ) (e : EndAnswer) : Type 0 where
+  pub record DemandAndGrounds (out : List ℕ) (e : EndAnswer) : Type 0 where
     pub demand : Demand out e
     pub grounds : Grounds out e
 
 -- a schedule obeys the rules of a record under a table of lanes: no refusal of either applies, it has T × (n + 1) numbers, and it obeys in all T steps
 pub record ObeysAll (bytes lanes zs : List ℕ) : Type 0 where
-  pub taken : Taken bytes lanes
+  pub openable : Openable bytes lanes
   pub right : length zs ≡ tableSize (studyOf bytes lanes)
   pub reaches : Reaches (studyOf bytes lanes) zs (studyOf bytes lanes .steps)
 

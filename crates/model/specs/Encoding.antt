@@ -56,5 +56,5 @@ unfoldable pub recordOf : Study → List ℕ
 recordOf a = headerBytes a ++ (concatOf (cellBytes (a .road) (a .start)) (a .road .n) ++ concatOf (rowBytes (a .road .n) (a .rows)) (a .steps))
 
 -- the study that writing is given: a road, T, a start and the numbers of all rows, one row after the other
-abbrev pub given : Road → ℕ → Start → List ℕ → Study
-given road T start rows = study road (startState start) T (rowAt rows (rowNumbers (road .n))) []
+abbrev pub givenStudy : Road → ℕ → Start → List ℕ → Study
+givenStudy road T start rows = study road (startState start) T (rowAt rows (rowNumbers (road .n))) []

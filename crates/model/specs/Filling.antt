@@ -17,7 +17,7 @@ use Rattle.model.specs.Move.{nextOf}
 use Rattle.model.specs.Schedules.{outflowsOf, Study, study, roadAt, tableSize}
 use Rattle.model.specs.Record.{numberSize, versionOf, entryStart, recordRow}
 use Rattle.model.specs.Reading.{readingOf, studyOf}
-use Rattle.model.specs.Running.{EndAnswer, ended, noState, lanesFault, tableOf}
+use Rattle.model.specs.Running.{EndAnswer, endWith, noState, lanesFault, tableOf}
 use Rattle.model.specs.Meter.{wishOf, wholeBelow, lawAt, lawFaultOf}
 use Rattle.model.specs.Put.{putTable, releaseNumber, releasedRow, Outside}
 
@@ -107,7 +107,7 @@ fillingOf laws bytes lanes list =
     (unless (eqb (lawPlace laws (studyOf bytes lanes)) 0) (noState 16 (lawPlace laws (studyOf bytes lanes)))
     (unless (eqb (lanesFault (studyOf bytes lanes) .number) 0) (noState (lanesFault (studyOf bytes lanes) .number) (lanesFault (studyOf bytes lanes) .place))
     (unless (leb (tableSize (studyOf bytes lanes)) (length list)) (noState 11 0)
-    (ended 0 0 0 (studyOf bytes lanes .road) (meteredAfter laws (studyOf bytes lanes) (studyOf bytes lanes .steps) .state)))))
+    (endWith 0 0 0 (studyOf bytes lanes .road) (meteredAfter laws (studyOf bytes lanes) (studyOf bytes lanes .steps) .state)))))
 
 -- the record and the list afterwards; a refusal leaves both unchanged
 unfoldable pub recordAfter : List Law → List ℕ → List ℕ → List ℕ → List ℕ

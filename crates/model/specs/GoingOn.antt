@@ -12,7 +12,7 @@ use Rattle.model.specs.Road.{mostSteps, emptyState}
 use Rattle.model.specs.Limits.{stateOk}
 use Rattle.model.specs.Schedules.{Study, tableSize, engineAfter}
 use Rattle.model.specs.Reading.{readingOf, studyBy}
-use Rattle.model.specs.Running.{EndAnswer, ended, noState, unlessOpened, lanesFault, runEnd, stepsMade, tableOf}
+use Rattle.model.specs.Running.{EndAnswer, endWith, noState, unlessOpened, lanesFault, runEnd, stepsMade, tableOf}
 use Rattle.model.specs.Weights.{weightedTotal}
 use Rattle.model.specs.Judging.{judgeEnd}
 use Rattle.model.specs.Judging.{heldTable, queueTable}
@@ -107,7 +107,7 @@ fillingOn laws bytes lanes m list =
     (unless (eqb (lanesFault a .number) 0) (noState (lanesFault a .number) (lanesFault a .place))
     (unless (eqb (progressFault a m) 0) (noState (progressFault a m) 0)
     (unless (leb (tableSize a) (length list)) (noState 11 0)
-    (ended 0 0 0 (a .road) (meteredFrom laws a m (a .steps) .state))))))
+    (endWith 0 0 0 (a .road) (meteredFrom laws a m (a .steps) .state))))))
 
 -- what filling the next record goes on from; all zero after a refusal
 unfoldable pub progressOn : List Law → List ℕ → List ℕ → MeterState → List ℕ → MeterState

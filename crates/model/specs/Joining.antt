@@ -14,7 +14,7 @@ use Rattle.model.specs.Schedules.{Study, study}
 use Rattle.model.specs.Record.{recordRow}
 use Rattle.model.specs.Reading.{readingOf, studyOf, acceptedOf}
 use Rattle.model.specs.Encoding.{recordSize, recordOf}
-use Rattle.model.specs.Writing.{WriteAnswer, unwritten, written}
+use Rattle.model.specs.Writing.{WriteAnswer, unwritten, writtenCount}
 
 -- entry i of a joined column: upstream's n entries, then downstream's
 abbrev pub joinedEntry : ℕ → List ℕ → List ℕ → ℕ → ℕ
@@ -88,7 +88,7 @@ joiningBy a b share room =
     (unless (gateIdle b) (unwritten 21 0)
     (unless (joinedFits (joinedStudy a b share)) (unwritten 22 0)
     (unless (leb (recordSize (joinedStudy a b share)) room) (unwritten 15 0)
-    (written (recordSize (joinedStudy a b share)))))))
+    (writtenCount (recordSize (joinedStudy a b share)))))))
 
 -- the joined study of two records
 abbrev pub joinedOf : List ℕ → List ℕ → ℕ → Study

@@ -39,12 +39,12 @@ unfoldable pub verdictOf : Road → State → List ℕ → List ℕ → FaultAns
 verdictOf r s row y = unless (eqb (releasesOf r s row .number) 0) (releasesOf r s row) (outflowsFaultOf r s row y)
 
 -- judging's fault in step k: 9 or 10 as in stepping, then 13 before 14
-abbrev pub judgeSays : Study → List ℕ → ℕ → FaultAnswer
-judgeSays a zs k = verdictOf (roadAt a k) (scheduledAt a zs k) (a .rows k) (proposedAt a zs k)
+abbrev pub judgeFault : Study → List ℕ → ℕ → FaultAnswer
+judgeFault a zs k = verdictOf (roadAt a k) (scheduledAt a zs k) (a .rows k) (proposedAt a zs k)
 
 -- the end of judging: at the first row that breaks a rule, or after all T steps
 abbrev pub judgeEnd : Study → List ℕ → EndAnswer
-judgeEnd a zs = endOf a (judgeSays a zs) (scheduledAt a zs)
+judgeEnd a zs = endOf a (judgeFault a zs) (scheduledAt a zs)
 
 -- judging takes a record, a table of lanes and a proposed schedule: 12, a list not of length T × (n + 1); then, step by step, 9 or 10, and 13 or 14
 unfoldable pub judgingOf : List ℕ → List ℕ → List ℕ → EndAnswer

@@ -140,7 +140,7 @@ mostText = mostLine * mostOutflows + mostLine + (mostLast + mostTime)
 
 -- what a buffer holds after a record was printed into it: the text at its start, and from index `mostText` on what it held before.
 -- The bytes between are not specified: a refusal's line overwrites the lines that were put there first
-pub record Printed (before text after : List ℕ) (end : ℕ) : Type 0 where
+pub record HoldsPrinted (before text after : List ℕ) (end : ℕ) : Type 0 where
   pub holds : Holds before text after end
   pub short : end ≤ mostText
   pub beyond : drop mostText after ≡ drop mostText before

@@ -46,12 +46,12 @@ pub record LoadAnswer : Type 0 where
 abbrev pub loadAnswer : Loaded → LoadAnswer
 loadAnswer a = record { number = refusalNumber (a .refusal); last = a .last }
 
-abbrev pub loaded : ℕ → ℕ → LoadAnswer
-loaded number last = record { number = number; last = last }
+abbrev pub loadWith : ℕ → ℕ → LoadAnswer
+loadWith number last = record { number = number; last = last }
 
 -- loading a list of n numbers: 25, a peak above 1,000,000, returns the seed
 unfoldable pub loadingOf : ℕ → ℕ → ℕ → LoadAnswer
-loadingOf seed peak n = unless (leb peak mostRate) (loaded 25 seed) (loaded 0 (numberAfter seed n))
+loadingOf seed peak n = unless (leb peak mostRate) (loadWith 25 seed) (loadWith 0 (numberAfter seed n))
 
 -- the lent list afterwards; 25 leaves it unchanged
 unfoldable pub loadedList : ℕ → ℕ → List ℕ → List ℕ
@@ -65,5 +65,5 @@ pub record Arrivals (seed peak : ℕ) (list filled : List ℕ) : Type 0 where
 
 -- both cases of the answer, with the lent list that each leaves
 pub data LoadEnds (seed peak : ℕ) (list : List ℕ) : LoadAnswer → List ℕ → Type 0 where
-  refused : mostRate < peak → LoadEnds seed peak list (loaded 25 seed) list
-  filled : peak ≤ mostRate → {after : List ℕ} → Arrivals seed peak list after → LoadEnds seed peak list (loaded 0 (numberAfter seed (length list))) after
+  refused : mostRate < peak → LoadEnds seed peak list (loadWith 25 seed) list
+  filled : peak ≤ mostRate → {after : List ℕ} → Arrivals seed peak list after → LoadEnds seed peak list (loadWith 0 (numberAfter seed (length list))) after

@@ -27,8 +27,8 @@ abbrev pub stepAndRateOk : ℕ → ℕ → ℕ → Bool
 stepAndRateOk step T release = ltb step T && leb release mostRate
 
 -- the release of cell i is number 2i of a row
-abbrev pub releasedAt : List ℕ → ℕ → ℕ → ℕ → ℕ → List ℕ
-releasedAt bytes n step cell release = putEntry bytes n step (2 * cell) release
+abbrev pub withRelease : List ℕ → ℕ → ℕ → ℕ → ℕ → List ℕ
+withRelease bytes n step cell release = putEntry bytes n step (2 * cell) release
 
 -- the refusals of reading; 5 at a cell that has no ramp or isn't on the road; 6 at a step from T on or with a release above 1,000,000
 unfoldable pub puttingOf : List ℕ → ℕ → ℕ → ℕ → FaultAnswer
@@ -41,7 +41,7 @@ puttingOf bytes step cell release =
 -- the record afterwards; a refusal leaves it unchanged
 unfoldable pub releasedRecord : List ℕ → ℕ → ℕ → ℕ → List ℕ
 releasedRecord bytes step cell release =
-    unless (eqb (puttingOf bytes step cell release .number) 0) bytes (releasedAt bytes (readingOf bytes .road .n) step cell release)
+    unless (eqb (puttingOf bytes step cell release .number) 0) bytes (withRelease bytes (readingOf bytes .road .n) step cell release)
 
 -- a cell from 1 to n that has a ramp
 pub record Ramp (ramp : List ℕ) (n cell : ℕ) : Type 0 where
@@ -54,7 +54,7 @@ abbrev pub Outside : ℕ → ℕ → ℕ → Type 0
 Outside k i w = (k < i) ⊎ (i + w ≤ k)
 
 -- u is s with x put as number k of the row of step t: exactly that number changes
-pub record Put (s u : List ℕ) (n t k x : ℕ) : Type 0 where
+pub record NumberPut (s u : List ℕ) (n t k x : ℕ) : Type 0 where
   pub size : length u ≡ length s
   pub version : versionOf u ≡ versionOf s
   -- every byte outside its four is unchanged
@@ -76,7 +76,7 @@ pub record PutRequest (bytes : List ℕ) (step cell release : ℕ) : Type 0 wher
 -- the record after a release was put into it
 pub record ReleasePut (bytes after : List ℕ) (step cell release : ℕ) : Type 0 where
   -- exactly that number changes: every other byte, and every other number of every row, is unchanged
-  pub put : Put bytes after (readingOf bytes .road .n) step (2 * cell) release
+  pub put : NumberPut bytes after (readingOf bytes .road .n) step (2 * cell) release
   -- it reads without refusal, as before: the same road, T and start
   pub reads : readingOf after ≡ readingOf bytes
 

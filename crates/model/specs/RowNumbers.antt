@@ -33,13 +33,13 @@ abbrev pub takenRow : List ℕ → ℕ → ℕ → List ℕ
 takenRow bytes n t = take (rowNumbers n) (rowArray bytes n t)
 
 -- n is at most 64, T at most 1,440, and there is room for T rows
-abbrev pub roomy : ℕ → ℕ → ℕ → Bool
-roomy n T room = leb n mostCells && (leb T mostSteps && leb (T * rowNumbers n) room)
+abbrev pub roomForRows : ℕ → ℕ → ℕ → Bool
+roomForRows n T room = leb n mostCells && (leb T mostSteps && leb (T * rowNumbers n) room)
 
 -- how many numbers are put into the list; otherwise none
 unfoldable pub takenCount : ℕ → ℕ → ℕ → ℕ
-takenCount n T room = cond (roomy n T room) (T * rowNumbers n) 0
+takenCount n T room = cond (roomForRows n T room) (T * rowNumbers n) 0
 
 -- the list afterwards: the rows one after the other in front, and the numbers beyond them unchanged; otherwise all unchanged
 unfoldable pub takenList : List ℕ → ℕ → ℕ → List ℕ → List ℕ
-takenList bytes n T list = cond (roomy n T (length list)) (frontOf (takenRow bytes n) (rowNumbers n) list T) list
+takenList bytes n T list = cond (roomForRows n T (length list)) (frontOf (takenRow bytes n) (rowNumbers n) list T) list

@@ -15,12 +15,12 @@ use Rattle.model.specs.Reading.{ReadAnswer, refusedOf, readingOf, studyO
 use Rattle.model.specs.Stepping.{releasesOf, tableFault}
 
 -- running's fault in step k: 9 or 10
-abbrev pub runSays : Study → ℕ → FaultAnswer
-runSays a k = releasesOf (roadAt a k) (engineAfter a k) (a .rows k)
+abbrev pub runFault : Study → ℕ → FaultAnswer
+runFault a k = releasesOf (roadAt a k) (engineAfter a k) (a .rows k)
 
 -- the first of T steps that has a fault, T if none has one
 abbrev pub firstStep : (ℕ → FaultAnswer) → ℕ → ℕ
-firstStep says T = firstFault (λ k. says k .number) T
+firstStep faults T = firstFault (λ k. faults k .number) T
 
 -- what running and judging answer: the refusal's number or 0, step, place, road and state
 pub record EndAnswer : Type 0 where
@@ -30,28 +30,28 @@ pub record EndAnswer : Type 0 where
   pub road : Road
   pub state : State
 
-abbrev pub ended : ℕ → ℕ → ℕ → Road → State → EndAnswer
-ended number step place r s = record { number = number; step = step; place = place; road = r; state = s }
+abbrev pub endWith : ℕ → ℕ → ℕ → Road → State → EndAnswer
+endWith number step place r s = record { number = number; step = step; place = place; road = r; state = s }
 
 -- the code's answer, in the model's numbers
 abbrev pub endAnswer : Ended → EndAnswer
-endAnswer e = ended (refusalNumber (e .refusal)) (e .step) (e .place) (e .road) (e .state)
+endAnswer e = endWith (refusalNumber (e .refusal)) (e .step) (e .place) (e .road) (e .state)
 
 -- a fault comes with its step, its place and the state before that step; otherwise the final state is given
 unfoldable pub endOf : Study → (ℕ → FaultAnswer) → (ℕ → State) → EndAnswer
-endOf a says after =
-    let k = firstStep says (a .steps) in
+endOf a faults after =
+    let k = firstStep faults (a .steps) in
     cond (eqb k (a .steps))
-    (ended 0 0 0 (a .road) (after (a .steps)))
-    (ended (says k .number) k (says k .place) (a .road) (after k))
+    (endWith 0 0 0 (a .road) (after (a .steps)))
+    (endWith (faults k .number) k (faults k .place) (a .road) (after k))
 
 -- a refusal that names no state gives an all-zero road and state
 abbrev pub noState : ℕ → ℕ → EndAnswer
-noState number place = ended number 0 place emptyRoad emptyState
+noState number place = endWith number 0 place emptyRoad emptyState
 
 -- how running ends, step by step
 abbrev pub runEnd : Study → EndAnswer
-runEnd a = endOf a (runSays a) (engineAfter a)
+runEnd a = endOf a (runFault a) (engineAfter a)
 
 -- 17 and then 18, for the study's table of lanes
 abbrev pub lanesFault : Study → FaultAnswer

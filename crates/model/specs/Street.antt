@@ -41,11 +41,11 @@ restBefore limit guarantees wishes (suc i) =
 abbrev pub moreOf : ℕ → List ℕ → List ℕ → ℕ → ℕ
 moreOf limit guarantees wishes i = min (at wishes i - sureOf guarantees wishes i) (restBefore limit guarantees wishes i)
 
-abbrev pub grantAt : ℕ → List ℕ → List ℕ → ℕ → ℕ
-grantAt limit guarantees wishes i = sureOf guarantees wishes i + moreOf limit guarantees wishes i
+abbrev pub streetGrant : ℕ → List ℕ → List ℕ → ℕ → ℕ
+streetGrant limit guarantees wishes i = sureOf guarantees wishes i + moreOf limit guarantees wishes i
 
 unfoldable pub grantsOf : ℕ → List ℕ → List ℕ → List ℕ
-grantsOf limit guarantees wishes = listOf (grantAt limit guarantees wishes) (length guarantees)
+grantsOf limit guarantees wishes = listOf (streetGrant limit guarantees wishes) (length guarantees)
 
 -- granting answers a refusal's number, 0 for none
 unfoldable pub grantingOf : ℕ → List ℕ → List ℕ → ℕ → ℕ

@@ -20,14 +20,14 @@ use Rattle.model.specs.WorkedPrinted.{past, road, start, row, built, wor
 -- what a rule gives, and the number on the page
 pub record Edge : Type 0 where
   pub gives : ℕ
-  pub says : ℕ
+  pub page : ℕ
 
 unfoldable pub edge : ℕ → ℕ → Edge
-edge a b = record { gives = a; says = b }
+edge a b = record { gives = a; page = b }
 
 unfoldable pub holds : List Edge → Bool
 holds [] = true
-holds (e ∷ es) = eqb (e .gives) (e .says) && holds es
+holds (e ∷ es) = eqb (e .gives) (e .page) && holds es
 
 -- the state after k steps with all lanes open, each from the state that the last one left
 unfoldable pub after : ℕ → State

@@ -19,7 +19,7 @@ use Rattle.model.specs.Record.{numberOf, secondsSize}
 use Rattle.model.specs.Limits.{placeOk, rowOk, frameOk, inputOk}
 use Rattle.model.specs.Reading.{readingBy, studyOf}
 use Rattle.model.specs.Stepping.{lowestOf, steppingOf}
-use Rattle.model.specs.Running.{ended}
+use Rattle.model.specs.Running.{endWith}
 use Rattle.model.specs.Writing.{frameFault, writingBy}
 use Rattle.model.specs.Joining.{joiningBy, joiningOf}
 use Rattle.model.specs.Meter.{wishOf, wholeBelow, lawFinite, lawOk, lawFaultOf}
@@ -108,10 +108,10 @@ pub digits-printed : decimalOf 661 ≡ 54 ∷ 54 ∷ 49 ∷ []
 unfolding digitsOf
 digits-printed = refl
 
-pub refusal-printed : printedEnd (studyOf sample []) (ended 10 1 2 emptyRoad emptyState) ≡ refusedLine 10 1 2
+pub refusal-printed : printedEnd (studyOf sample []) (endWith 10 1 2 emptyRoad emptyState) ≡ refusedLine 10 1 2
 refusal-printed = refl
 
-pub totals-printed : printedEnd (study road start 0 (λ t. []) []) (ended 0 0 0 road (after 3)) ≡ headerLine ++ (totalLine 33098 6532 20866 5700 3701 ++ [])
+pub totals-printed : printedEnd (study road start 0 (λ t. []) []) (endWith 0 0 0 road (after 3)) ≡ headerLine ++ (totalLine 33098 6532 20866 5700 3701 ++ [])
 unfolding stepsLines timeOf after road start row built openCapacity ones onesIn lanesOk
     thousandthsOf demandOf gateDemandOf supplyOf roomOf onwardOf enteringOf greatestOf outflowOf
     sumOf fillOf listOf firstFrom firstOf firstFault placeOk rowOk frameOk inputOk

@@ -16,7 +16,7 @@ use Rattle.model.specs.Refusals.{fault}
 use Rattle.model.specs.Limits.{placeOk, rowOk, frameOk, inputOk}
 use Rattle.model.specs.Reading.{readingBy, studyOf}
 use Rattle.model.specs.Stepping.{lowestOf, steppingOf, tableFault}
-use Rattle.model.specs.Running.{ended, endOf, openingOf, runningOf, stepsMade}
+use Rattle.model.specs.Running.{endWith, endOf, openingOf, runningOf, stepsMade}
 use Rattle.model.specs.Judging.{outflowFaultAt, verdictOf, judgingOf}
 use Rattle.model.specs.Judging.{historyOf, queueAfter}
 use Rattle.model.specs.WorkedPrinted.{past, road, start, row, built, works}
@@ -80,7 +80,7 @@ unfolding sample header upstream downstream bytes readingBy oneOf numberOf secon
     fillOf listOf firstFrom firstOf placeOk rowOk tableFault openingOf runningOf
 short-list = refl
 
-pub made-before : stepsMade (studyOf sample []) (ended 10 1 2 emptyRoad emptyState) ≡ 1
+pub made-before : stepsMade (studyOf sample []) (endWith 10 1 2 emptyRoad emptyState) ≡ 1
 made-before = refl
 
 pub state-before : runningOf (hastened (two 3 232)) [] list .state .done ≡ 1

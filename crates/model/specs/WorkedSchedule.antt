@@ -11,7 +11,7 @@ use Rattle.model.specs.Flow.{capacityAt, demandAt, mostReleaseAt, shareA
 use Rattle.model.specs.Move.{movedTo, countedOf, exitsOf}
 use Rattle.model.specs.Lanes.{openCapacity, lanesOk}
 use Rattle.model.specs.Schedules.{roadAt, tableSize, outflowsOf, scheduleAfter, engineAfter}
-use Rattle.model.specs.Demand.{Taken}
+use Rattle.model.specs.Demand.{Openable}
 use Rattle.model.specs.Record.{numberOf, secondsSize}
 use Rattle.model.specs.Limits.{placeOk, rowOk}
 use Rattle.model.specs.Reading.{readingBy, studyOf}
@@ -43,7 +43,7 @@ both-numbers = record { run = refl; judged = refl }
 
 -- the record reads, and both make all three steps
 pub record Both : Type 0 where
-  pub taken : Taken sample []
+  pub openable : Openable sample []
   pub right : length still ≡ tableSize (studyOf sample [])
   pub run : stepsMade (studyOf sample []) (runningOf sample [] still) ≡ 3
   pub judged : stepsMade (studyOf sample []) (judgingOf sample [] still) ≡ 3
@@ -53,7 +53,7 @@ first l = at l 0
 
 pub both : Both
 unfolding sample header upstream downstream row readingBy oneOf numberOf secondsSize fillOf listOf firstFrom firstOf placeOk rowOk tableFault openingOf
-both = record { taken = record { reads = refl; opens = refl }; right = refl; run = ap first (both-numbers .run); judged = ap first (both-numbers .judged) }
+both = record { openable = record { reads = refl; opens = refl }; right = refl; run = ap first (both-numbers .run); judged = ap first (both-numbers .judged) }
 
 -- works: cell 1 has one lane, cell 2 has two, of which one is closed in step 1
 abbrev pub works : List ℕ
@@ -70,11 +70,11 @@ both-numbers-closed = record { run = refl; judged = refl }
 
 -- the table has no fault, and both make all three steps under it
 pub record BothClosed : Type 0 where
-  pub taken : Taken sample works
+  pub openable : Openable sample works
   pub run : stepsMade (studyOf sample works) (runningOf sample works still) ≡ 3
   pub judged : stepsMade (studyOf sample works) (judgingOf sample works still) ≡ 3
 
 pub both-closed : BothClosed
 unfolding sample header upstream downstream row readingBy oneOf numberOf secondsSize
     fillOf listOf firstFrom firstOf placeOk rowOk tableFault lanesOk ones onesIn rowAt openingOf
-both-closed = record { taken = record { reads = refl; opens = refl }; run = ap first (both-numbers-closed .run); judged = ap first (both-numbers-closed .judged) }
+both-closed = record { openable = record { reads = refl; opens = refl }; run = ap first (both-numbers-closed .run); judged = ap first (both-numbers-closed .judged) }

@@ -16,7 +16,7 @@ use Rattle.model.specs.Record.{rowNumbers, secondVersion, recordRow}
 use Rattle.model.specs.Refusals.{refusalNumber}
 use Rattle.model.specs.Limits.{placeOk, rowOk}
 use Rattle.model.specs.Reading.{sizeOf, bothVersions, cellsAndStepsOk, secondsOk, acceptedOf, readingOf}
-use Rattle.model.specs.Encoding.{recordSize, recordOf, given}
+use Rattle.model.specs.Encoding.{recordSize, recordOf, givenStudy}
 
 -- what writing answers: the refusal's number, its place or step, and the count of bytes written
 pub record WriteAnswer : Type 0 where
@@ -32,8 +32,8 @@ writeAnswer a = record { number = refusalNumber (a .refusal); place = a .place; 
 abbrev pub unwritten : ℕ → ℕ → WriteAnswer
 unwritten number place = record { number = number; place = place; count = 0 }
 
-abbrev pub written : ℕ → WriteAnswer
-written count = record { number = 0; place = 0; count = count }
+abbrev pub writtenCount : ℕ → WriteAnswer
+writtenCount count = record { number = 0; place = 0; count = count }
 
 -- 6 applies if this fails: the row of step t is within the limits
 abbrev pub givenOk : Study → ℕ → Bool
@@ -59,17 +59,17 @@ writingBy a numbers room =
     (unlessFirst (placeOk (a .road) (a .start)) (a .road .n + 1) (unwritten 5)
     (unlessFirst (givenOk a) (a .steps) (unwritten 6)
     (unless (leb (recordSize a) room) (unwritten 15 0)
-    (written (recordSize a)))))
+    (writtenCount (recordSize a)))))
 
 -- what writing answers for a road, T, a start and the numbers of all rows
 unfoldable pub writingOf : Road → ℕ → Start → List ℕ → List ℕ → WriteAnswer
-writingOf road T start rows target = writingBy (given road T start rows) (length rows) (length target)
+writingOf road T start rows target = writingBy (givenStudy road T start rows) (length rows) (length target)
 
 -- the target afterwards: the record's bytes in front, and the bytes beyond them unchanged; all unchanged after a refusal
 unfoldable pub targetAfter : Road → ℕ → Start → List ℕ → List ℕ → List ℕ
 targetAfter road T start rows target =
     cond (eqb (writingOf road T start rows target .number) 0)
-    (recordOf (given road T start rows) ++ drop (sizeOf (road .version) (road .n) T) target)
+    (recordOf (givenStudy road T start rows) ++ drop (sizeOf (road .version) (road .n) T) target)
     target
 
 -- the first n entries of an array, and 0 past them

@@ -52,14 +52,14 @@ first f n = record {
   stops = λ l. from-stops f 0 n (omega arith);
 }
 
-never : (b : Bool) → b ≡ true → b ≡ false → ⊥
-never b h k = let z : _≡_ {A = ℕ} 0 1 = cc in omega arith
+not-both : (b : Bool) → b ≡ true → b ≡ false → ⊥
+not-both b h k = let z : _≡_ {A = ℕ} 0 1 = cc in omega arith
 
 pub first-is : (f : ℕ → Bool) (n i : ℕ) → First f n i → firstOf f n ≡ i
 first-is f n i h =
     let a = first f n in
-    let p : firstOf f n < i → ⊥ = λ l. never (f (firstOf f n)) (h .before (firstOf f n) l) (a .stops (omega (arith, h .within))) in
-    let q : i < firstOf f n → ⊥ = λ l. never (f i) (a .before i l) (h .stops (omega (arith, a .within))) in
+    let p : firstOf f n < i → ⊥ = λ l. not-both (f (firstOf f n)) (h .before (firstOf f n) l) (a .stops (omega (arith, h .within))) in
+    let q : i < firstOf f n → ⊥ = λ l. not-both (f i) (a .before i l) (h .stops (omega (arith, a .within))) in
     omega arith
 
 pub first-none : (f : ℕ → Bool) (n : ℕ) → ((j : ℕ) → j < n → f j ≡ true) → firstOf f n ≡ n
@@ -86,7 +86,7 @@ pub all-fails : (f : ℕ → Bool) (n i : ℕ) → i < n → f i ≡ false → a
 all-fails f n i l e = go (allOf f n) refl
   where
     go : (b : Bool) → allOf f n ≡ b → b ≡ false
-    go true h = absurd (never (f i) (all-at f n h i l) e)
+    go true h = absurd (not-both (f i) (all-at f n h i l) e)
     go false h = refl
 
 -- a loop over the numbers below n that has found no failure before i

@@ -21,8 +21,8 @@ unless-same true refused h = h refl
 unless-same false refused h = refl
 
 -- a test that passes does not fail, and one that does not fail passes
-pub never : {t : Bool} → t ≡ true → t ≡ false → ⊥
-never h k = let z : _≡_ {A = ℕ} 0 1 = cc in omega arith
+pub not-both : {t : Bool} → t ≡ true → t ≡ false → ⊥
+not-both h k = let z : _≡_ {A = ℕ} 0 1 = cc in omega arith
 
 pub passes : (t : Bool) → (t ≡ false → ⊥) → t ≡ true
 passes true h = refl

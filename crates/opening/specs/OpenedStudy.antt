@@ -20,8 +20,8 @@ abbrev pub openedStudy : List ℕ → List ℕ → ReadAnswer → Study
 openedStudy bytes lanes x = studyBy bytes lanes (x .road) (x .state) (x .steps)
 
 -- without a refusal it is within the limits
-abbrev pub Opens : List ℕ → List ℕ → ReadAnswer → Type 0
-Opens bytes lanes x = x .number ≡ 0 → Readable bytes (openedStudy bytes lanes x)
+abbrev pub OpenedReadable : List ℕ → List ℕ → ReadAnswer → Type 0
+OpenedReadable bytes lanes x = x .number ≡ 0 → Readable bytes (openedStudy bytes lanes x)
 
 -- an operation answers with opening's refusal, which names no state, or with its own end over the study
 abbrev pub endBy : (Study → EndAnswer) → List ℕ → List ℕ → ReadAnswer → EndAnswer

@@ -7,11 +7,11 @@ use Rattle.model.specs.Stepping.{tableFault}
 use Rattle.model.specs.Reading.{ReadAnswer, refusedOf, readingOf, studyOf}
 use Rattle.model.specs.Running.{lanesFault, openingOf}
 use Rattle.theory.specs.Opening.{opening-refused, opening-closed, opening-same, opened-readable}
-use Rattle.opening.specs.OpenedStudy.{Opens}
+use Rattle.opening.specs.OpenedStudy.{OpenedReadable}
 
 module _ (bytes lanes : List ℕ) {x : ReadAnswer} (ex : x ≡ readingOf bytes) where
   abbrev Promise : ReadAnswer → Type 0
-  Promise y = (y ≡ openingOf bytes lanes) × Opens bytes lanes y
+  Promise y = (y ≡ openingOf bytes lanes) × OpenedReadable bytes lanes y
 
   promise : {y : ReadAnswer} → y ≡ openingOf bytes lanes → Promise y
   promise ey = (ey, opened-readable bytes lanes ey)

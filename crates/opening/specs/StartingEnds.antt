@@ -14,13 +14,13 @@ use Rattle.model.specs.GoingOn.{studyFrom, stateFault}
 use Rattle.theory.specs.RulesLaws.{Sized}
 use Rattle.theory.specs.Opening.{opened-reads}
 use Rattle.theory.specs.StartingState.{startingOf, starting-unopened, starting-refused, starting-starts, found-readable}
-use Rattle.opening.specs.OpenedStudy.{Opens}
+use Rattle.opening.specs.OpenedStudy.{OpenedReadable}
 
 -- the state has an entry for each cell, and x is opening's answer
 module _ (bytes lanes : List ℕ) (s : State) (sized : readingOf bytes .road .n ≤ mostCells → Sized (readingOf bytes .road) s)
     {x : ReadAnswer} (ex : x ≡ openingOf bytes lanes) where
   abbrev Promise : ReadAnswer → Type 0
-  Promise y = (y ≡ startingOf bytes lanes s) × Opens bytes lanes y
+  Promise y = (y ≡ startingOf bytes lanes s) × OpenedReadable bytes lanes y
 
   promise : {y : ReadAnswer} → y ≡ startingOf bytes lanes s → Promise y
   promise ey = (ey, λ z. found-readable bytes lanes s ey z sized)

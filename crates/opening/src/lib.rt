@@ -16,7 +16,7 @@ ghost use Prim.Native.Nat.{_+_};
 ghost use lib.Dec.{leb};
 ghost use Rattle.model.specs.Numbers.{unless};
 ghost use Rattle.theory.specs.StartingState.{startingOf};
-ghost use Rattle.opening.specs.OpenedStudy.{Opens};
+ghost use Rattle.opening.specs.OpenedStudy.{OpenedReadable};
 
 fn made(refusal: Refusal, place: usize) -> Fault
     ensures { λ q. ⌜ faultAnswer q ≡ fault (refusalNumber refusal) place ⌝ }
@@ -48,7 +48,7 @@ pub fn refused(table: &[u8], n: usize, steps: usize) -> Fault
 // Reading's answer, or a refusal: those of reading, then 17, then 18.
 pub fn opened(bytes: &[u8], table: &[u8]) -> Reading
     ensures answer { λ a. ⌜ readAnswer a ≡ openingOf (now (bytes .entry)) (now (table .entry)) ⌝ }
-    ensures opens { λ a. ⌜ Opens (now (bytes .entry)) (now (table .entry)) (readAnswer a) ⌝ }
+    ensures opens { λ a. ⌜ OpenedReadable (now (bytes .entry)) (now (table .entry)) (readAnswer a) ⌝ }
 {
     let a = reading::read(bytes);
     let refusal = a.refusal;
@@ -81,7 +81,7 @@ pub fn start_refusal(within: bool, done: usize, steps: usize) -> Refusal
 // A record opened to go on from a state: its road and T, with that state, or a refusal: those of reading, 17, 18, 7, 8.
 pub fn started(bytes: &[u8], table: &[u8], from: State) -> Reading
     ensures answer { λ a. ⌜ readAnswer a ≡ startingOf (now (bytes .entry)) (now (table .entry)) from ⌝ }
-    ensures opens { λ a. ⌜ Opens (now (bytes .entry)) (now (table .entry)) (readAnswer a) ⌝ }
+    ensures opens { λ a. ⌜ OpenedReadable (now (bytes .entry)) (now (table .entry)) (readAnswer a) ⌝ }
 {
     let a = opened(bytes, table);
     let refusal = a.refusal;

@@ -21,16 +21,16 @@ roadOf r n gate speed wave share jam capacity = record {
 }
 
 -- a road with these shares; everything else is r's
-abbrev pub sharing : Road → ℕ → List ℕ → Road
-sharing r n share = roadOf r n (r .«gate_capacity») (r .speed) (r .wave) share (r .jam) (r .capacity)
+abbrev pub withShareColumn : Road → ℕ → List ℕ → Road
+withShareColumn r n share = roadOf r n (r .«gate_capacity») (r .speed) (r .wave) share (r .jam) (r .capacity)
 
 -- a road with the columns from which places send; everything else is r's
-abbrev pub sending : Road → ℕ → ℕ → List ℕ → List ℕ → List ℕ → Road
-sending r n gate speed share capacity = roadOf r n gate speed (r .wave) share (r .jam) capacity
+abbrev pub withDemands : Road → ℕ → ℕ → List ℕ → List ℕ → List ℕ → Road
+withDemands r n gate speed share capacity = roadOf r n gate speed (r .wave) share (r .jam) capacity
 
 -- a road with the columns of the supplies; everything else is r's
-abbrev pub supplying : Road → ℕ → List ℕ → List ℕ → List ℕ → Road
-supplying r n wave jam capacity = roadOf r n (r .«gate_capacity») (r .speed) wave (r .share) jam capacity
+abbrev pub withSupplies : Road → ℕ → List ℕ → List ℕ → List ℕ → Road
+withSupplies r n wave jam capacity = roadOf r n (r .«gate_capacity») (r .speed) wave (r .share) jam capacity
 
 -- the ledger of a state
 abbrev pub ledgerOf : State → Ledger
@@ -44,8 +44,8 @@ ledgerOf s = record {
 }
 
 -- a ledger with this gate queue and this F of the gate; everything else is l's
-abbrev pub gated : Ledger → ℕ → ℕ → Ledger
-gated l queue cumulative = record {
+abbrev pub withGate : Ledger → ℕ → ℕ → Ledger
+withGate l queue cumulative = record {
   done = l .done;
   «gate_time» = l .«gate_time»;
   «road_time» = l .«road_time»;

@@ -10,7 +10,7 @@ ghost use Rattle.model.specs.Road.{mostCells};
 ghost use Rattle.model.specs.declared.Road.{Road};
 ghost use Rattle.model.specs.Schedules.{outflowsOf};
 ghost use Rattle.outflows.specs.declared.Ledger.{Ledger};
-ghost use Rattle.outflows.specs.Columns.{sending, gated, stateOf, supplying};
+ghost use Rattle.outflows.specs.Columns.{withDemands, withGate, stateOf, withSupplies};
 ghost use Rattle.outflows.specs.Rooms.{Rooms};
 ghost use Rattle.model.specs.Stepping.{releasesOf};
 ghost use Rattle.model.specs.Refusals.{faultAnswer};
@@ -31,10 +31,10 @@ pub fn outflows<'a, 'b>(
 )
     requires { ⌜ (n ≤ mostCells) × (length (now y) ≡ n + 1) ⌝ }
     ensures { λ _. ⌜ ((r : Road) (l : Ledger) (queue row : List ℕ)
-        → Rooms (sending r n «gate_capacity» (now (speed .entry)) (now (share .entry)) (now (capacity .entry)))
-        (stateOf (gated l «gate_queue» «gate_cumulative») (now (held .entry)) queue (now (cumulative .entry))) row (now (room .entry))
-        → now (y .exit) ≡ outflowsOf (sending r n «gate_capacity» (now (speed .entry)) (now (share .entry)) (now (capacity .entry)))
-        (stateOf (gated l «gate_queue» «gate_cumulative») (now (held .entry)) queue (now (cumulative .entry))) row) ⌝ }
+        → Rooms (withDemands r n «gate_capacity» (now (speed .entry)) (now (share .entry)) (now (capacity .entry)))
+        (stateOf (withGate l «gate_queue» «gate_cumulative») (now (held .entry)) queue (now (cumulative .entry))) row (now (room .entry))
+        → now (y .exit) ≡ outflowsOf (withDemands r n «gate_capacity» (now (speed .entry)) (now (share .entry)) (now (capacity .entry)))
+        (stateOf (withGate l «gate_queue» «gate_cumulative») (now (held .entry)) queue (now (cumulative .entry))) row) ⌝ }
 {
     let mut part = Road::WHOLE;
     let mut before = gate_cumulative;
@@ -63,10 +63,10 @@ pub fn releases<'a, 'b>(
 ) -> Fault
     requires { ⌜ (n ≤ mostCells) × ((length (now row) ≡ 1 + 2 * n) × (length (now room) ≡ mostCells)) ⌝ }
     ensures fault { λ q. ⌜ ((r : Road) (l : Ledger) (cumulative : List ℕ) → faultAnswer q
-        ≡ releasesOf (supplying r n (now (wave .entry)) (now (jam .entry)) (now (capacity .entry)))
+        ≡ releasesOf (withSupplies r n (now (wave .entry)) (now (jam .entry)) (now (capacity .entry)))
         (stateOf l (now (held .entry)) (now (queue .entry)) cumulative) (now (row .entry))) ⌝ }
     ensures rooms { λ q. ⌜ ((r : Road) (l : Ledger) (cumulative : List ℕ) → faultAnswer q .number ≡ 0
-        → Rooms (supplying r n (now (wave .entry)) (now (jam .entry)) (now (capacity .entry)))
+        → Rooms (withSupplies r n (now (wave .entry)) (now (jam .entry)) (now (capacity .entry)))
         (stateOf l (now (held .entry)) (now (queue .entry)) cumulative) (now (row .entry)) (now (room .exit))) ⌝ }
     ensures length { λ q. ⌜ length (now (room .exit)) ≡ mostCells ⌝ }
 {

@@ -27,8 +27,8 @@ mostWaiting = mostQueue mostSteps + mostRate
 abbrev pub mostAtRamps : ℕ
 mostAtRamps = mostWaiting * mostCells
 
--- the release of each listed cell, and its queue after it
-pub record Adds (give wait : ℕ → ℕ) (n ramps : ℕ) (cell release waiting held queue : List ℕ) : Type 0 where
+-- what adding the releases requires: the release of each listed cell, and its queue after it
+pub record AddRequires (give wait : ℕ → ℕ) (n ramps : ℕ) (cell release waiting held queue : List ℕ) : Type 0 where
   pub cells : n ≤ mostCells
   pub longHeld : n ≤ length held
   pub longQueue : n ≤ length queue
@@ -39,25 +39,25 @@ pub record Adds (give wait : ℕ → ℕ) (n ramps : ℕ) (cell release waiting 
   pub rates : (i : ℕ) → i < n → give i ≤ mostRate
   pub queues : (i : ℕ) → i < n → wait i ≤ mostWaiting
 
--- what adding them requires
-pub record Addable (n ramps sum : ℕ) (cell release waiting held queue : List ℕ) : Type 0 where
+-- the same for some releases and queues, with a sum that fits
+pub record AddLent (n ramps sum : ℕ) (cell release waiting held queue : List ℕ) : Type 0 where
   pub give : ℕ → ℕ
   pub wait : ℕ → ℕ
-  pub adds : Adds give wait n ramps cell release waiting held queue
+  pub ready : AddRequires give wait n ramps cell release waiting held queue
   pub small : sum ≤ 2 * mostRate * n
 
 -- a cell's held count with its release; the columns afterwards, and their sums
 abbrev pub givenAt : (ℕ → ℕ) → List ℕ → ℕ → ℕ
 givenAt give held i = at held i + give i
 
-pub record Added (give wait : ℕ → ℕ) (n : ℕ) (held₀ queue₀ held queue : List ℕ) (sum₀ onRoad atRamps : ℕ) : Type 0 where
+pub record AddGives (give wait : ℕ → ℕ) (n : ℕ) (held₀ queue₀ held queue : List ℕ) (sum₀ onRoad atRamps : ℕ) : Type 0 where
   pub helds : held ≡ fillOf (givenAt give held₀) n held₀
   pub queues : queue ≡ fillOf wait n queue₀
   pub road : sum₀ ≡ sumOf (take n held₀) → onRoad ≡ sumOf (take n held)
   pub ramps : atRamps ≡ sumOf (take n queue)
 
 -- the loop over the listed cells
-pub record Adding (give wait : ℕ → ℕ) (n : ℕ) (cell held₀ queue₀ held queue : List ℕ) (sum₀ onRoad atRamps j : ℕ) : Type 0 where
+pub record AddSoFar (give wait : ℕ → ℕ) (n : ℕ) (cell held₀ queue₀ held queue : List ℕ) (sum₀ onRoad atRamps j : ℕ) : Type 0 where
   pub helds : held ≡ fillOf (givenAt give held₀) (startOf cell j) held₀
   pub queues : queue ≡ fillOf wait (startOf cell j) queue₀
   pub road : sum₀ ≡ sumOf (take n held₀) → onRoad ≡ sumOf (take n held)
@@ -65,9 +65,9 @@ pub record Adding (give wait : ℕ → ℕ) (n : ℕ) (cell held₀ queue₀ hel
   pub bound : onRoad ≤ sum₀ + mostRate * j
   pub small : atRamps ≤ mostWaiting * j
 
-pub adding-none : {give wait : ℕ → ℕ} {n : ℕ} {cell held queue : List ℕ} {sum : ℕ} → Adding give wait n cell held queue held queue sum sum 0 0
+pub add-none : {give wait : ℕ → ℕ} {n : ℕ} {cell held queue : List ℕ} {sum : ℕ} → AddSoFar give wait n cell held queue held queue sum sum 0 0
 unfolding fillOf startOf
-adding-none {queue = queue} = record {
+add-none {queue = queue} = record {
   helds = refl;
   queues = refl;
   road = λ e. e;
@@ -85,8 +85,8 @@ pub record AddTurn (hold give wait i n : ℕ) : Type 0 where
   pub cells : n ≤ mostCells
 
 module _ {give wait : ℕ → ℕ} {n ramps : ℕ} {cell release waiting held₀ queue₀ held queue : List ℕ} {sum₀ onRoad atRamps j : ℕ}
-    (k : Adds give wait n ramps cell release waiting held₀ queue₀)
-    (h : Adding give wait n cell held₀ queue₀ held queue sum₀ onRoad atRamps j) where
+    (k : AddRequires give wait n ramps cell release waiting held₀ queue₀)
+    (h : AddSoFar give wait n cell held₀ queue₀ held queue sum₀ onRoad atRamps j) where
   same-held : (i : ℕ) → i < n → Idle give wait queue₀ i → givenAt give held₀ i ≡ at held₀ i
   same-held i l p = omega (arith, p .gives)
 
@@ -111,10 +111,10 @@ module _ {give wait : ℕ → ℕ} {n ramps : ℕ} {cell release waiting held₀
     cells = k .cells;
   }
 
-  pub adding-more : j < ramps
-      → Adding give wait n cell held₀ queue₀ (set held (at cell j) (at held (at cell j) + at release j)) (set queue (at cell j) (at waiting j))
+  pub add-more : j < ramps
+      → AddSoFar give wait n cell held₀ queue₀ (set held (at cell j) (at held (at cell j) + at release j)) (set queue (at cell j) (at waiting j))
       sum₀ (onRoad + at release j) (atRamps + at waiting j) (j + 1)
-  adding-more l =
+  add-more l =
       let c = at cell j in
       let inside = k .listed .within j l in
       let there = held-listed l in
@@ -134,8 +134,8 @@ module _ {give wait : ℕ → ℕ} {n ramps : ℕ} {cell release waiting held₀
         small = omega (arith, h .small, k .queues c inside);
       }
 
-  pub adding-end : ramps ≤ j → Upto ramps j → Added give wait n held₀ queue₀ held queue sum₀ onRoad atRamps
-  adding-end l m =
+  pub add-end : ramps ≤ j → Upto ramps j → AddGives give wait n held₀ queue₀ held queue sum₀ onRoad atRamps
+  add-end l m =
       let e : j ≡ ramps = omega (arith, m .within) in
       let zero-there : (i : ℕ) → startOf cell j ≤ i → i < n → at queue i ≡ 0 =
       λ i a b. ap (λ (x : List ℕ). at x i) (h .queues) ∙ fill-past wait (startOf cell j) queue₀ i a

@@ -17,7 +17,7 @@ use Rattle.model.specs.declared.State.{State}
 use Rattle.model.specs.Road.{mostRate, mostSteps, totalOf}
 use Rattle.limits.specs.LimitsLaws.{InputOk}
 use Rattle.model.specs.Limits.{mostQueue, mostCumulative, mostTotal}
-use Rattle.outflows.specs.Columns.{sending}
+use Rattle.outflows.specs.Columns.{withDemands}
 use Rattle.numbers.specs.Tests.{order}
 use Rattle.model.specs.Flow.{gateArrivals, releaseAt, roomAt, demandAt, shareAt, cumulativeAt, enteringAt, outflowAt}
 use Rattle.model.specs.Schedules.{outflowsOf}
@@ -29,13 +29,13 @@ use Rattle.outflows.specs.declared.Ledger.{Ledger}
 use Rattle.passes.specs.declared.columns.Size.{Size}
 use Rattle.passes.specs.Tables.{Table, stateIn, heldCol, queueCol, cumulativeCol, restCol, roomCol, releaseCol, waitingCol, demandCol, QueuesKept, SumsKept}
 use Rattle.passes.specs.Rest.{restOf, Remainders}
-use Rattle.passes.specs.Supplies.{NoRamp, demandIn, demand-model, Demands}
-use Rattle.passes.specs.Outflows.{Pass, passOf, outAt, placeAt, enterAt, leftAt, grownAt, restAt, Sends, SentTo}
+use Rattle.passes.specs.Supplies.{NoRamp, demandIn, demand-model, DemandsRequire}
+use Rattle.passes.specs.Outflows.{Pass, passOf, outAt, placeAt, enterAt, leftAt, grownAt, restAt, SendRequires, SendGives}
 use Rattle.passes.specs.RampList.{Listed, listed-map}
-use Rattle.passes.specs.AddReleases.{Idle, Adds, Addable, Added, givenAt}
+use Rattle.passes.specs.AddReleases.{Idle, AddRequires, AddLent, AddGives, givenAt}
 
 -- what a step has ready once its releases are taken: each ramp's release and its queue after it, the rooms, the remainders and the demands
-pub record NextAsks (q : Road) (l : Ledger) (state : Table) (row : List ℕ) (ramps arrivals : ℕ) (cell : List ℕ) (work : Table) : Type 0 where
+pub record NextRequires (q : Road) (l : Ledger) (state : Table) (row : List ℕ) (ramps arrivals : ℕ) (cell : List ℕ) (work : Table) : Type 0 where
   pub columns : length state ≡ 4
   pub steppable : Steppable q (stateIn l state) row
   pub listed : Listed (NoRamp (q .ramp)) (q .n) ramps cell
@@ -47,8 +47,8 @@ pub record NextAsks (q : Road) (l : Ledger) (state : Table) (row : List ℕ) (ra
   pub gate : arrivals ≡ gateArrivals row
 
 -- the demands have no further precondition, and are the model's
-pub demands-ask : {q : Road} {s : State} {row : List ℕ} → InputOk q s row → Demands (q .n) (q .speed) (s .held)
-demands-ask k = record {
+pub demands-ready : {q : Road} {s : State} {row : List ℕ} → InputOk q s row → DemandsRequire (q .n) (q .speed) (s .held)
+demands-ready k = record {
   cells = k .road .cells;
   speeds = k .road .speed;
   helds = λ i l. omega (arith, k .state .held i l, k .road .jam i l);
@@ -70,7 +70,7 @@ fill-over f g h n l m e = ext-getD 0 (fillOf g n (fillOf f n l)) (fillOf h n l)
     (order n i))
 
 module _ {q : Road} {l : Ledger} {state : Table} {row : List ℕ} {ramps arrivals : ℕ} {cell : List ℕ} {work : Table}
-    (k : NextAsks q l state row ramps arrivals cell work) where
+    (k : NextRequires q l state row ramps arrivals cell work) where
   abbrev s : State
   s = stateIn l state
 
@@ -152,8 +152,8 @@ module _ {q : Road} {l : Ledger} {state : Table} {row : List ℕ} {ramps arrival
     unfolding gateDemandOf
     first-most = omega (arith, ef, k .steppable .input .road .gate)
 
-    pub sends-ask : Sends (q .n) (passOf first (q .share) demand room (s .held) (s .cumulative)) (restCol state)
-    sends-ask = record {
+    pub send-ready : SendRequires (q .n) (passOf first (q .share) demand room (s .held) (s .cumulative)) (restCol state)
+    send-ready = record {
       cells = k .steppable .input .road .cells;
       longHeld = k .steppable .sized .held;
       longRest = k .rests .long;
@@ -168,7 +168,7 @@ module _ {q : Road} {l : Ledger} {state : Table} {row : List ℕ} {ramps arrival
 
     -- the columns after sending
     module _ {y₀ y : List ℕ} {state₁ : Table} {sum : ℕ}
-        (h : SentTo (q .n) (passOf first (q .share) demand room (s .held) (s .cumulative)) (restCol state) y₀
+        (h : SendGives (q .n) (passOf first (q .share) demand room (s .held) (s .cumulative)) (restCol state) y₀
         (heldCol state₁) (restCol state₁) (cumulativeCol state₁) y sum)
         (same : QueuesKept state state₁) where
       abbrev held₁ : List ℕ
@@ -204,8 +204,8 @@ module _ {q : Road} {l : Ledger} {state : Table} {row : List ℕ} {ramps arrival
           let d = ok .state .noRamp i l z in
           record { gives = a; waits = omega arith; queues = d }
 
-      pub adds : Adds (releaseAt row) (queueOf s row) (q .n) ramps cell (releaseCol work) (waitingCol work) (heldCol state₁) (queueCol state₁)
-      adds = rw (same .queues) (record {
+      pub add-ready : AddRequires (releaseAt row) (queueOf s row) (q .n) ramps cell (releaseCol work) (waitingCol work) (heldCol state₁) (queueCol state₁)
+      add-ready = rw (same .queues) (record {
         cells = k .steppable .input .road .cells;
         longHeld = omega (arith, ap length (h .helds), length-fill (leftAt c) (q .n) (s .held), k .steppable .sized .held);
         longQueue = k .steppable .sized .queue;
@@ -217,12 +217,12 @@ module _ {q : Road} {l : Ledger} {state : Table} {row : List ℕ} {ramps arrival
         queues = λ i l. omega (arith, k .steppable .input .state .queue i l, k .steppable .input .state .done, k .steppable .input .row .arrivals i l);
       })
 
-      pub addable : Addable (q .n) ramps sum cell (releaseCol work) (waitingCol work) (heldCol state₁) (queueCol state₁)
-      addable = record { give = releaseAt row; wait = queueOf s row; adds = adds; small = h .bound }
+      pub add-lent : AddLent (q .n) ramps sum cell (releaseCol work) (waitingCol work) (heldCol state₁) (queueCol state₁)
+      add-lent = record { give = releaseAt row; wait = queueOf s row; ready = add-ready; small = h .bound }
 
       -- the columns are the model's
       module _ {state₂ : Table} {onRoad atRamps : ℕ}
-          (g : Added (releaseAt row) (queueOf s row) (q .n) (heldCol state₁) (queueCol state₁) (heldCol state₂) (queueCol state₂) sum onRoad atRamps)
+          (g : AddGives (releaseAt row) (queueOf s row) (q .n) (heldCol state₁) (queueCol state₁) (heldCol state₂) (queueCol state₂) sum onRoad atRamps)
           (kept : SumsKept state₁ state₂) where
         held-is : heldCol state₂ ≡ fillOf (heldOf q s row (outflowsOf q s row)) (q .n) (s .held)
         unfolding outAt
@@ -287,11 +287,11 @@ module _ {q : Road} {l : Ledger} {state : Table} {row : List ℕ} {ramps arrival
 pub record NextLent (z : Size) (share cell : List ℕ) (arrivals : ℕ) (l : Ledger) (state work : Table) (y : List ℕ) : Type 0 where
   pub road : Road
   pub row : List ℕ
-  pub ready : NextAsks (sending road (z .n) (z .«gate_capacity») (road .speed) share (road .capacity)) l state row (z .ramps) arrivals cell work
+  pub ready : NextRequires (withDemands road (z .n) (z .«gate_capacity») (road .speed) share (road .capacity)) l state row (z .ramps) arrivals cell work
   pub places : length y ≡ z .n + 1
 
 -- what it gives: the next state, the row of outflows and the remainders
-pub record Stepped (q : Road) (s : State) (row : List ℕ) (t : Ledger) (state : Table) (y : List ℕ) : Type 0 where
+pub record NextGives (q : Road) (s : State) (row : List ℕ) (t : Ledger) (state : Table) (y : List ℕ) : Type 0 where
   pub columns : length state ≡ 4
   pub next : stateIn t state ≡ nextOf q s row (outflowsOf q s row)
   pub outflows : y ≡ outflowsOf q s row
@@ -308,7 +308,7 @@ pub record NextTurn (s : State) (first arrivals : ℕ) : Type 0 where
   pub total : totalOf s ≤ mostTotal mostSteps
 
 pub next-turn : {q : Road} {l : Ledger} {state : Table} {row : List ℕ} {ramps arrivals : ℕ} {cell : List ℕ} {work : Table} {first : ℕ}
-    → NextAsks q l state row ramps arrivals cell work → first ≡ min (gateDemandOf (q .«gate_capacity») (l .«gate_queue»)) (at (roomCol work) 0)
+    → NextRequires q l state row ramps arrivals cell work → first ≡ min (gateDemandOf (q .«gate_capacity») (l .«gate_queue»)) (at (roomCol work) 0)
     → NextTurn (stateIn l state) first arrivals
 unfolding gateDemandOf
 next-turn k e =

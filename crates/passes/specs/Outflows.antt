@@ -12,7 +12,7 @@ use Rattle.model.specs.Numbers.{sumOf, fillOf, at}
 use Rattle.numbers.specs.SumLaws.{sum-start, sum-set}
 use Rattle.numbers.specs.RowsLaws.{fill-more, fill-past}
 use Rattle.model.specs.Road.{mostCells, mostRate, mostSteps}
-use Rattle.passes.specs.Rest.{restOf, rest-small, Sent}
+use Rattle.passes.specs.Rest.{restOf, rest-small, OutflowByRest}
 
 -- what the pass uses: the gate's outflow, and shares, demands, rooms, held counts and cumulative outflows
 pub record Pass : Type 0 where
@@ -57,7 +57,7 @@ abbrev pub restAt : Pass → ℕ → ℕ
 restAt c i = restOf (at (c .share) i) (grownAt c i)
 
 -- what sending requires
-pub record Sends (n : ℕ) (c : Pass) (rest : List ℕ) : Type 0 where
+pub record SendRequires (n : ℕ) (c : Pass) (rest : List ℕ) : Type 0 where
   pub cells : n ≤ mostCells
   pub longHeld : n ≤ length (c .held)
   pub longRest : n ≤ length rest
@@ -70,7 +70,7 @@ pub record Sends (n : ℕ) (c : Pass) (rest : List ℕ) : Type 0 where
   pub rests : (i : ℕ) → i < n → at rest i ≡ restOf (at (c .share) i) (at (c .cumulative) i)
 
 -- the columns after n cells
-pub record SentTo (n : ℕ) (c : Pass) (rest₀ y₀ held rest cumulative y : List ℕ) (sum : ℕ) : Type 0 where
+pub record SendGives (n : ℕ) (c : Pass) (rest₀ y₀ held rest cumulative y : List ℕ) (sum : ℕ) : Type 0 where
   pub row : y ≡ fillOf (placeAt c) (n + 1) y₀
   pub helds : held ≡ fillOf (leftAt c) n (c .held)
   pub cumulatives : cumulative ≡ fillOf (grownAt c) n (c .cumulative)
@@ -79,17 +79,17 @@ pub record SentTo (n : ℕ) (c : Pass) (rest₀ y₀ held rest cumulative y : Li
   pub bound : sum ≤ 2 * mostRate * n
 
 -- the loop
-pub record Sending (n : ℕ) (c : Pass) (rest₀ y₀ held rest cumulative y : List ℕ) (entering sum i : ℕ) : Type 0 where
+pub record SendSoFar (n : ℕ) (c : Pass) (rest₀ y₀ held rest cumulative y : List ℕ) (entering sum i : ℕ) : Type 0 where
   pub within : i ≤ n
   pub enters : entering ≡ enterAt c i
   pub most : entering ≤ mostRate
   pub longHeld : n ≤ length held
-  pub to : SentTo i c rest₀ y₀ held rest cumulative y sum
+  pub to : SendGives i c rest₀ y₀ held rest cumulative y sum
 
-pub sending-none : {n : ℕ} {c : Pass} {rest l y : List ℕ} → Sends n c rest → y ≡ set l 0 (c .first)
-    → Sending n c rest l (c .held) rest (c .cumulative) y (c .first) 0 0
+pub send-none : {n : ℕ} {c : Pass} {rest l y : List ℕ} → SendRequires n c rest → y ≡ set l 0 (c .first)
+    → SendSoFar n c rest l (c .held) rest (c .cumulative) y (c .first) 0 0
 unfolding fillOf placeAt enterAt
-sending-none {n} {c} {rest} {l} {y} k e = record {
+send-none {n} {c} {rest} {l} {y} k e = record {
   within = omega arith;
   enters = refl;
   most = k .gate;
@@ -115,7 +115,7 @@ pub record Turn (out on hold total enter sums i : ℕ) : Type 0 where
   pub cells : i < mostCells
 
 module _ {n : ℕ} {c : Pass} {rest₀ y₀ held rest cumulative y : List ℕ} {entering sum i : ℕ}
-    (k : Sends n c rest₀) (h : Sending n c rest₀ y₀ held rest cumulative y entering sum i) where
+    (k : SendRequires n c rest₀) (h : SendSoFar n c rest₀ y₀ held rest cumulative y entering sum i) where
   -- the cell at i is not moved yet
   pub held-here : at held i ≡ at (c .held) i
   held-here = ap (λ (x : List ℕ). at x i) (h .to .helds) ∙ fill-past (leftAt c) i (c .held) i (le-refl i)
@@ -130,8 +130,8 @@ module _ {n : ℕ} {c : Pass} {rest₀ y₀ held rest cumulative y : List ℕ} {
   known-rest l = rest-here ∙ k .rests i l
 
   -- the facts about the numbers of a turn
-  pub turn-asks : i < n → (at (c .share) i ≤ whole) × ((at (c .demand) i ≤ mostRate) × (at rest i ≤ 999))
-  turn-asks l = (
+  pub turn-ready : i < n → (at (c .share) i ≤ whole) × ((at (c .demand) i ≤ mostRate) × (at rest i ≤ 999))
+  turn-ready l = (
     k .shares i l,
     (
       omega (arith, k .demands i l, k .helds i l),
@@ -141,8 +141,8 @@ module _ {n : ℕ} {c : Pass} {rest₀ y₀ held rest cumulative y : List ℕ} {
 
   -- what the cell at i sends, computed from its remainder
   module _ {outflow onward next : ℕ} (l : i < n)
-      (sent : (F : ℕ) → at rest i ≡ restOf (at (c .share) i) F → Sent (at (c .share) i) F (at (c .room) (i + 1)) (at (c .demand) i) outflow onward next) where
-    here : Sent (at (c .share) i) (at (c .cumulative) i) (at (c .room) (i + 1)) (at (c .demand) i) outflow onward next
+      (sent : (F : ℕ) → at rest i ≡ restOf (at (c .share) i) F → OutflowByRest (at (c .share) i) F (at (c .room) (i + 1)) (at (c .demand) i) outflow onward next) where
+    here : OutflowByRest (at (c .share) i) (at (c .cumulative) i) (at (c .room) (i + 1)) (at (c .demand) i) outflow onward next
     here = sent (at (c .cumulative) i) (known-rest l)
 
     pub out-here : outflow ≡ outAt c i
@@ -170,10 +170,10 @@ module _ {n : ℕ} {c : Pass} {rest₀ y₀ held rest cumulative y : List ℕ} {
           cells = omega (arith, k .cells);
         }
 
-    pub sending-more : Sending n c rest₀ y₀ (set held i (at held i + entering - outflow)) (set rest i next) (set cumulative i (at cumulative i + outflow))
+    pub send-more : SendSoFar n c rest₀ y₀ (set held i (at held i + entering - outflow)) (set rest i next) (set cumulative i (at cumulative i + outflow))
         (set y (i + 1) outflow) onward (sum + (at held i + entering - outflow)) (i + 1)
     unfolding placeAt enterAt
-    sending-more =
+    send-more =
         let t = turn in
         let hh = held-here in
         let hc = cumulative-here in
@@ -202,8 +202,8 @@ module _ {n : ℕ} {c : Pass} {rest₀ y₀ held rest cumulative y : List ℕ} {
           };
         }
 
-pub sending-end : {n : ℕ} {c : Pass} {rest₀ y₀ held rest cumulative y : List ℕ} {entering sum i : ℕ}
-    → Sending n c rest₀ y₀ held rest cumulative y entering sum i → n ≤ i → SentTo n c rest₀ y₀ held rest cumulative y sum
-sending-end {n} {c} {rest₀} {y₀} {held} {rest} {cumulative} {y} {entering} {sum} {i} h l =
+pub send-end : {n : ℕ} {c : Pass} {rest₀ y₀ held rest cumulative y : List ℕ} {entering sum i : ℕ}
+    → SendSoFar n c rest₀ y₀ held rest cumulative y entering sum i → n ≤ i → SendGives n c rest₀ y₀ held rest cumulative y sum
+send-end {n} {c} {rest₀} {y₀} {held} {rest} {cumulative} {y} {entering} {sum} {i} h l =
     let e : i ≡ n = omega (arith, h .within) in
-    subst (λ (k : ℕ). SentTo k c rest₀ y₀ held rest cumulative y sum) e (h .to)
+    subst (λ (k : ℕ). SendGives k c rest₀ y₀ held rest cumulative y sum) e (h .to)

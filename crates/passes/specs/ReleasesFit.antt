@@ -18,12 +18,12 @@ use Rattle.theory.specs.RulesLaws.{Sized}
 use Rattle.model.specs.Move.{queueOf}
 use Rattle.outflows.specs.Rooms.{Rooms}
 use Rattle.passes.specs.Tables.{Table, roomCol, releaseCol, waitingCol, LongColumns, StoredRooms, store-rooms}
-use Rattle.passes.specs.Supplies.{NoRamp, supplyIn, supply-model, Supplies}
+use Rattle.passes.specs.Supplies.{NoRamp, supplyIn, supply-model, SuppliesRequire}
 use Rattle.passes.specs.RampList.{Listed, listed-map}
-use Rattle.passes.specs.TakeReleases.{arriveIn, giveIn, lessAt, Fits, Takes, Taken, Took}
+use Rattle.passes.specs.TakeReleases.{arriveIn, giveIn, lessAt, Fits, TakeRequires, TakeGives, TakeAnswer}
 
 -- what the test requires: everything is within the limits, the bytes hold the row, and the cells with a ramp are listed
-pub record Fittable (bytes : List ℕ) (start : ℕ) (q : Road) (s : State) (row : List ℕ) (ramps : ℕ) (cell : List ℕ) (work : Table) : Type 0 where
+pub record FitRequires (bytes : List ℕ) (start : ℕ) (q : Road) (s : State) (row : List ℕ) (ramps : ℕ) (cell : List ℕ) (work : Table) : Type 0 where
   pub input : InputOk q s row
   pub sized : Sized q s
   pub listed : Listed (NoRamp (q .ramp)) (q .n) ramps cell
@@ -33,7 +33,7 @@ pub record Fittable (bytes : List ℕ) (start : ℕ) (q : Road) (s : State) (row
   pub long : LongColumns (q .n) work
 
 -- the results if they fit
-pub record Fitting (q : Road) (s : State) (row : List ℕ) (ramps : ℕ) (cell : List ℕ) (work : Table) : Type 0 where
+pub record FitGives (q : Road) (s : State) (row : List ℕ) (ramps : ℕ) (cell : List ℕ) (work : Table) : Type 0 where
   pub released : ReleasesFit q s row
   pub rooms : Rooms q s row (roomCol work)
   pub releases : (k : ℕ) → k < ramps → at (releaseCol work) k ≡ releaseAt row (at cell k)
@@ -41,14 +41,14 @@ pub record Fitting (q : Road) (s : State) (row : List ℕ) (ramps : ℕ) (cell :
   pub long : LongColumns (q .n) work
 
 -- the results of the test
-pub record FitFound (ok : Bool) (q : Road) (s : State) (row : List ℕ) (ramps : ℕ) (cell : List ℕ) (work : Table) : Type 0 where
-  pub yes : ok ≡ true → Fitting q s row ramps cell work
+pub record FitAnswer (ok : Bool) (q : Road) (s : State) (row : List ℕ) (ramps : ℕ) (cell : List ℕ) (work : Table) : Type 0 where
+  pub yes : ok ≡ true → FitGives q s row ramps cell work
   pub no : ok ≡ false → ReleasesFit q s row → ⊥
 
 module _ {bytes : List ℕ} {start : ℕ} {q : Road} {s : State} {row : List ℕ} {ramps : ℕ} {cell : List ℕ} {work₀ : Table}
-    (k : Fittable bytes start q s row ramps cell work₀) where
-  pub supplies-ask : Supplies (q .n) (q .wave) (q .jam) (s .held)
-  supplies-ask = record {
+    (k : FitRequires bytes start q s row ramps cell work₀) where
+  pub supplies-ready : SuppliesRequire (q .n) (q .wave) (q .jam) (s .held)
+  supplies-ready = record {
     cells = k .input .road .cells;
     waves = k .input .road .wave;
     jams = k .input .road .jam;
@@ -72,8 +72,8 @@ module _ {bytes : List ℕ} {start : ℕ} {q : Road} {s : State} {row : List ℕ
     room-length : length (roomCol work₁) ≡ length (roomCol work₀)
     room-length = ap length (stored .rooms ∙ e) ∙ length-fill (supplyIn (q .wave) (q .jam) (q .capacity) (s .held)) (q .n) (roomCol work₀)
 
-    pub takes-ask : Takes bytes start (q .n) ramps cell (s .queue) work₁
-    takes-ask = record {
+    pub take-ready : TakeRequires bytes start (q .n) ramps cell (s .queue) work₁
+    take-ready = record {
       columns = stored .columns;
       cells = k .input .road .cells;
       row = k .held;
@@ -86,11 +86,11 @@ module _ {bytes : List ℕ} {start : ℕ} {q : Road} {s : State} {row : List ℕ
     }
 
     module _ {ok : Bool} {work : Table}
-        (h : Took ok bytes start (q .n) ramps cell (s .queue) work₁ work) where
-      fitting : Taken bytes start (q .n) ramps cell (s .queue) work₁ work
-          → Fitting q s row ramps cell work
+        (h : TakeAnswer ok bytes start (q .n) ramps cell (s .queue) work₁ work) where
+      fit-gives : TakeGives bytes start (q .n) ramps cell (s .queue) work₁ work
+          → FitGives q s row ramps cell work
       unfolding mostReleaseAt roomOf
-      fitting t = record {
+      fit-gives t = record {
         released = record {
           queue = λ i l. omega (arith, t .fits i l .ramp, k .arrivals i l, k .releases i l);
           supply = λ i l. omega (arith, t .fits i l .supply, supply-is i l, k .releases i l);
@@ -121,5 +121,5 @@ module _ {bytes : List ℕ} {start : ℕ} {q : Road} {s : State} {row : List ℕ
         supply = omega (arith, r .supply i l, supply-is i l, k .releases i l);
       }
 
-      pub fit-found : FitFound ok q s row ramps cell work
-      fit-found = record { yes = λ y. fitting (h .yes y); no = λ z r. h .no z (fits-all r) }
+      pub fit-answer : FitAnswer ok q s row ramps cell work
+      fit-answer = record { yes = λ y. fit-gives (h .yes y); no = λ z r. h .no z (fits-all r) }

@@ -59,16 +59,16 @@ pub product-most : (b y : ℕ) → b ≤ whole → y ≤ 1000000 → b * y ≤ 1
 product-most b y h l = omega (arith, mul-le-mul h l)
 
 -- what a place sends in a step, computed from its share, remainder, room and demand
-pub record Sent (b F room demand outflow onward rest : ℕ) : Type 0 where
+pub record OutflowByRest (b F room demand outflow onward rest : ℕ) : Type 0 where
   pub outflows : outflow ≡ outflowOf b F room demand
   pub enters : onward ≡ enteringOf b F outflow
   pub rests : rest ≡ restOf b (F + outflow)
 
 module _ {b F room demand r : ℕ} (er : r ≡ restOf b F) where
   -- the demand fits the room
-  pub sent-all : {all onward : ℕ} → all ≡ r + b * demand → onward ≡ all / whole → onward ≤ room
-      → Sent b F room demand demand onward (all - whole * onward)
-  sent-all {all} {onward} ea eo l =
+  pub sends-all : {all onward : ℕ} → all ≡ r + b * demand → onward ≡ all / whole → onward ≤ room
+      → OutflowByRest b F room demand demand onward (all - whole * onward)
+  sends-all {all} {onward} ea eo l =
       let e : onward ≡ enteringOf b F demand = omega (arith, entering-by-rest b F demand) in
       record {
         outflows = omega (arith, outflow-le b F room demand, outflow-greatest b F room demand demand (le-refl demand) (omega arith));
@@ -77,9 +77,9 @@ module _ {b F room demand r : ℕ} (er : r ≡ restOf b F) where
       }
 
   -- the demand does not fit: exactly the room enters
-  pub sent-room : {all onward y : ℕ} → b ≤ whole → 0 < b → all ≡ r + b * demand → onward ≡ all / whole → room < onward
-      → y ≡ (whole * room + 999 - r) / b → Sent b F room demand y room (r + b * y - whole * room)
-  sent-room {all} {onward} {y} h some ea eo l ey =
+  pub sends-room : {all onward y : ℕ} → b ≤ whole → 0 < b → all ≡ r + b * demand → onward ≡ all / whole → room < onward
+      → y ≡ (whole * room + 999 - r) / b → OutflowByRest b F room demand y room (r + b * y - whole * room)
+  sends-room {all} {onward} {y} h some ea eo l ey =
       let e : onward ≡ enteringOf b F demand = omega (arith, entering-by-rest b F demand) in
       let top : ℕ = whole * room + 999 - r in
       let small = rest-small b F in
@@ -98,8 +98,8 @@ module _ {b F room demand r : ℕ} (er : r ≡ restOf b F) where
       }
 
 -- with share 1,000 a place sends the smaller of demand and room, and the remainder is 0
-pub sent-whole : {F room demand y : ℕ} → y ≡ min demand room → Sent whole F room demand y y 0
-sent-whole {F} {room} {demand} {y} e = record {
+pub sends-whole : {F room demand y : ℕ} → y ≡ min demand room → OutflowByRest whole F room demand y y 0
+sends-whole {F} {room} {demand} {y} e = record {
   outflows = omega (arith, outflow-whole F room demand);
   enters = omega (arith, entering-whole F y);
   rests = omega (arith, rest-whole (F + y));
@@ -116,9 +116,9 @@ pub record RoomFilled (b r room y : ℕ) : Type 0 where
   pub over : whole * room ≤ r + b * y
   pub small : room ≤ 1000000
 
-pub filled : {b r demand room y : ℕ} → b ≤ whole → demand ≤ 1000000 → r ≤ 999 → room < (r + b * demand) / whole
+pub room-filled : {b r demand room y : ℕ} → b ≤ whole → demand ≤ 1000000 → r ≤ 999 → room < (r + b * demand) / whole
     → y ≡ (whole * room + 999 - r) / b → RoomFilled b r room y
-filled {b} {r} {demand} {room} {y} h d small l e =
+room-filled {b} {r} {demand} {room} {y} h d small l e =
     let some = some-share b r demand room small l in
     let top : ℕ = whole * room + 999 - r in
     let under : y * b ≤ top = le-div-iff-mul-le {k = b} {x = y} {y = top} some .0 (omega arith) in

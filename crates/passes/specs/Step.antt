@@ -27,8 +27,8 @@ use Rattle.passes.specs.Rest.{Remainders}
 use Rattle.passes.specs.Supplies.{NoRamp, demandIn}
 use Rattle.passes.specs.RampList.{Listed}
 use Rattle.passes.specs.TakeReleases.{arriveIn, giveIn}
-use Rattle.passes.specs.ReleasesFit.{Fittable, FitFound}
-use Rattle.passes.specs.Next.{NextAsks, demands-are, Stepped}
+use Rattle.passes.specs.ReleasesFit.{FitRequires, FitAnswer}
+use Rattle.passes.specs.Next.{NextRequires, demands-are, NextGives}
 
 -- what a loop over the steps keeps for its passes: the cells with a ramp in a list, the remainders of b × F, and columns with an entry for each cell
 pub record Arrays (r : Road) (ramps : ℕ) (cell : List ℕ) (state work : Table) : Type 0 where
@@ -38,7 +38,7 @@ pub record Arrays (r : Road) (ramps : ℕ) (cell : List ℕ) (state work : Table
   pub long : LongColumns (r .n) work
 
 -- what a step requires: everything is within the limits; a step is left; the row is in the bytes; the arrays are as above; y has room for the outflows
-pub record StepAsks (bytes : List ℕ) (k : ℕ) (q : Road) (ramps : ℕ) (cell : List ℕ) (l : Ledger) (state work : Table) (y : List ℕ) : Type 0 where
+pub record StepRequires (bytes : List ℕ) (k : ℕ) (q : Road) (ramps : ℕ) (cell : List ℕ) (l : Ledger) (state work : Table) (y : List ℕ) : Type 0 where
   pub input : InputOk q (stateIn l state) (recordRow bytes (q .n) k)
   pub sized : Sized q (stateIn l state)
   pub left : l .done < mostSteps
@@ -49,12 +49,12 @@ pub record StepAsks (bytes : List ℕ) (k : ℕ) (q : Road) (ramps : ℕ) (cell 
 -- the same for some road with the columns lent
 pub record StepLent (bytes : List ℕ) (k : ℕ) (z : Size) (rates sizes : Table) (l : Ledger) (state work : Table) (y : List ℕ) : Type 0 where
   pub road : Road
-  pub asks : StepAsks bytes k (roadIn road z rates sizes) (z .ramps) (cellCol sizes) l state work y
+  pub ready : StepRequires bytes k (roadIn road z rates sizes) (z .ramps) (cellCol sizes) l state work y
 
 -- what a step gives: the fault of its releases. With a fault, state and row are unchanged; without one, the next state, its outflows and the arrays
 pub record StepGives (bytes : List ℕ) (k : ℕ) (q : Road) (ramps : ℕ) (cell : List ℕ) (l₀ : Ledger) (state₀ : Table) (y₀ : List ℕ)
     (f : FaultAnswer) (l : Ledger) (state work : Table) (y : List ℕ) : Type 0 where
-  pub says : f ≡ releasesOf q (stateIn l₀ state₀) (recordRow bytes (q .n) k)
+  pub found : f ≡ releasesOf q (stateIn l₀ state₀) (recordRow bytes (q .n) k)
   pub same : (f .number ≡ 0 → ⊥) → (stateIn l state ≡ stateIn l₀ state₀) × (y ≡ y₀)
   pub next : f .number ≡ 0 → stateIn l state ≡ nextOf q (stateIn l₀ state₀) (recordRow bytes (q .n) k) (outflowsOf q (stateIn l₀ state₀) (recordRow bytes (q .n) k))
   pub outflows : f .number ≡ 0 → y ≡ outflowsOf q (stateIn l₀ state₀) (recordRow bytes (q .n) k)
@@ -79,7 +79,7 @@ module _ (bytes : List ℕ) (n k start : ℕ) (e : start ≡ rowStart (versionOf
       ∙ sym (row-at bytes n k (2 * i + 2) (omega arith))
 
 module _ {bytes : List ℕ} {k : ℕ} {q : Road} {ramps : ℕ} {cell : List ℕ} {l₀ : Ledger} {state₀ work₀ : Table} {y₀ : List ℕ}
-    (h : StepAsks bytes k q ramps cell l₀ state₀ work₀ y₀) where
+    (h : StepRequires bytes k q ramps cell l₀ state₀ work₀ y₀) where
   abbrev s : State
   s = stateIn l₀ state₀
 
@@ -87,8 +87,8 @@ module _ {bytes : List ℕ} {k : ℕ} {q : Road} {ramps : ℕ} {cell : List ℕ}
   row = recordRow bytes (q .n) k
 
   -- the test of the releases has no further precondition
-  pub fittable : {start : ℕ} → start ≡ rowStart (versionOf bytes) (q .n) k → Fittable bytes start q s row ramps cell work₀
-  fittable {start} e = record {
+  pub fit-ready : {start : ℕ} → start ≡ rowStart (versionOf bytes) (q .n) k → FitRequires bytes start q s row ramps cell work₀
+  fit-ready {start} e = record {
     input = h .input;
     sized = h .sized;
     listed = h .arrays .listed;
@@ -98,14 +98,14 @@ module _ {bytes : List ℕ} {k : ℕ} {q : Road} {ramps : ℕ} {cell : List ℕ}
     long = h .arrays .long;
   }
 
-  module _ {ok : Bool} {work : Table} (f : FitFound ok q s row ramps cell work) where
+  module _ {ok : Bool} {work : Table} (f : FitAnswer ok q s row ramps cell work) where
     -- releases that don't fit have a fault
     some-fault : {x : FaultAnswer} → ok ≡ false → x ≡ releasesOf q s row → x .number ≡ 0 → ⊥
     some-fault z e n = f .no z (releases-fit q s row (sym (number-of e) ∙ n))
 
     pub gives-fault : {x : FaultAnswer} → ok ≡ false → x ≡ releasesOf q s row → StepGives bytes k q ramps cell l₀ state₀ y₀ x l₀ state₀ work y₀
     gives-fault z e = record {
-      says = e;
+      found = e;
       same = λ _. (refl, refl);
       next = λ n. absurd (some-fault z e n);
       outflows = λ n. absurd (some-fault z e n);
@@ -117,7 +117,7 @@ module _ {bytes : List ℕ} {k : ℕ} {q : Road} {ramps : ℕ} {cell : List ℕ}
       stored : StoredDemands work (set work 3 demand) demand
       stored = store-demands work (f .yes fits .long .columns) demand
 
-      pub ready : {arrivals : ℕ} → arrivals ≡ gateArrivals row → NextAsks q l₀ state₀ row ramps arrivals cell (set work 3 demand)
+      pub ready : {arrivals : ℕ} → arrivals ≡ gateArrivals row → NextRequires q l₀ state₀ row ramps arrivals cell (set work 3 demand)
       ready e = record {
         columns = h .arrays .columns;
         steppable = record { input = h .input; sized = h .sized; released = f .yes fits .released; left = h .left };
@@ -130,12 +130,12 @@ module _ {bytes : List ℕ} {k : ℕ} {q : Road} {ramps : ℕ} {cell : List ℕ}
         gate = e;
       }
 
-      pub gives-step : {x : FaultAnswer} {t : Ledger} {state : Table} {y : List ℕ} → x ≡ fault 0 0 → Stepped q s row t state y
+      pub gives-step : {x : FaultAnswer} {t : Ledger} {state : Table} {y : List ℕ} → x ≡ fault 0 0 → NextGives q s row t state y
           → StepGives bytes k q ramps cell l₀ state₀ y₀ x t state (set work 3 demand) y
       gives-step e st =
           let w = f .yes fits .long in
           record {
-            says = e ∙ sym (fit-releases q s row (f .yes fits .released));
+            found = e ∙ sym (fit-releases q s row (f .yes fits .released));
             same = λ n. absurd (n (number-of e));
             next = λ _. st .next;
             outflows = λ _. st .outflows;

@@ -30,13 +30,13 @@ unfolding demandIn demandAt capacityAt
 demand-model r s i = refl
 
 -- what their products require from the first `count` entries
-pub record Supplies (count : ℕ) (wave jam held : List ℕ) : Type 0 where
+pub record SuppliesRequire (count : ℕ) (wave jam held : List ℕ) : Type 0 where
   pub cells : count ≤ mostCells
   pub waves : (i : ℕ) → i < count → at wave i ≤ whole
   pub jams : (i : ℕ) → i < count → at jam i ≤ mostRate
   pub helds : (i : ℕ) → i < count → at held i ≤ at jam i
 
-pub record Demands (count : ℕ) (speed held : List ℕ) : Type 0 where
+pub record DemandsRequire (count : ℕ) (speed held : List ℕ) : Type 0 where
   pub cells : count ≤ mostCells
   pub speeds : (i : ℕ) → i < count → at speed i ≤ whole
   pub helds : (i : ℕ) → i < count → at held i ≤ mostRate
@@ -75,11 +75,11 @@ unfolding demandIn demandOf thousandthsOf
 demand-found speed capacity held i e = e
 
 -- the bounds of a turn's product
-pub supply-product : {count : ℕ} {wave jam held : List ℕ} → Supplies count wave jam held → (i : ℕ) → i < count
+pub supply-product : {count : ℕ} {wave jam held : List ℕ} → SuppliesRequire count wave jam held → (i : ℕ) → i < count
     → at wave i * (at jam i - at held i) ≤ 1000000000
 supply-product {wave = wave} {jam} {held} k i l = product-most (at wave i) (at jam i - at held i) (k .waves i l) (omega (arith, k .jams i l))
 
-pub demand-product : {count : ℕ} {speed held : List ℕ} → Demands count speed held → (i : ℕ) → i < count
+pub demand-product : {count : ℕ} {speed held : List ℕ} → DemandsRequire count speed held → (i : ℕ) → i < count
     → at speed i * at held i ≤ 1000000000
 demand-product {speed = speed} {held} k i l = product-most (at speed i) (at held i) (k .speeds i l) (k .helds i l)
 

@@ -57,7 +57,7 @@ pub record Fits (bytes : List ℕ) (start : ℕ) (queue room : List ℕ) (i : �
   pub supply : giveIn bytes start i ≤ at room i
 
 -- what taking them requires
-pub record Takes (bytes : List ℕ) (start n ramps : ℕ) (cell queue : List ℕ) (work₀ : Table) : Type 0 where
+pub record TakeRequires (bytes : List ℕ) (start n ramps : ℕ) (cell queue : List ℕ) (work₀ : Table) : Type 0 where
   pub columns : length work₀ ≡ 5
   pub cells : n ≤ mostCells
   pub row : start + rowSize n ≤ length bytes
@@ -76,7 +76,7 @@ abbrev pub waitIn : List ℕ → ℕ → List ℕ → ℕ → ℕ
 waitIn bytes start queue i = at queue i + arriveIn bytes start i - giveIn bytes start i
 
 -- all releases fit: the rooms that they leave, and for each listed cell its release and its queue after it
-pub record Taken (bytes : List ℕ) (start n ramps : ℕ) (cell queue : List ℕ) (work₀ work : Table) : Type 0 where
+pub record TakeGives (bytes : List ℕ) (start n ramps : ℕ) (cell queue : List ℕ) (work₀ work : Table) : Type 0 where
   pub rooms : roomCol work ≡ fillOf (lessAt bytes start (roomCol work₀)) n (roomCol work₀)
   pub fits : (i : ℕ) → i < n → Fits bytes start queue (roomCol work₀) i
   pub releases : (k : ℕ) → k < ramps → at (releaseCol work) k ≡ giveIn bytes start (at cell k)
@@ -86,12 +86,12 @@ pub record Taken (bytes : List ℕ) (start n ramps : ℕ) (cell queue : List ℕ
   pub kept : OtherKept work₀ work
 
 -- the answer
-pub record Took (ok : Bool) (bytes : List ℕ) (start n ramps : ℕ) (cell queue : List ℕ) (work₀ work : Table) : Type 0 where
-  pub yes : ok ≡ true → Taken bytes start n ramps cell queue work₀ work
+pub record TakeAnswer (ok : Bool) (bytes : List ℕ) (start n ramps : ℕ) (cell queue : List ℕ) (work₀ work : Table) : Type 0 where
+  pub yes : ok ≡ true → TakeGives bytes start n ramps cell queue work₀ work
   pub no : ok ≡ false → ((i : ℕ) → i < n → Fits bytes start queue (roomCol work₀) i) → ⊥
 
 -- the loop over the listed cells
-pub record Taking (bytes : List ℕ) (start ramps : ℕ) (cell queue : List ℕ) (work₀ work : Table) (k : ℕ) : Type 0 where
+pub record TakeSoFar (bytes : List ℕ) (start ramps : ℕ) (cell queue : List ℕ) (work₀ work : Table) (k : ℕ) : Type 0 where
   pub rooms : roomCol work ≡ fillOf (lessAt bytes start (roomCol work₀)) (startOf cell k) (roomCol work₀)
   pub fits : (i : ℕ) → i < startOf cell k → Fits bytes start queue (roomCol work₀) i
   pub releases : FilledTo (λ j. giveIn bytes start (at cell j)) ramps (releaseCol work₀) (releaseCol work) k
@@ -107,10 +107,10 @@ pub record TakeTurn (start i size q come n : ℕ) : Type 0 where
   pub arrivals : come ≤ mostRate
 
 module _ {bytes : List ℕ} {start n ramps : ℕ} {cell queue : List ℕ} {work₀ : Table}
-    (t : Takes bytes start n ramps cell queue work₀) where
-  pub taking-none : Taking bytes start ramps cell queue work₀ work₀ 0
+    (t : TakeRequires bytes start n ramps cell queue work₀) where
+  pub take-none : TakeSoFar bytes start ramps cell queue work₀ work₀ 0
   unfolding fillOf startOf
-  taking-none = record {
+  take-none = record {
     rooms = refl;
     fits = λ i l. absurd (omega arith);
     releases = filled-none;
@@ -126,18 +126,18 @@ module _ {bytes : List ℕ} {start n ramps : ℕ} {cell queue : List ℕ} {work�
   same : (i : ℕ) → i < n → giveIn bytes start i ≡ 0 → lessAt bytes start (roomCol work₀) i ≡ at (roomCol work₀) i
   same i l e = omega arith
 
-  module _ {work : Table} {k : ℕ} (h : Taking bytes start ramps cell queue work₀ work k) (l : k < ramps) where
+  module _ {work : Table} {k : ℕ} (h : TakeSoFar bytes start ramps cell queue work₀ work k) (l : k < ramps) where
     pub room-here : at (roomCol work) (at cell k) ≡ at (roomCol work₀) (at cell k)
     room-here = listed-here (lessAt bytes start (roomCol work₀)) (roomCol work₀) (t .listed) same l (h .rooms)
 
     -- a release does not fit
-    pub taking-stop : (Fits bytes start queue (roomCol work₀) (at cell k) → ⊥) → ((i : ℕ) → i < n → Fits bytes start queue (roomCol work₀) i) → ⊥
-    taking-stop bad all = bad (all (at cell k) (t .listed .within k l))
+    pub take-stop : (Fits bytes start queue (roomCol work₀) (at cell k) → ⊥) → ((i : ℕ) → i < n → Fits bytes start queue (roomCol work₀) i) → ⊥
+    take-stop bad all = bad (all (at cell k) (t .listed .within k l))
 
-    pub taking-more : {most given : ℕ} → most ≡ at queue (at cell k) + arriveIn bytes start (at cell k) → given ≡ giveIn bytes start (at cell k)
+    pub take-more : {most given : ℕ} → most ≡ at queue (at cell k) + arriveIn bytes start (at cell k) → given ≡ giveIn bytes start (at cell k)
         → given ≤ most → given ≤ at (roomCol work) (at cell k)
-        → Taking bytes start ramps cell queue work₀ (storeTaken work (at cell k) (at (roomCol work) (at cell k) - given) k given (most - given)) (k + 1)
-    taking-more {most} {given} ec eg a b =
+        → TakeSoFar bytes start ramps cell queue work₀ (storeTaken work (at cell k) (at (roomCol work) (at cell k) - given) k given (most - given)) (k + 1)
+    take-more {most} {given} ec eg a b =
         let i = at cell k in
         let there = room-here in
         let fit : Fits bytes start queue (roomCol work₀) i = record { ramp = omega arith; supply = omega arith } in
@@ -165,9 +165,9 @@ module _ {bytes : List ℕ} {start n ramps : ℕ} {cell queue : List ℕ} {work�
             (λ (p : j < startOf cell k). h .fits j p)
             (order (startOf cell k) j)
 
-  pub taking-end : {work : Table} {k : ℕ} → Taking bytes start ramps cell queue work₀ work k
-      → Upto ramps k → ramps ≤ k → Taken bytes start n ramps cell queue work₀ work
-  taking-end {k = k} h b l =
+  pub take-end : {work : Table} {k : ℕ} → TakeSoFar bytes start ramps cell queue work₀ work k
+      → Upto ramps k → ramps ≤ k → TakeGives bytes start n ramps cell queue work₀ work
+  take-end {k = k} h b l =
       let e : k ≡ ramps = omega (arith, b .within) in
       let big = b .cells in
       record {

@@ -11,8 +11,8 @@ ghost use Rattle.model.specs.Road.{mostCells};
 ghost use Rattle.passes.specs.Supplies.{NoRamp};
 ghost use Rattle.passes.specs.RampList.{Listed, AtRamps};
 ghost use Rattle.passes.specs.Tables.{heldCol, queueCol, SumsKept};
-ghost use Rattle.passes.specs.TakeReleases.{Takes, Took};
-ghost use Rattle.passes.specs.AddReleases.{Adds, Addable, Added, mostOnRoad, mostAtRamps};
+ghost use Rattle.passes.specs.TakeReleases.{TakeRequires, TakeAnswer};
+ghost use Rattle.passes.specs.AddReleases.{AddRequires, AddLent, AddGives, mostOnRoad, mostAtRamps};
 
 // Lists the cells with a ramp, lowest first, and returns their number.
 pub fn ramp_cells(n: usize, ramp: &[u16; 64], cell: &mut [u32; 64]) -> usize
@@ -43,8 +43,8 @@ pub fn take_releases(
     queue: &[u32; 64],
     work: &mut [[u32; 65]; 5],
 ) -> bool
-    requires { ⌜ Takes (now bytes) start n ramps (now cell) (now queue) (now work) ⌝ }
-    ensures { λ ok. ⌜ Took ok (now (bytes .entry)) start n ramps (now (cell .entry)) (now (queue .entry)) (now (work .entry)) (now (work .exit)) ⌝ }
+    requires { ⌜ TakeRequires (now bytes) start n ramps (now cell) (now queue) (now work) ⌝ }
+    ensures { λ ok. ⌜ TakeAnswer ok (now (bytes .entry)) start n ramps (now (cell .entry)) (now (queue .entry)) (now (work .entry)) (now (work .exit)) ⌝ }
 {
     let mut k = 0;
     while k < ramps {
@@ -84,10 +84,10 @@ pub fn add_releases(
     sent: u32,
     state: &mut [[u32; 64]; 4],
 ) -> Sums
-    requires { ⌜ Addable n ramps sent (now cell) (now release) (now waiting) (heldCol (now state)) (queueCol (now state)) × (length (now state) ≡ 4) ⌝ }
+    requires { ⌜ AddLent n ramps sent (now cell) (now release) (now waiting) (heldCol (now state)) (queueCol (now state)) × (length (now state) ≡ 4) ⌝ }
     ensures { λ t. ⌜ ((give wait : ℕ → ℕ)
-        → Adds give wait n ramps (now (cell .entry)) (now (release .entry)) (now (waiting .entry)) (heldCol (now (state .entry))) (queueCol (now (state .entry)))
-        → Added give wait n (heldCol (now (state .entry))) (queueCol (now (state .entry))) (heldCol (now (state .exit))) (queueCol (now (state .exit)))
+        → AddRequires give wait n ramps (now (cell .entry)) (now (release .entry)) (now (waiting .entry)) (heldCol (now (state .entry))) (queueCol (now (state .entry)))
+        → AddGives give wait n (heldCol (now (state .entry))) (queueCol (now (state .entry))) (heldCol (now (state .exit))) (queueCol (now (state .exit)))
         sent (t .«on_road») (t .«at_ramps»)) ⌝ }
     ensures kept { λ t. ⌜ SumsKept (now (state .entry)) (now (state .exit)) ⌝ }
     ensures small { λ t. ⌜ (t .«on_road» ≤ mostOnRoad) × (t .«at_ramps» ≤ mostAtRamps) ⌝ }

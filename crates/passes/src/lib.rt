@@ -37,11 +37,11 @@ ghost use Rattle.model.specs.Stepping.{releasesOf};
 ghost use Rattle.fields.specs.FieldsLaws.{HoldsRow};
 ghost use Rattle.model.specs.Record.{recordRow};
 ghost use Rattle.outflows.specs.declared.Ledger.{Ledger};
-ghost use Rattle.outflows.specs.Columns.{sending, supplying};
+ghost use Rattle.outflows.specs.Columns.{withDemands, withSupplies};
 ghost use Rattle.passes.specs.Tables.{roadIn, stateIn, jamCol, capacityCol, cellCol};
-ghost use Rattle.passes.specs.Supplies.{supplyIn, demandIn, Supplies, Demands};
-ghost use Rattle.passes.specs.Next.{NextAsks, NextLent, Stepped};
-ghost use Rattle.passes.specs.Step.{StepAsks, StepLent, StepGives};
+ghost use Rattle.passes.specs.Supplies.{supplyIn, demandIn, SuppliesRequire, DemandsRequire};
+ghost use Rattle.passes.specs.Next.{NextRequires, NextLent, NextGives};
+ghost use Rattle.passes.specs.Step.{StepRequires, StepLent, StepGives};
 
 // The smaller of two numbers.
 pub fn least(a: u32, b: u32) -> u32
@@ -59,7 +59,7 @@ pub fn supplies(
     held: &[u32; 64],
     room: &mut [u32; 65],
 )
-    requires { ⌜ Supplies count (now wave) (now jam) (now held) ⌝ }
+    requires { ⌜ SuppliesRequire count (now wave) (now jam) (now held) ⌝ }
     ensures { λ _. ⌜ now (room .exit)
         ≡ fillOf (supplyIn (now (wave .entry)) (now (jam .entry)) (now (capacity .entry)) (now (held .entry))) count (now (room .entry)) ⌝ }
 {
@@ -78,7 +78,7 @@ pub fn demands(
     held: &[u32; 64],
     demand: &mut [u32; 65],
 )
-    requires { ⌜ Demands count (now speed) (now held) ⌝ }
+    requires { ⌜ DemandsRequire count (now speed) (now held) ⌝ }
     ensures { λ _. ⌜ now (demand .exit)
         ≡ fillOf (demandIn (now (speed .entry)) (now (capacity .entry)) (now (held .entry))) count (now (demand .entry)) ⌝ }
 {
@@ -100,7 +100,7 @@ fn fault<'a, 'b>(
 ) -> Fault
     requires { ⌜ HoldsRow (now bytes) n k ⌝ }
     ensures { λ q. ⌜ ((r : Road) (l : Ledger) → faultAnswer q
-        ≡ releasesOf (supplying r n (now (wave .entry)) (jamCol (now (sizes .entry))) (capacityCol (now (sizes .entry))))
+        ≡ releasesOf (withSupplies r n (now (wave .entry)) (jamCol (now (sizes .entry))) (capacityCol (now (sizes .entry))))
         (stateIn l (now (state .entry))) (recordRow (now (bytes .entry)) n k)) ⌝ }
 {
     let numbers = 1 + 2 * n;
@@ -131,9 +131,9 @@ pub fn next(
 ) -> Ledger
     requires { ⌜ NextLent size (now share) (now cell) arrivals l (now state) (now work) (now y) ⌝ }
     ensures { λ t. ⌜ ((r : Road) (row : List ℕ)
-        → NextAsks (sending r (size .n) (size .«gate_capacity») (r .speed) (now (share .entry)) (r .capacity)) l (now (state .entry)) row
+        → NextRequires (withDemands r (size .n) (size .«gate_capacity») (r .speed) (now (share .entry)) (r .capacity)) l (now (state .entry)) row
         (size .ramps) arrivals (now (cell .entry)) (now (work .entry))
-        → Stepped (sending r (size .n) (size .«gate_capacity») (r .speed) (now (share .entry)) (r .capacity)) (stateIn l (now (state .entry))) row
+        → NextGives (withDemands r (size .n) (size .«gate_capacity») (r .speed) (now (share .entry)) (r .capacity)) (stateIn l (now (state .entry))) row
         t (now (state .exit)) (now (y .exit))) ⌝ }
 {
     let n = size.n;
@@ -183,7 +183,7 @@ pub fn step<'a>(
 ) -> Outcome
     requires { ⌜ StepLent (now bytes) k size (now rates) (now sizes) l (now state) (now work) (now y) ⌝ }
     ensures { λ p. ⌜ ((r : Road)
-        → StepAsks (now (bytes .entry)) k (roadIn r size (now (rates .entry)) (now (sizes .entry))) (size .ramps) (cellCol (now (sizes .entry)))
+        → StepRequires (now (bytes .entry)) k (roadIn r size (now (rates .entry)) (now (sizes .entry))) (size .ramps) (cellCol (now (sizes .entry)))
         l (now (state .entry)) (now (work .entry)) (now (y .entry))
         → StepGives (now (bytes .entry)) k (roadIn r size (now (rates .entry)) (now (sizes .entry))) (size .ramps) (cellCol (now (sizes .entry)))
         l (now (state .entry)) (now (y .entry)) (faultAnswer (p .fault)) (p .ledger) (now (state .exit)) (now (work .exit)) (now (y .exit))) ⌝ }

@@ -8,9 +8,9 @@ ghost use lib.ListN.{length};
 ghost use Rattle.model.specs.Flow.{whole};
 ghost use Rattle.model.specs.Road.{mostRate, mostCells};
 ghost use Rattle.model.specs.Numbers.{fillOf};
-ghost use Rattle.passes.specs.Rest.{restOf, restIn, Sent};
+ghost use Rattle.passes.specs.Rest.{restOf, restIn, OutflowByRest};
 ghost use Rattle.passes.specs.Tables.{heldCol, cumulativeCol, restCol, QueuesKept};
-ghost use Rattle.passes.specs.Outflows.{passOf, Sends, SentTo};
+ghost use Rattle.passes.specs.Outflows.{passOf, SendRequires, SendGives};
 
 // What a place sends in a step: its outflow, what enters the next cell, and the next remainder of b x F by 1,000.
 struct Flow {
@@ -43,7 +43,7 @@ pub fn remainders(n: usize, share: &[u16; 64], cumulative: &[u32; 64], rest: &mu
 // exactly the room enters.
 fn outflow_by_rest(share: u16, rest: u32, demand: u32, room: u32) -> Flow
     requires { ⌜ (share ≤ whole) × ((demand ≤ mostRate) × (rest ≤ 999)) ⌝ }
-    ensures { λ s. ⌜ ((F : ℕ) → rest ≡ restOf share F → Sent share F room demand (s .outflow) (s .entering) (s .rest)) ⌝ }
+    ensures { λ s. ⌜ ((F : ℕ) → rest ≡ restOf share F → OutflowByRest share F room demand (s .outflow) (s .entering) (s .rest)) ⌝ }
 {
     if share == 1000 {
         let all = crate::least(demand, room);
@@ -81,9 +81,9 @@ pub fn send(
     state: &mut [[u32; 64]; 4],
     y: &mut [u32],
 ) -> u32
-    requires { ⌜ Sends n (passOf first (now share) (now demand) (now room) (heldCol (now state)) (cumulativeCol (now state))) (restCol (now state))
+    requires { ⌜ SendRequires n (passOf first (now share) (now demand) (now room) (heldCol (now state)) (cumulativeCol (now state))) (restCol (now state))
         × ((length (now state) ≡ 4) × (length (now y) ≡ n + 1)) ⌝ }
-    ensures { λ sum. ⌜ SentTo n (passOf first (now (share .entry)) (now (demand .entry)) (now (room .entry)) (heldCol (now (state .entry)))
+    ensures { λ sum. ⌜ SendGives n (passOf first (now (share .entry)) (now (demand .entry)) (now (room .entry)) (heldCol (now (state .entry)))
         (cumulativeCol (now (state .entry)))) (restCol (now (state .entry))) (now (y .entry))
         (heldCol (now (state .exit))) (restCol (now (state .exit))) (cumulativeCol (now (state .exit))) (now (y .exit)) sum ⌝ }
     ensures kept { λ sum. ⌜ QueuesKept (now (state .entry)) (now (state .exit)) ⌝ }

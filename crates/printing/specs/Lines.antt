@@ -32,11 +32,11 @@ use Rattle.passes.specs.Step.{Arrays, StepGives}
 use Rattle.model.specs.Reading.{ReadAnswer, readingWithin, readingOf, studyBy}
 use Rattle.reading.specs.Caller.{within-accepted}
 use Rattle.model.specs.Listing.{mostOutflows, mostLine, mostLast, mostTime, headerLine, linesOf, totalLine, secondsLine, refusedLine, stepsLines, timeOf, lastOf, printedEnd}
-use Rattle.model.specs.Listing.{printedRun, printedWithin, mostText, Printed}
-use Rattle.model.specs.Running.{EndAnswer, ended, runEnd}
+use Rattle.model.specs.Listing.{printedRun, printedWithin, mostText, HoldsPrinted}
+use Rattle.model.specs.Running.{EndAnswer, endWith, runEnd}
 use Rattle.theory.specs.Readable.{Readable}
 use Rattle.running.specs.Arrays.{startTable, emptyTable, arrays-start}
-use Rattle.running.specs.Steps.{FaultlessSteps, RanTurn, ran-reached, ran-none, ran-more, row-is, ends-ran, all-ran}
+use Rattle.running.specs.Steps.{FaultlessSteps, RunTurn, ran-reached, ran-none, ran-more, row-is, ends-ran, all-ran}
 use Rattle.model.specs.Numbers.{placed}
 use Rattle.numbers.specs.PlacedText.{Puts, placed-none, puts-first, puts-more, Room, room}
 use Rattle.listing.specs.ListingLaws.{header-room, lines-room, total-length, total-room, seconds-length, refused-room}
@@ -47,12 +47,12 @@ pub record Printable (bytes : List ℕ) (a : Study) (buffer : List ℕ) : Type 0
   pub enough : mostText ≤ length buffer
 
 -- room for the last lines, with a total and seconds within their limits
-pub record Ending (r : Road) (u : State) (buffer : List ℕ) (at : ℕ) : Type 0 where
+pub record LastLinesRequire (r : Road) (u : State) (buffer : List ℕ) (at : ℕ) : Type 0 where
   pub enough : at + (mostLast + mostTime) ≤ length buffer
   pub total : totalOf u ≤ mostTotal mostSteps
   pub seconds : r .seconds ≤ mostSeconds
 
-module _ {r : Road} {u : State} {buffer : List ℕ} {at : ℕ} (h : Ending r u buffer at) {total : ℕ} (e : total ≡ min (totalOf u) mostLong) where
+module _ {r : Road} {u : State} {buffer : List ℕ} {at : ℕ} (h : LastLinesRequire r u buffer at) {total : ℕ} (e : total ≡ min (totalOf u) mostLong) where
   -- the total is within its limit, so the number returned is the total itself
   pub total-is : total ≡ totalOf u
   total-is = omega (arith, e, h .total)
@@ -125,9 +125,9 @@ module _ {r : Road} (s : State) {z : Size} {rates sizes state : Table} {cell : L
       (subst (λ (c : List ℕ). Arrays r ramps c state emptyTable) (sym (h .cells)) (arrays-start s ok listed columns))
 
 -- a step was tested: with a fault the buffer is unchanged; without one the step is made and its lines are put
-pub record PutStep (bytes : List ℕ) (k : ℕ) (q : Road) (u : State) (ramps : ℕ) (cell before : List ℕ) (at : ℕ) (f : FaultAnswer)
+pub record StepLinesGive (bytes : List ℕ) (k : ℕ) (q : Road) (u : State) (ramps : ℕ) (cell before : List ℕ) (at : ℕ) (f : FaultAnswer)
     (l : Ledger) (state work : Table) (after : List ℕ) (end : ℕ) : Type 0 where
-  pub says : f ≡ releasesOf q u (recordRow bytes (q .n) k)
+  pub found : f ≡ releasesOf q u (recordRow bytes (q .n) k)
   pub same : (f .number ≡ 0 → ⊥) → after ≡ before
   pub next : f .number ≡ 0 → stateIn l state ≡ nextOf q u (recordRow bytes (q .n) k) (outflowsOf q u (recordRow bytes (q .n) k))
   pub lines : f .number ≡ 0 → Puts before at (linesOf k (outflowsOf q u (recordRow bytes (q .n) k)) (stateIn l state) (q .n)) after end
@@ -135,9 +135,9 @@ pub record PutStep (bytes : List ℕ) (k : ℕ) (q : Road) (u : State) (ramps : 
 
 module _ {bytes : List ℕ} {k : ℕ} {q : Road} {ramps : ℕ} {cell : List ℕ} {l₀ : Ledger} {state₀ : Table} {y₀ : List ℕ} {f : FaultAnswer} {l : Ledger}
     {state work : Table} {y : List ℕ} (h : StepGives bytes k q ramps cell l₀ state₀ y₀ f l state work y) where
-  pub put-none : (f .number ≡ 0 → ⊥) → (before : List ℕ) (at : ℕ) → PutStep bytes k q (stateIn l₀ state₀) ramps cell before at f l state work before at
+  pub put-none : (f .number ≡ 0 → ⊥) → (before : List ℕ) (at : ℕ) → StepLinesGive bytes k q (stateIn l₀ state₀) ramps cell before at f l state work before at
   put-none n before at = record {
-    says = h .says;
+    found = h .found;
     same = λ _. refl;
     next = h .next;
     lines = λ z. absurd (n z);
@@ -145,9 +145,9 @@ module _ {bytes : List ℕ} {k : ℕ} {q : Road} {ramps : ℕ} {cell : List ℕ}
   }
 
   pub put-lines : f .number ≡ 0 → {before after : List ℕ} {at end : ℕ} → Puts before at (linesOf k y (stateIn l state) (q .n)) after end
-      → PutStep bytes k q (stateIn l₀ state₀) ramps cell before at f l state work after end
+      → StepLinesGive bytes k q (stateIn l₀ state₀) ramps cell before at f l state work after end
   put-lines z p = record {
-    says = h .says;
+    found = h .found;
     same = λ n. absurd (n z);
     next = h .next;
     lines = λ _. rw (h .outflows z) at p;
@@ -189,7 +189,7 @@ module _ {a : Study} {before : List ℕ} {start : ℕ} where
 
     -- after all steps there is room for the last lines
     pub lines-end : StudyOk a → tableSize a ≤ mostOutflows → a .road .seconds ≤ mostSeconds → a .steps ≤ k → {r : Road} → r ≡ a .road → {v : State} → v ≡ u
-        → Ending r v buffer end
+        → LastLinesRequire r v buffer end
     lines-end ok m seconds l er ev =
         let e : k ≡ a .steps = all-ran (h .ran) l in
         let f : k * places a ≡ a .steps * places a = rw e in
@@ -200,7 +200,7 @@ module _ {a : Study} {before : List ℕ} {start : ℕ} where
           seconds = seconds;
         })
 
-    module _ {q : Road} {row : List ℕ} (t : RanTurn a u k q row) {f : FaultAnswer} (e : f ≡ releasesOf q u row) (z : f .number ≡ 0) where
+    module _ {q : Road} {row : List ℕ} (t : RunTurn a u k q row) {f : FaultAnswer} (e : f ≡ releasesOf q u row) (z : f .number ≡ 0) where
       -- one more step is made, and its lines are put
       pub lined-more : {v : State} {y c : List ℕ} {m : ℕ} → v ≡ nextOf q u row (outflowsOf q u row) → y ≡ outflowsOf q u row
           → Puts buffer end (linesOf k y v (a .road .n)) c m → LinesInBuffer a before start c v m (k + 1)
@@ -229,7 +229,7 @@ puts-beyond before at text after end k p l = ap (drop k) (p .1) ∙ sets-beyond 
 
 -- a text put at the start of a buffer
 printed : (before text after : List ℕ) (end k : ℕ) → Puts before 0 text after end → Room before 0 after end k → k ≤ mostText → mostText ≤ length before
-    → Printed before text after end
+    → HoldsPrinted before text after end
 printed before text after end k p z l m = record {
   holds = record {
     first = puts-first before text after end p (omega (arith, p .0, z .end));
@@ -246,7 +246,7 @@ module _ {a : Study} {before start-buffer : List ℕ} {start : ℕ} {buffer : Li
     (h : LinesInBuffer a start-buffer start buffer u end k) (most : tableSize a ≤ mostOutflows) where
   -- a refusal's line, instead of what was put before
   pub holds-fault : k < a .steps → {e : EndAnswer} {after : List ℕ} {m : ℕ} → e ≡ runEnd a → (e .number ≡ 0 → ⊥)
-      → Puts buffer 0 (refusedLine (e .number) (e .step) (e .place)) after m → Printed before (printedRun a) after m
+      → Puts buffer 0 (refusedLine (e .number) (e .step) (e .place)) after m → HoldsPrinted before (printedRun a) after m
   unfolding printedRun
   holds-fault l {e} {after} {m} ee n q =
       let y = header-room before 0 start-buffer start p in
@@ -265,11 +265,11 @@ module _ {a : Study} {before start-buffer : List ℕ} {start : ℕ} {buffer : Li
 
   -- the last lines, if all steps are made
   pub holds-run : a .steps ≤ k → {r : Road} → r ≡ a .road → {v : State} → v ≡ u → {after : List ℕ} {m : ℕ} → Puts buffer end (lastOf r v) after m
-      → Printed before (printedRun a) after m
+      → HoldsPrinted before (printedRun a) after m
   unfolding printedRun
   holds-run l er ev {after} {m} put =
       let q : Puts buffer end (lastOf (a .road) u) after m = rw (er, ev) at put in
-      let e : ended 0 0 0 (a .road) u ≡ runEnd a = ends-ran (h .ran) l refl in
+      let e : endWith 0 0 0 (a .road) u ≡ runEnd a = ends-ran (h .ran) l refl in
       let i : k ≡ a .steps = all-ran (h .ran) l in
       let j : k * places a ≡ a .steps * places a = rw i in
       let lines : Puts start-buffer start (stepsLines a (a .steps)) buffer end = rw i at (h .puts) in
@@ -277,7 +277,7 @@ module _ {a : Study} {before start-buffer : List ℕ} {start : ℕ} {buffer : Li
       let w = room buffer end (lastOf (a .road) u) after m (mostLast + mostTime) q (last-length (a .road) u) in
       let t : headerLine ++ (stepsLines a (a .steps) ++ lastOf (a .road) u) ≡ printedEnd a (runEnd a) = rw (← e) refl in
       let all = puts-more before 0 headerLine start-buffer start _ after m p (puts-more start-buffer start (stepsLines a (a .steps)) buffer end _ after m lines q) in
-      subst (λ (text : List ℕ). Printed before text after m) t
+      subst (λ (text : List ℕ). HoldsPrinted before text after m) t
       (printed before _ after m mostText all
       (record { end = omega (arith, w .end, h .room .end, h .top, most, j); same = w .same ∙ h .room .same ∙ y .same })
       (omega arith) (omega (arith, h .enough, y .same)))
@@ -289,13 +289,13 @@ read-same cells most bytes ex z = ex ∙ within-accepted bytes cells most (rw ex
 -- what is printed for a record, from reading's answer
 module _ (cells most : ℕ) (bytes : List ℕ) {x : ReadAnswer} (ex : x ≡ readingWithin cells most bytes) {before after : List ℕ} {m : ℕ} where
   pub holds-refused : (x .number ≡ 0 → ⊥) → mostText ≤ length before → Puts before 0 (refusedLine (x .number) 0 (x .place)) after m
-      → Printed before (printedWithin cells most bytes) after m
+      → HoldsPrinted before (printedWithin cells most bytes) after m
   unfolding printedWithin
   holds-refused n l p =
       let z = refused-room before 0 (x .number) 0 (x .place) after m p in
       rw (← ex, ne-eqb (x .number) 0 n) (printed before (refusedLine (x .number) 0 (x .place)) after m mostLine p z (omega arith) l)
 
-  pub holds-read : x .number ≡ 0 → Printed before (printedRun (studyBy bytes [] (x .road) (x .state) (x .steps))) after m
-      → Printed before (printedWithin cells most bytes) after m
+  pub holds-read : x .number ≡ 0 → HoldsPrinted before (printedRun (studyBy bytes [] (x .road) (x .state) (x .steps))) after m
+      → HoldsPrinted before (printedWithin cells most bytes) after m
   unfolding printedWithin
   holds-read z h = rw (← ex, eq-eqb (x .number) 0 z, ← read-same cells most bytes ex z) h

@@ -18,7 +18,7 @@ use Rattle.reading.specs.Table.{read-table}
 use Rattle.model.specs.Running.{stepsMade, runningOf, listAfter}
 use Rattle.theory.specs.TableLaws.{table-row}
 use Rattle.theory.specs.RunEnds.{runs-refused, runs-long}
-use Rattle.theory.specs.Readable.{readable-open, taken-open}
+use Rattle.theory.specs.Readable.{readable-open, openable-empty}
 
 -- the text with only the model's limits
 abbrev pub printedOf : List ℕ → List ℕ
@@ -32,7 +32,7 @@ module _ (bytes list : List ℕ) (long : mostOutflows ≤ length list) where
       go : (b : Bool) → eqb (readingOf bytes .number) 0 ≡ b → printedOf bytes ≡ printedEnd (studyOf bytes []) (runningOf bytes [] list)
       go true e =
           let z = eqb-true (readingOf bytes .number) 0 e in
-          rw (runs-long bytes [] (taken-open bytes z) list (omega (arith, read-table bytes (readingOf bytes) refl z)), eq-eqb (readingOf bytes .number) 0 z)
+          rw (runs-long bytes [] (openable-empty bytes z) list (omega (arith, read-table bytes (readingOf bytes) refl z)), eq-eqb (readingOf bytes .number) 0 z)
       go false e =
           let n = eqb-false (readingOf bytes .number) 0 e in
           rw (runs-refused bytes [] n list, ne-eqb (readingOf bytes .number) 0 n)

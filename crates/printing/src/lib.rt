@@ -15,12 +15,12 @@ ghost use Rattle.model.specs.Refusals.{faultAnswer};
 ghost use Rattle.model.specs.declared.State.{State};
 ghost use Rattle.model.specs.Road.{mostCells};
 ghost use Rattle.passes.specs.Tables.{roadIn, stateIn, heldCol, queueCol, cellCol};
-ghost use Rattle.passes.specs.Step.{StepAsks, StepLent};
+ghost use Rattle.passes.specs.Step.{StepRequires, StepLent};
 ghost use Rattle.model.specs.Reading.{studyBy};
 ghost use Rattle.numbers.specs.PlacedText.{Puts};
-ghost use Rattle.model.specs.Listing.{mostLine, linesOf, lastOf, printedRun, printedWithin, mostText, Printed};
+ghost use Rattle.model.specs.Listing.{mostLine, linesOf, lastOf, printedRun, printedWithin, mostText, HoldsPrinted};
 ghost use Rattle.listing.specs.ListingLaws.{showing};
-ghost use Rattle.printing.specs.Lines.{Printable, Ending, PutStep};
+ghost use Rattle.printing.specs.Lines.{Printable, LastLinesRequire, StepLinesGive};
 
 // The greatest length of a text: no record that reads needs more bytes.
 pub const TEXT: usize = 924161;
@@ -70,9 +70,9 @@ fn step_lines<'a>(
 ) -> Put
     requires { ⌜ (StepLent (now bytes) k size (now rates) (now sizes) l (now state) (now work) (now y)) × (at + mostLine * (size .n + 1) ≤ length (now buffer)) ⌝ }
     ensures { λ p. ⌜ ((r : Road)
-        → StepAsks (now (bytes .entry)) k (roadIn r size (now (rates .entry)) (now (sizes .entry))) (size .ramps) (cellCol (now (sizes .entry)))
+        → StepRequires (now (bytes .entry)) k (roadIn r size (now (rates .entry)) (now (sizes .entry))) (size .ramps) (cellCol (now (sizes .entry)))
         l (now (state .entry)) (now (work .entry)) (now (y .entry))
-        → PutStep (now (bytes .entry)) k (roadIn r size (now (rates .entry)) (now (sizes .entry))) (stateIn l (now (state .entry)))
+        → StepLinesGive (now (bytes .entry)) k (roadIn r size (now (rates .entry)) (now (sizes .entry))) (stateIn l (now (state .entry)))
         (size .ramps) (cellCol (now (sizes .entry))) (now (buffer .entry)) at (faultAnswer (p .fault)) (p .ledger) (now (state .exit)) (now (work .exit))
         (now (buffer .exit)) (p .end)) ⌝ }
 {
@@ -97,7 +97,7 @@ fn step_lines<'a>(
 
 // Puts the line of the totals, and in version 2 that of the seconds.
 fn last_lines(buffer: &mut [u8], at: usize, r: Road, u: State) -> usize
-    requires { ⌜ Ending r u (now buffer) at ⌝ }
+    requires { ⌜ LastLinesRequire r u (now buffer) at ⌝ }
     ensures { λ e. ⌜ Puts (now (buffer .entry)) at (lastOf r u) (now (buffer .exit)) e ⌝ }
 {
     let total = u.total();
@@ -120,7 +120,7 @@ fn last_lines(buffer: &mut [u8], at: usize, r: Road, u: State) -> usize
 // Puts the header, the lines of each step as it is made, and the last lines; after a fault only a refusal's line.
 fn run_lines(bytes: &[u8], r: Road, s: State, steps: usize, buffer: &mut [u8]) -> usize
     requires { ⌜ Printable (now bytes) (studyBy (now bytes) [] r s steps) (now buffer) ⌝ }
-    ensures { λ e. ⌜ Printed (now (buffer .entry)) (printedRun (studyBy (now (bytes .entry)) [] r s steps)) (now (buffer .exit)) e ⌝ }
+    ensures { λ e. ⌜ HoldsPrinted (now (buffer .entry)) (printedRun (studyBy (now (bytes .entry)) [] r s steps)) (now (buffer .exit)) e ⌝ }
 {
     let rates = passes::rates(r);
     let mut sizes = passes::sizes(r);
@@ -163,7 +163,7 @@ fn run_lines(bytes: &[u8], r: Road, s: State, steps: usize, buffer: &mut [u8]) -
 // Puts the text for a record at the start of the buffer and returns its length; the caller takes at most `cells` cells and `most` bytes.
 pub fn printed_within(bytes: &[u8], cells: usize, most: usize, buffer: &mut [u8]) -> usize
     requires { ⌜ mostText ≤ length (now buffer) ⌝ }
-    ensures { λ e. ⌜ Printed (now (buffer .entry)) (printedWithin cells most (now (bytes .entry))) (now (buffer .exit)) e ⌝ }
+    ensures { λ e. ⌜ HoldsPrinted (now (buffer .entry)) (printedWithin cells most (now (bytes .entry))) (now (buffer .exit)) e ⌝ }
 {
     let a = reading::read_within(bytes, cells, most);
     let refusal = a.refusal;

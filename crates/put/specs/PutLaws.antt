@@ -8,11 +8,11 @@ use lib.Dec.{leb, ltb, eqb}
 use borrow.Author.Tests.{eqb-true, eq-eqb, ne-eqb, leb-true, ltb-true, le-leb, lt-leb, lt-ltb}
 use Rattle.fields.specs.FieldsLaws.{HoldsRow}
 use Rattle.model.specs.Numbers.{at}
-use Rattle.numbers.specs.Tests.{never, and-true, both-true, le-head}
+use Rattle.numbers.specs.Tests.{not-both, and-true, both-true, le-head}
 use Rattle.model.specs.Road.{mostRate}
 use Rattle.model.specs.Refusals.{FaultAnswer, fault}
 use Rattle.model.specs.Reading.{ReadAnswer, readingOf}
-use Rattle.model.specs.Put.{rampOk, stepAndRateOk, releasedAt, puttingOf, releasedRecord, Ramp}
+use Rattle.model.specs.Put.{rampOk, stepAndRateOk, withRelease, puttingOf, releasedRecord, Ramp}
 
 -- what putting a release requires: the bytes hold the row, and the cell is on the road
 pub record Place (bytes : List ℕ) (n step cell : ℕ) : Type 0 where
@@ -21,7 +21,7 @@ pub record Place (bytes : List ℕ) (n step cell : ℕ) : Type 0 where
 
 pub ramp-facts : (ramp : List ℕ) (n cell : ℕ) → rampOk ramp n cell ≡ true → Ramp ramp n cell
 unfolding rampOk
-ramp-facts ramp n zero h = absurd (never h refl)
+ramp-facts ramp n zero h = absurd (not-both h refl)
 ramp-facts ramp n (suc i) h =
     let a = le-head (suc i) n (eqb (at ramp i) 1) h in
     let e : suc i - 1 ≡ i = omega arith in
@@ -63,14 +63,14 @@ facts-rates step T release l m = both-true (ltb step T) (leb release mostRate) (
 
 -- putting's answer, and the record that it leaves
 pub record PutOutcome (bytes : List ℕ) (step cell release : ℕ) (a : FaultAnswer) (left : List ℕ) : Type 0 where
-  pub says : a ≡ puttingOf bytes step cell release
+  pub answer : a ≡ puttingOf bytes step cell release
   pub leaves : left ≡ releasedRecord bytes step cell release
 
 -- an answer with a refusal leaves the record unchanged; one without puts the release
 left-refused : (bytes : List ℕ) (step cell release : ℕ) (a : FaultAnswer) → (a .number ≡ 0 → ⊥) → a ≡ puttingOf bytes step cell release
     → PutOutcome bytes step cell release a bytes
 unfolding releasedRecord
-left-refused bytes step cell release a n e = record { says = e; leaves = rw (← e, ne-eqb (a .number) 0 n) }
+left-refused bytes step cell release a n e = record { answer = e; leaves = rw (← e, ne-eqb (a .number) 0 n) }
 
 module _ (bytes : List ℕ) (step cell release : ℕ) {x : ReadAnswer} (e : x ≡ readingOf bytes) where
   pub ends-unread : (x .number ≡ 0 → ⊥) → PutOutcome bytes step cell release (fault (x .number) (x .place)) bytes
@@ -88,6 +88,6 @@ module _ (bytes : List ℕ) (step cell release : ℕ) {x : ReadAnswer} (e : x �
       ends-rates f = left-refused bytes step cell release (fault 6 step) (λ k. omega arith) (rw (← e, eq-eqb (x .number) 0 z, r, f) refl)
 
       pub ends-put : stepAndRateOk step (x .steps) release ≡ true
-          → PutOutcome bytes step cell release (fault 0 0) (releasedAt bytes (x .road .n) step cell release)
+          → PutOutcome bytes step cell release (fault 0 0) (withRelease bytes (x .road .n) step cell release)
       unfolding puttingOf releasedRecord
-      ends-put f = record { says = rw (← e, eq-eqb (x .number) 0 z, r, f); leaves = rw (← e, eq-eqb (x .number) 0 z, r, f) }
+      ends-put f = record { answer = rw (← e, eq-eqb (x .number) 0 z, r, f); leaves = rw (← e, eq-eqb (x .number) 0 z, r, f) }

@@ -14,7 +14,7 @@ use Rattle.fields.specs.FieldsLaws.{HoldsRow, length-row, row-at, row-within}
 use Rattle.model.specs.Put.{putEntry, releaseNumber, putReleases, putTable, releasedRow}
 use Rattle.model.specs.Put.{Outside}
 use Rattle.put.specs.Bytes.{Apart, compare, byte-other, number-placed, number-apart, zero-placed}
-use Rattle.model.specs.Put.{Put}
+use Rattle.model.specs.Put.{NumberPut}
 
 -- in a row of two cells, 8 and 9 are put after the arrivals of each
 on-paper : releasedRow (λ i. 8 + i) 2 (1 ∷ 2 ∷ 3 ∷ 4 ∷ 5 ∷ []) ≡ 1 ∷ 2 ∷ 8 ∷ 4 ∷ 9 ∷ []
@@ -69,7 +69,7 @@ module _ (s : List ℕ) (n t k x : ℕ) (l : k < 1 + 2 * n) (held : HoldsRow s n
       others t j m (λ _ e. d e) ∙ sym (row-at s n t j m) ∙ sym (getD-set-other (recordRow s n t) k j x 0 d))
       (compare j k)
 
-  pub put-entry : Put s (putEntry s n t k x) n t k x
+  pub put-entry : NumberPut s (putEntry s n t k x) n t k x
   put-entry = record {
     size = length-placed s start (bytesOf numberSize x);
     version = kept;
@@ -116,7 +116,7 @@ pub record PutRow (s u : List ℕ) (n t : ℕ) (f : ℕ → ℕ) (c : ℕ) : Typ
   pub rows : (q : ℕ) → (q ≡ t → ⊥) → recordRow u n q ≡ recordRow s n q
 
 -- one more release
-put-more : {s u v : List ℕ} {n t : ℕ} {f : ℕ → ℕ} (c : ℕ) → PutRow s u n t f c → Put u v n t (releaseNumber c) (f c) → PutRow s v n t f (suc c)
+put-more : {s u v : List ℕ} {n t : ℕ} {f : ℕ → ℕ} (c : ℕ) → PutRow s u n t f c → NumberPut u v n t (releaseNumber c) (f c) → PutRow s v n t f (suc c)
 unfolding releasedRow
 put-more {f = f} c p q = record {
   size = q .size ∙ p .size;

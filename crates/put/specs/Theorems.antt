@@ -11,7 +11,7 @@ use lib.ListN.{set, length-set}
 use lib.Seq.{getD-set-same, getD-set-other}
 use borrow.Author.Tests.{eqb-true, eqb-false}
 use Rattle.model.specs.Numbers.{at, unless}
-use Rattle.numbers.specs.Tests.{unless-elim, never}
+use Rattle.numbers.specs.Tests.{unless-elim, not-both}
 use Rattle.model.specs.declared.Road.{Road}
 use Rattle.model.specs.Road.{mostRate}
 use Rattle.model.specs.Refusals.{FaultAnswer, fault}
@@ -21,7 +21,7 @@ use Rattle.model.specs.Reading.{readingOf}
 use Rattle.reading.specs.Cases.{AcceptedRecord}
 use Rattle.reading.specs.Within.{read-within, read-row}
 use Rattle.put.specs.Bytes.{compare}
-use Rattle.model.specs.Put.{Put, rampOk, stepAndRateOk, releasedAt, puttingOf, releasedRecord, Ramp, PutRequest, ReleasePut, PutEnds}
+use Rattle.model.specs.Put.{NumberPut, rampOk, stepAndRateOk, withRelease, puttingOf, releasedRecord, Ramp, PutRequest, ReleasePut, PutEnds}
 use Rattle.put.specs.ReleasesLaws.{put-entry}
 use Rattle.put.specs.SameReading.{rows-replaced}
 use Rattle.put.specs.PutLaws.{ramp-facts, facts-ramp, rates-facts, facts-rates, PutOutcome}
@@ -59,12 +59,12 @@ module _ (bytes : List ℕ) (step cell release : ℕ) (request : PutRequest byte
   n = readingOf bytes .road .n
 
   abbrev after : List ℕ
-  after = releasedAt bytes n step cell release
+  after = withRelease bytes n step cell release
 
   accepted : AcceptedRecord bytes (readingOf bytes .steps) (readingOf bytes .road) (readingOf bytes .state)
   accepted = read-within bytes (readingOf bytes) refl (request .reads)
 
-  is-put : Put bytes after n step (2 * cell) release
+  is-put : NumberPut bytes after n step (2 * cell) release
   is-put =
       put-entry bytes n step (2 * cell) release (omega (arith, request .ramp .within))
       (read-row bytes (readingOf bytes) refl (request .reads) step (request .before)) (omega (arith, request .rate))
@@ -97,24 +97,24 @@ module _ (bytes : List ℕ) (step cell release : ℕ) where
 
   -- an answer, with the record that it leaves
   abbrev End : FaultAnswer → Type 0
-  End x = PutEnds bytes step cell release x (unless (eqb (x .number) 0) bytes (releasedAt bytes (r .n) step cell release))
+  End x = PutEnds bytes step cell release x (unless (eqb (x .number) 0) bytes (withRelease bytes (r .n) step cell release))
 
   pub ends : PutEnds bytes step cell release (puttingOf bytes step cell release) (releasedRecord bytes step cell release)
   unfolding puttingOf releasedRecord
   ends =
       unless-elim End (eqb (readingOf bytes .number) 0) (λ e. rw e (PutEnds.unread (eqb-false (readingOf bytes .number) 0 e))) (λ e.
       let reads = eqb-true (readingOf bytes .number) 0 e in
-      unless-elim End (rampOk (r .ramp) (r .n) cell) (λ f. PutEnds.noRamp reads (λ h. never (facts-ramp (r .ramp) (r .n) cell h) f)) (λ f.
+      unless-elim End (rampOk (r .ramp) (r .n) cell) (λ f. PutEnds.noRamp reads (λ h. not-both (facts-ramp (r .ramp) (r .n) cell h) f)) (λ f.
       let ramp = ramp-facts (r .ramp) (r .n) cell f in
-      unless-elim End (stepAndRateOk step T release) (λ g. PutEnds.noRate reads ramp (λ l m. never (facts-rates step T release l m) g)) (λ g.
+      unless-elim End (stepAndRateOk step T release) (λ g. PutEnds.noRate reads ramp (λ l m. not-both (facts-rates step T release l m) g)) (λ g.
       let rates = rates-facts step T release g in
       let request : PutRequest bytes step cell release = record { reads = reads; ramp = ramp; before = rates .0; rate = rates .1 } in
       PutEnds.put request (release-put bytes step cell release request))))
 
 -- an answer and a record that the definitions give are one of the cases, so a contract may promise all three
-pub ended : (bytes : List ℕ) (step cell release : ℕ) {a : FaultAnswer} {left : List ℕ} → PutOutcome bytes step cell release a left
+pub meets-contract : (bytes : List ℕ) (step cell release : ℕ) {a : FaultAnswer} {left : List ℕ} → PutOutcome bytes step cell release a left
     → (a ≡ puttingOf bytes step cell release) × ((left ≡ releasedRecord bytes step cell release) × PutEnds bytes step cell release a left)
-ended bytes step cell release h = (h .says, (h .leaves, rw (h .says, h .leaves) (ends bytes step cell release)))
+meets-contract bytes step cell release h = (h .answer, (h .leaves, rw (h .answer, h .leaves) (ends bytes step cell release)))
 
 -- 2: without a refusal the release is there and nothing else changes
 put-leaves : {bytes : List ℕ} {step cell release : ℕ} {a : FaultAnswer} {after : List ℕ} → PutEnds bytes step cell release a after → a .number ≡ 0

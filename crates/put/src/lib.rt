@@ -7,7 +7,7 @@ ghost use Prim.Native.Nat.{_≤_};
 ghost use Rattle.model.specs.Road.{mostCells};
 ghost use Rattle.model.specs.Refusals.{faultAnswer};
 ghost use Rattle.put.specs.PutLaws.{Place};
-ghost use Rattle.model.specs.Put.{rampOk, stepAndRateOk, puttingOf, releasedAt, releasedRecord, PutEnds};
+ghost use Rattle.model.specs.Put.{rampOk, stepAndRateOk, puttingOf, withRelease, releasedRecord, PutEnds};
 
 // Whether a cell is on a road of n cells and has a ramp.
 fn has_ramp(ramp: [u16; 64], n: usize, cell: usize) -> bool
@@ -33,7 +33,7 @@ fn rates_within(step: usize, steps: usize, release: u32) -> bool
 // Puts the release of a cell into the row of a step.
 fn put_release(bytes: &mut [u8], n: usize, step: usize, cell: usize, release: u32)
     requires { ⌜ Place (now bytes) n step cell ⌝ }
-    ensures { λ _. ⌜ now (bytes .exit) ≡ releasedAt (now (bytes .entry)) n step cell release ⌝ }
+    ensures { λ _. ⌜ now (bytes .exit) ≡ withRelease (now (bytes .entry)) n step cell release ⌝ }
 {
     let start = fields::row_start(fields::version(bytes), n, step);
     fields::put_number(bytes, start + fields::NUMBER_SIZE * (2 * cell), release);

@@ -33,7 +33,7 @@ use Rattle.put.specs.ReleasesLaws.{PutRow, put-releases, put-to, released-arriv
 use Rattle.passes.specs.Tables.{Table, stateIn, roomCol, releaseCol, waitingCol, demandCol, cameCol, LongColumns, five-columns}
 use Rattle.passes.specs.Supplies.{NoRamp, FilledTo, filled-none, filled-more, filled-end}
 use Rattle.passes.specs.RampList.{startOf, start-more, AtRamps, Listed, listed-here, listed-more, listed-end}
-use Rattle.ramps.specs.RampsLaws.{granted, granted-caps, granted-small, filled-release, filled-arrivals}
+use Rattle.ramps.specs.RampsLaws.{granted-release, granted-bounds, granted-small, filled-release, filled-arrivals}
 
 -- what the wishes of a step are computed from, with the state in a table
 abbrev pub meterIn : Ledger → Table → List ℕ → List ℕ → MeterState
@@ -47,7 +47,7 @@ pub record Lasts (m : MeterState) (ramps : ℕ) (cell : List ℕ) (work : Table)
 
 -- what granting requires: a step with the filled row may be made; the bytes hold the row, which is within its limits; the laws are in columns;
 -- the rooms are the supplies
-pub record GrantAsks (laws : List Law) (q : Road) (m : MeterState) (bytes : List ℕ) (k start ramps : ℕ) (cell kinds : List ℕ) (numbers : List Float)
+pub record GrantRequires (laws : List Law) (q : Road) (m : MeterState) (bytes : List ℕ) (k start ramps : ℕ) (cell kinds : List ℕ) (numbers : List Float)
     (work : Table) : Type 0 where
   pub step : Steppable q (m .state) (filledRow laws q m (recordRow bytes (q .n) k))
   pub row : RowOk q (recordRow bytes (q .n) k)
@@ -68,7 +68,7 @@ pub record GrantLent (bytes : List ℕ) (start ramps : ℕ) (cell kinds : List �
   pub releases : List ℕ
   pub entries : List ℕ
   pub step : ℕ
-  pub grants : GrantAsks laws road (meterIn ledger state releases entries) bytes step start ramps cell kinds numbers work
+  pub ready : GrantRequires laws road (meterIn ledger state releases entries) bytes step start ramps cell kinds numbers work
 
 -- all that has come into the cell at i, with a release; and the queue at its ramp afterwards
 abbrev pub cameAt : MeterState → (ℕ → ℕ) → ℕ → ℕ
@@ -78,7 +78,7 @@ abbrev waitAt : MeterState → List ℕ → (ℕ → ℕ) → ℕ → ℕ
 waitAt m row give i = at (m .state .queue) i + arrivalsAt row i - give i
 
 -- what granting gives: the releases are in the bytes and subtracted from the supplies; for each listed cell its release, its queue after it and what has come in
-pub record Granted (laws : List Law) (q : Road) (m : MeterState) (bytes : List ℕ) (k ramps : ℕ) (cell put : List ℕ) (work : Table) : Type 0 where
+pub record GrantGives (laws : List Law) (q : Road) (m : MeterState) (bytes : List ℕ) (k ramps : ℕ) (cell put : List ℕ) (work : Table) : Type 0 where
   pub puts : put ≡ putReleases bytes (q .n) k (grantedAt laws q m (recordRow bytes (q .n) k)) (q .n)
   pub rooms : Rooms q (m .state) (filledRow laws q m (recordRow bytes (q .n) k)) (roomCol work)
   pub releases : (j : ℕ) → j < ramps → at (releaseCol work) j ≡ grantedAt laws q m (recordRow bytes (q .n) k) (at cell j)
@@ -87,7 +87,7 @@ pub record Granted (laws : List Law) (q : Road) (m : MeterState) (bytes : List �
   pub long : LongColumns (q .n) work
 
 -- the releases of the first j listed cells are granted
-pub record Granting (give : ℕ → ℕ) (q : Road) (m : MeterState) (bytes : List ℕ) (k ramps : ℕ) (cell : List ℕ) (work₀ : Table) (put : List ℕ) (work : Table)
+pub record GrantSoFar (give : ℕ → ℕ) (q : Road) (m : MeterState) (bytes : List ℕ) (k ramps : ℕ) (cell : List ℕ) (work₀ : Table) (put : List ℕ) (work : Table)
     (j : ℕ) : Type 0 where
   pub puts : put ≡ putReleases bytes (q .n) k give (startOf cell j)
   pub rooms : roomCol work ≡ fillOf (λ i. at (roomCol work₀) i - give i) (startOf cell j) (roomCol work₀)
@@ -133,13 +133,13 @@ pub record GrantTurn (start i size queue arrivals held cumulative came n : ℕ) 
   pub cumulatives : cumulative ≤ mostCumulative mostSteps
   pub comes : came ≤ held + cumulative
 
-pub record Given (x coming room : ℕ) : Type 0 where
+pub record TurnRelease (x coming room : ℕ) : Type 0 where
   pub there : x ≤ coming
   pub taken : x ≤ room
   pub rate : x ≤ mostRate
 
 module _ {laws : List Law} {q : Road} {m : MeterState} {bytes : List ℕ} {k start ramps : ℕ} {cell kinds : List ℕ} {numbers : List Float}
-    {work₀ : Table} (g : GrantAsks laws q m bytes k start ramps cell kinds numbers work₀) where
+    {work₀ : Table} (g : GrantRequires laws q m bytes k start ramps cell kinds numbers work₀) where
   abbrev room₀ : List ℕ
   room₀ = roomCol work₀
 
@@ -153,7 +153,7 @@ module _ {laws : List Law} {q : Road} {m : MeterState} {bytes : List ℕ} {k sta
   idle : (i : ℕ) → i < q .n → NoRamp (q .ramp) i → (give i ≡ 0) × (releaseAt row i ≡ 0)
   idle i l p =
       let z : at (q .ramp) i ≡ 0 = omega (arith, g .step .input .road .ramp i l, p) in
-      (granted laws q m row i .noRamp z, g .row .noRelease i l z)
+      (granted-release laws q m row i .noRamp z, g .row .noRelease i l z)
 
   less : (i : ℕ) → i < q .n → NoRamp (q .ramp) i → at room₀ i - give i ≡ at room₀ i
   less i l p = omega (arith, idle i l p .0)
@@ -177,9 +177,9 @@ module _ {laws : List Law} {q : Road} {m : MeterState} {bytes : List ℕ} {k sta
   put-up a b h l z =
       put-to bytes (q .n) k give (g .held) (granted-small laws q m row) a b h l (λ i x y. idle i (omega arith) (z i x y))
 
-  pub granting-none : Granting (grantedAt laws q m (recordRow bytes (q .n) k)) q m bytes k ramps cell work₀ bytes work₀ 0
+  pub grant-none : GrantSoFar (grantedAt laws q m (recordRow bytes (q .n) k)) q m bytes k ramps cell work₀ bytes work₀ 0
   unfolding putReleases fillOf startOf
-  granting-none = record {
+  grant-none = record {
     puts = refl;
     rooms = refl;
     releases = filled-none;
@@ -192,7 +192,7 @@ module _ {laws : List Law} {q : Road} {m : MeterState} {bytes : List ℕ} {k sta
   }
 
   module _ {put : List ℕ} {work : Table} {j : ℕ}
-      (h : Granting (grantedAt laws q m (recordRow bytes (q .n) k)) q m bytes k ramps cell work₀ put work j) where
+      (h : GrantSoFar (grantedAt laws q m (recordRow bytes (q .n) k)) q m bytes k ramps cell work₀ put work j) where
     abbrev room : List ℕ
     room = roomCol work
 
@@ -272,12 +272,12 @@ module _ {laws : List Law} {q : Road} {m : MeterState} {bytes : List ℕ} {k sta
             let come : arrivals ≡ arrivalsAt row i = ea ∙ arrives-here in
             let supply : at room i ≡ supplyAt q (m .state) i = room-here ∙ g .supplies i inside in
             let wished : x ≡ wholeBelow (wishAt laws m i) (capAt q (m .state) row i) = ex ∙ rw (lawful, last-here, entry, ec, come, supply) in
-            wished ∙ sym (granted laws q m row i .ramped (λ z. omega (arith, g .ramped j l)))
+            wished ∙ sym (granted-release laws q m row i .ramped (λ z. omega (arith, g .ramped j l)))
 
-        pub given-known : Given x (at (m .state .queue) (at cell j) + arrivals) (at (roomCol work) (at cell j))
+        pub turn-release : TurnRelease x (at (m .state .queue) (at cell j) + arrivals) (at (roomCol work) (at cell j))
         unfolding mostReleaseAt
-        given-known =
-            let c = granted-caps laws q m row i in
+        turn-release =
+            let c = granted-bounds laws q m row i in
             record {
               there = omega (arith, found, c .there, ea, arrives-here);
               taken = omega (arith, found, c .taken, room-here, g .supplies i inside);
@@ -295,11 +295,11 @@ module _ {laws : List Law} {q : Road} {m : MeterState} {bytes : List ℕ} {k sta
             ∙ sym (ap (putReleases bytes (q .n) k give) (start-more cell j ∙ add-one i))
 
         -- one more release is granted
-        pub granting-more : {next : List ℕ} {end : ℕ} → StoredBytes put (start + 4 + 8 * at cell j + 4) numberSize x next end
-            → Granting (grantedAt laws q m (recordRow bytes (q .n) k)) q m bytes k ramps cell work₀ next
+        pub grant-more : {next : List ℕ} {end : ℕ} → StoredBytes put (start + 4 + 8 * at cell j + 4) numberSize x next end
+            → GrantSoFar (grantedAt laws q m (recordRow bytes (q .n) k)) q m bytes k ramps cell work₀ next
             (storeGranted work (at cell j) (at (roomCol work) (at cell j) - x) j x (at (m .state .queue) (at cell j) + arrivals - x)
             (at (m .state .held) (at cell j) + at (m .state .cumulative) (at cell j) + x)) (j + 1)
-        granting-more {next} p =
+        grant-more {next} p =
             let st = store-granted work (h .columns) i (at room i - x) j x (at (m .state .queue) i + arrivals - x)
             (at (m .state .held) i + at (m .state .cumulative) i + x) in
             record {
@@ -322,9 +322,9 @@ module _ {laws : List Law} {q : Road} {m : MeterState} {bytes : List ℕ} {k sta
             }
 
     -- all releases are granted
-    pub granting-end : ramps ≤ j → Granted laws q m bytes k ramps cell put work
+    pub grant-end : ramps ≤ j → GrantGives laws q m bytes k ramps cell put work
     unfolding roomOf
-    granting-end l =
+    grant-end l =
         let e : j ≡ ramps = omega (arith, h .releases .within) in
         record {
           puts =

@@ -18,7 +18,7 @@ abbrev pub cameIn : List ℕ → List ℕ → List ℕ → ℕ → ℕ
 cameIn held cumulative entries i = at held i + at cumulative i - at entries i
 
 -- what computing it requires from the first n cells
-pub record CameAsks (n : ℕ) (held cumulative entries : List ℕ) : Type 0 where
+pub record CameRequires (n : ℕ) (held cumulative entries : List ℕ) : Type 0 where
   pub cells : n ≤ mostCells
   pub helds : (i : ℕ) → i < n → at held i ≤ mostRate
   pub cumulatives : (i : ℕ) → i < n → at cumulative i ≤ mostCumulative mostSteps
@@ -26,11 +26,11 @@ pub record CameAsks (n : ℕ) (held cumulative entries : List ℕ) : Type 0 wher
 
 -- so the last step is known at the listed cells
 pub lasts-known : {m : MeterState} {P : ℕ → Type 0} {n ramps : ℕ} {cell : List ℕ} {work : Table} (release₀ came₀ : List ℕ) → Listed P n ramps cell
-    → CameAsks n (m .state .held) (m .state .cumulative) (m .entries)
+    → CameRequires n (m .state .held) (m .state .cumulative) (m .entries)
     → releaseCol work ≡ fillOf (λ j. at (m .releases) (at cell j)) ramps release₀ → n ≤ length release₀
     → cameCol work ≡ fillOf (cameIn (m .state .held) (m .state .cumulative) (m .entries)) n came₀ → n ≤ length came₀
     → Lasts m ramps cell work
-lasts-known {m} {n = n} {ramps} {cell} release₀ came₀ listed asks er lr ec lc = record {
+lasts-known {m} {n = n} {ramps} {cell} release₀ came₀ listed ready er lr ec lc = record {
   releases = λ j l. ap (λ (x : List ℕ). at x j) er ∙ fill-at (λ k. at (m .releases) (at cell k)) ramps release₀ j l (omega (arith, listed .most));
   entries = λ j l.
       let i = at cell j in
@@ -39,6 +39,6 @@ lasts-known {m} {n = n} {ramps} {cell} release₀ came₀ listed asks er lr ec l
         arith,
         ap (λ (x : List ℕ). at x i) ec,
         fill-at (cameIn (m .state .held) (m .state .cumulative) (m .entries)) n came₀ i inside lc,
-        asks .entered i inside,
+        ready .entered i inside,
       );
 }

@@ -23,35 +23,35 @@ use Rattle.put.specs.ReleasesLaws.{length-released, released-at, released-gate,
 use Rattle.model.specs.Filling.{MeterState, wishAt, capAt, releaseOf, grantedAt, filledRow, meteredOf}
 
 -- a release is at most its cap, and 0 without a ramp
-pub record Capped (ramp : ℕ) (wish : Float) (cap x : ℕ) : Type 0 where
+pub record MeterRelease (ramp : ℕ) (wish : Float) (cap x : ℕ) : Type 0 where
   pub most : x ≤ cap
   pub noRamp : ramp ≡ 0 → x ≡ 0
   pub ramped : (ramp ≡ 0 → ⊥) → x ≡ wholeBelow wish cap
 
-pub capped : (ramp : ℕ) (wish : Float) (cap : ℕ) → Capped ramp wish cap (releaseOf ramp wish cap)
+pub meter-release : (ramp : ℕ) (wish : Float) (cap : ℕ) → MeterRelease ramp wish cap (releaseOf ramp wish cap)
 unfolding releaseOf
-capped ramp wish cap = go (eqb ramp 0) refl
+meter-release ramp wish cap = go (eqb ramp 0) refl
   where
-    go : (b : Bool) → eqb ramp 0 ≡ b → Capped ramp wish cap (cond b 0 (wholeBelow wish cap))
+    go : (b : Bool) → eqb ramp 0 ≡ b → MeterRelease ramp wish cap (cond b 0 (wholeBelow wish cap))
     go true e = record { most = omega arith; noRamp = λ _. refl; ramped = λ d. absurd (d (eqb-true ramp 0 e)) }
     go false e = record { most = whole-most wish cap; noRamp = λ z. absurd (eqb-false ramp 0 e z); ramped = λ _. refl }
 
 -- the bounds of the cap
-pub record Caps (most supply cap : ℕ) : Type 0 where
+pub record ReleaseBounds (most supply cap : ℕ) : Type 0 where
   pub there : cap ≤ most
   pub taken : cap ≤ supply
   pub rate : cap ≤ mostRate
 
 module _ (laws : List Law) (r : Road) (m : MeterState) (row : List ℕ) where
-  pub granted : (i : ℕ) → Capped (at (r .ramp) i) (wishAt laws m i) (capAt r (m .state) row i) (grantedAt laws r m row i)
+  pub granted-release : (i : ℕ) → MeterRelease (at (r .ramp) i) (wishAt laws m i) (capAt r (m .state) row i) (grantedAt laws r m row i)
   unfolding grantedAt
-  granted i = capped (at (r .ramp) i) (wishAt laws m i) (capAt r (m .state) row i)
+  granted-release i = meter-release (at (r .ramp) i) (wishAt laws m i) (capAt r (m .state) row i)
 
-  pub granted-caps : (i : ℕ) → Caps (mostReleaseAt (m .state) row i) (supplyAt r (m .state) i) (grantedAt laws r m row i)
-  granted-caps i = let g = granted i .most in record { there = omega arith; taken = omega arith; rate = omega arith }
+  pub granted-bounds : (i : ℕ) → ReleaseBounds (mostReleaseAt (m .state) row i) (supplyAt r (m .state) i) (grantedAt laws r m row i)
+  granted-bounds i = let g = granted-release i .most in record { there = omega arith; taken = omega arith; rate = omega arith }
 
   pub granted-small : (i : ℕ) → grantedAt laws r m row i < 2 ^ 32
-  granted-small i = omega (arith, granted-caps i .rate)
+  granted-small i = omega (arith, granted-bounds i .rate)
 
   -- the filled row has the same length, the same arrivals and the releases granted
   pub length-filled : length (filledRow laws r m row) ≡ length row
@@ -78,8 +78,8 @@ module _ (laws : List Law) (r : Road) (m : MeterState) (row : List ℕ) where
   -- each filled release fits
   pub filled-fits : length row ≡ 1 + 2 * r .n → ReleasesFit r (m .state) (filledRow laws r m row)
   filled-fits e = record {
-    queue = λ i l. omega (arith, filled-release e i l, granted-caps i .there, filled-most i);
-    supply = λ i l. omega (arith, filled-release e i l, granted-caps i .taken);
+    queue = λ i l. omega (arith, filled-release e i l, granted-bounds i .there, filled-most i);
+    supply = λ i l. omega (arith, filled-release e i l, granted-bounds i .taken);
   }
 
   -- a row within the limits stays within them
@@ -88,9 +88,9 @@ module _ (laws : List Law) (r : Road) (m : MeterState) (row : List ℕ) where
     numbers = length-filled ∙ ok .numbers;
     gate = omega (arith, filled-gate, ok .gate);
     arrivals = λ i l. omega (arith, filled-arrivals i, ok .arrivals i l);
-    release = λ i l. omega (arith, filled-release (ok .numbers) i l, granted-caps i .rate);
+    release = λ i l. omega (arith, filled-release (ok .numbers) i l, granted-bounds i .rate);
     noArrivals = λ i l z. filled-arrivals i ∙ ok .noArrivals i l z;
-    noRelease = λ i l z. filled-release (ok .numbers) i l ∙ granted i .noRamp z;
+    noRelease = λ i l z. filled-release (ok .numbers) i l ∙ granted-release i .noRamp z;
   }
 
   pub filled-row-ok : RoadOk r → RowOk r row → rowOk (r .ramp) (r .n) (filledRow laws r m row) ≡ true

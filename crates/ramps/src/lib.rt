@@ -19,8 +19,8 @@ ghost use Rattle.outflows.specs.declared.Ledger.{Ledger};
 ghost use Prim.Native.Nat.{_≤_, _<_};
 ghost use Rattle.model.specs.Numbers.{at, fillOf};
 ghost use Rattle.model.specs.Road.{mostCells};
-ghost use Rattle.ramps.specs.Grants.{meterIn, GrantAsks, GrantLent, Granted};
-ghost use Rattle.ramps.specs.LastStep.{cameIn, CameAsks};
+ghost use Rattle.ramps.specs.Grants.{meterIn, GrantRequires, GrantLent, GrantGives};
+ghost use Rattle.ramps.specs.LastStep.{cameIn, CameRequires};
 
 // The cap of a release: queue plus arrivals, supply and 1,000,000.
 fn cap(coming: u32, supply: u32) -> u32
@@ -57,7 +57,7 @@ pub fn came_before<'a>(
     entries: &'a [u32; 64],
     came: &mut [u32; 65],
 )
-    requires { ⌜ CameAsks n (now held) (now cumulative) (now entries) ⌝ }
+    requires { ⌜ CameRequires n (now held) (now cumulative) (now entries) ⌝ }
     ensures { λ _. ⌜ now (came .exit) ≡ fillOf (cameIn (now (held .entry)) (now (cumulative .entry)) (now (entries .entry))) n (now (came .entry)) ⌝ }
 {
     let mut i = 0;
@@ -82,9 +82,9 @@ pub fn grant<'a>(
 )
     requires { ⌜ GrantLent (now bytes) start ramps (now cell) (now kinds) (now numbers) (now state) (now work) ⌝ }
     ensures { λ _. ⌜ ((laws : List Law) (r : Road) (l : Ledger) (releases entries : List ℕ) (k : ℕ)
-        → GrantAsks laws r (meterIn l (now (state .entry)) releases entries) (now (bytes .entry)) k start ramps (now (cell .entry)) (now (kinds .entry))
+        → GrantRequires laws r (meterIn l (now (state .entry)) releases entries) (now (bytes .entry)) k start ramps (now (cell .entry)) (now (kinds .entry))
         (now (numbers .entry)) (now (work .entry))
-        → Granted laws r (meterIn l (now (state .entry)) releases entries) (now (bytes .entry)) k ramps (now (cell .entry)) (now (bytes .exit))
+        → GrantGives laws r (meterIn l (now (state .entry)) releases entries) (now (bytes .entry)) k ramps (now (cell .entry)) (now (bytes .exit))
         (now (work .exit))) ⌝ }
 {
     let mut j = 0;

@@ -23,8 +23,8 @@ pub record Beyond (cells most : ℕ) (s : List ℕ) : Type 0 where
 
 module _ (s : List ℕ) where
   module _ (cells most : ℕ) where
-    abbrev Told : ReadAnswer → Type 0
-    Told x = x .number ≡ 26 → Beyond cells most s
+    abbrev MeansBeyond : ReadAnswer → Type 0
+    MeansBeyond x = x .number ≡ 26 → Beyond cells most s
 
     -- 26 is reported if it applies
     pub beyond-refused : Beyond cells most s → readingWithin cells most s ≡ refusedOf 26 0
@@ -34,14 +34,14 @@ module _ (s : List ℕ) where
     pub refused-beyond : readingWithin cells most s .number ≡ 26 → Beyond cells most s
     unfolding readingBy
     refused-beyond =
-        unless-elim Told (lengthFits s) (λ _ n. absurd (omega arith)) (λ a.
-        unless-elim Told (versionKnown s) (λ _ n. absurd (omega arith)) (λ b.
-        unless-elim Told (countsFit s) (λ _ n. absurd (omega arith)) (λ c.
-        unless-elim Told (secondsFit s) (λ _ n. absurd (omega arith)) (λ d.
-        unless-elim Told (sizeFits s) (λ _ n. absurd (omega arith)) (λ e.
-        unless-elim Told (callerTakes s cells most) (λ k _. record { header = header-of s a b c d e; above = caller-above k }) (λ _.
-        unless-elim Told (placesFit s) (λ _ n. absurd (omega arith)) (λ _.
-        unless-elim Told (rowsFit s) (λ _ n. absurd (omega arith)) (λ _ n.
+        unless-elim MeansBeyond (lengthFits s) (λ _ n. absurd (omega arith)) (λ a.
+        unless-elim MeansBeyond (versionKnown s) (λ _ n. absurd (omega arith)) (λ b.
+        unless-elim MeansBeyond (countsFit s) (λ _ n. absurd (omega arith)) (λ c.
+        unless-elim MeansBeyond (secondsFit s) (λ _ n. absurd (omega arith)) (λ d.
+        unless-elim MeansBeyond (sizeFits s) (λ _ n. absurd (omega arith)) (λ e.
+        unless-elim MeansBeyond (callerTakes s cells most) (λ k _. record { header = header-of s a b c d e; above = caller-above k }) (λ _.
+        unless-elim MeansBeyond (placesFit s) (λ _ n. absurd (omega arith)) (λ _.
+        unless-elim MeansBeyond (rowsFit s) (λ _ n. absurd (omega arith)) (λ _ n.
         absurd (omega arith)))))))))
 
     -- otherwise the record is read as without the caller's limits

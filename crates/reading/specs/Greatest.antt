@@ -35,7 +35,7 @@ abbrev pub mostRow : ℕ
 mostRow = rowSize mostCells
 
 -- what raising the greatest bytes to `count` parts of s requires; each part has `size` bytes, and the first begins at `start`
-pub record Raisable (s : List ℕ) (start size count : ℕ) (greatest : List ℕ) : Type 0 where
+pub record RaiseRequires (s : List ℕ) (start size count : ℕ) (greatest : List ℕ) : Type 0 where
   pub parts : start + count * size ≤ length s
   pub small : size ≤ mostRow
   pub room : mostRow ≤ length greatest
@@ -57,8 +57,8 @@ pub record AboveParts (s : List ℕ) (start size count : ℕ) (before after : Li
   pub above : (k : ℕ) → k < count → (j : ℕ) → j < size → at s (start + k * size + j) ≤ at after j
 
 -- storing a greater byte makes no byte smaller
-raised : (l : List ℕ) (i x : ℕ) → i < length l → at l i ≤ x → (j : ℕ) → at l j ≤ at (set l i x) j
-raised l i x h le j = go (eqb j i) refl
+set-raises : (l : List ℕ) (i x : ℕ) → i < length l → at l i ≤ x → (j : ℕ) → at l j ≤ at (set l i x) j
+set-raises l i x h le j = go (eqb j i) refl
   where
     go : (t : Bool) → eqb j i ≡ t → at l j ≤ at (set l i x) j
     go true e = rw (eqb-true j i e) (omega (arith, getD-set-same l i x 0 h))
@@ -73,7 +73,7 @@ module _ {s : List ℕ} {start : ℕ} {before : List ℕ} where
       → AbovePart s start (i + 1) before (set now i x)
   part-more {i} {x} {now} h l old new =
       let there : i < length now = omega (arith, h .same) in
-      let more = raised now i x there old in
+      let more = set-raises now i x there old in
       record {
         same = length-set now i x ∙ h .same;
         kept = λ j. omega (arith, h .kept j, more j);
@@ -97,8 +97,8 @@ module _ {s : List ℕ} {start size : ℕ} {before : List ℕ} where
         (λ j l. subst (λ (i : ℕ). at s (i + j) ≤ at after j) e (p .above j l));
   }
 
-  pub parts-next : {count k from : ℕ} {now : List ℕ} → Raisable s start size count before → k < count → AboveParts s start size k before now
-      → from ≡ start + k * size → Raisable s from size 1 now
+  pub parts-next : {count k from : ℕ} {now : List ℕ} → RaiseRequires s start size count before → k < count → AboveParts s start size k before now
+      → from ≡ start + k * size → RaiseRequires s from size 1 now
   parts-next {count} {k} a l h e = record {
     parts = let one : 1 * size ≡ size = omega arith in omega (arith, one, e, a .parts, part-within size k count l);
     small = a .small;
@@ -128,16 +128,16 @@ module _ {s : List ℕ} {n T beside blocks : ℕ} (held : Steps s n T) (plan : B
   pub blocks-there : rowStart (versionOf s) n (blocks * beside) ≤ length s
   blocks-there = omega (arith, mul-le-mul-right (rowSize n) (plan .rows), held .held)
 
-  pub blocks-raisable : {start : ℕ} {zeros : List ℕ} → start ≡ rowStart (versionOf s) n 0 → mostRow ≤ length zeros
-      → Raisable s start (beside * rowSize n) blocks zeros
-  blocks-raisable e l = record { parts = omega (arith, mul-assoc blocks beside (rowSize n), e, blocks-there); small = plan .span; room = l }
+  pub blocks-ready : {start : ℕ} {zeros : List ℕ} → start ≡ rowStart (versionOf s) n 0 → mostRow ≤ length zeros
+      → RaiseRequires s start (beside * rowSize n) blocks zeros
+  blocks-ready e l = record { parts = omega (arith, mul-assoc blocks beside (rowSize n), e, blocks-there); small = plan .span; room = l }
 
-  pub block-raisable : {block zeros : List ℕ} → mostRow ≤ length block → mostRow ≤ length zeros → Raisable block 0 (rowSize n) beside zeros
-  block-raisable l m = record { parts = omega (arith, plan .span); small = omega (arith, held .most); room = m }
+  pub block-ready : {block zeros : List ℕ} → mostRow ≤ length block → mostRow ≤ length zeros → RaiseRequires block 0 (rowSize n) beside zeros
+  block-ready l m = record { parts = omega (arith, plan .span); small = omega (arith, held .most); room = m }
 
-  pub rest-raisable : {start count : ℕ} {row : List ℕ} → start ≡ rowStart (versionOf s) n (blocks * beside) → blocks * beside + count ≤ T
-      → mostRow ≤ length row → Raisable s start (rowSize n) count row
-  rest-raisable {count = count} e f l = record {
+  pub rest-ready : {start count : ℕ} {row : List ℕ} → start ≡ rowStart (versionOf s) n (blocks * beside) → blocks * beside + count ≤ T
+      → mostRow ≤ length row → RaiseRequires s start (rowSize n) count row
+  rest-ready {count = count} e f l = record {
     parts = omega (arith, e, add-mul (blocks * beside) count (rowSize n), mul-le-mul-right (rowSize n) f, held .held);
     small = omega (arith, held .most);
     room = l;

@@ -15,7 +15,7 @@ ghost use Rattle.model.specs.Record.{rowSize, recordRow};
 ghost use Rattle.fields.specs.FieldsLaws.{HoldsRow};
 ghost use Rattle.model.specs.Reading.{roadOf, startOf, stepOk, refusedOf, readAnswer, readingWithin, readingOf};
 ghost use Rattle.reading.specs.Headers.{Cells, Steps, Header};
-ghost use Rattle.reading.specs.Greatest.{rowAt, Raisable, AbovePart, AboveParts};
+ghost use Rattle.reading.specs.Greatest.{rowAt, RaiseRequires, AbovePart, AboveParts};
 
 // The bytes of a row of 64 cells, the longest row.
 const ROW_BYTES: usize = 516;
@@ -102,7 +102,7 @@ fn greater(a: u8, b: u8) -> u8
 
 // Raises the greatest bytes to the `size` bytes from `start` on. The loop has no early exit and no carried value, so it becomes vector code.
 fn raise_to_part(bytes: &[u8], start: usize, size: usize, greatest: &mut [u8; ROW_BYTES])
-    requires { ⌜ Raisable (now bytes) start size 1 (now greatest) ⌝ }
+    requires { ⌜ RaiseRequires (now bytes) start size 1 (now greatest) ⌝ }
     ensures { λ _. ⌜ AbovePart (now (bytes .entry)) start size (now (greatest .entry)) (now (greatest .exit)) ⌝ }
 {
     let mut j = 0;
@@ -120,7 +120,7 @@ fn raise_to_parts(
     count: usize,
     greatest: &mut [u8; ROW_BYTES],
 )
-    requires { ⌜ Raisable (now bytes) start size count (now greatest) ⌝ }
+    requires { ⌜ RaiseRequires (now bytes) start size count (now greatest) ⌝ }
     ensures { λ _. ⌜ AboveParts (now (bytes .entry)) start size count (now (greatest .entry)) (now (greatest .exit)) ⌝ }
 {
     let mut k = 0;

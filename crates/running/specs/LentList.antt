@@ -16,7 +16,7 @@ use Rattle.model.specs.Running.{tableOf}
 use Rattle.theory.specs.SchedulesLaws.{runTable}
 use Rattle.theory.specs.TableLaws.{length-table, table-none, table-more}
 use Rattle.theory.specs.Readable.{Readable}
-use Rattle.running.specs.Steps.{FaultlessSteps, RanTurn, ran-none, ran-more, steps-all, steps-fault, row-is}
+use Rattle.running.specs.Steps.{FaultlessSteps, RunTurn, ran-none, ran-more, steps-all, steps-fault, row-is}
 
 -- what running step by step requires: a record that reads, and a list that is long enough
 pub record Runnable (bytes : List ℕ) (a : Study) (list : List ℕ) : Type 0 where
@@ -57,7 +57,7 @@ module _ {a : Study} {list : List ℕ} where
     pub table-end : a .steps ≤ k → out ≡ runTable a list
     table-end end = h .table ∙ ap (tableOf a list) (steps-all (h .ran) end)
 
-    module _ {q : Road} {row : List ℕ} (t : RanTurn a u k q row) {f : FaultAnswer} (e : f ≡ releasesOf q u row) where
+    module _ {q : Road} {row : List ℕ} (t : RunTurn a u k q row) {f : FaultAnswer} (e : f ≡ releasesOf q u row) where
       -- a fault leaves the rows before it
       pub table-fault : (f .number ≡ 0 → ⊥) → out ≡ runTable a list
       table-fault n = h .table ∙ ap (tableOf a list) (steps-fault t e n)

@@ -18,17 +18,17 @@ use Rattle.model.specs.Record.{recordRow}
 use Rattle.fields.specs.FieldsLaws.{HoldsRow}
 use Rattle.outflows.specs.declared.Ledger.{Ledger}
 use Rattle.passes.specs.Tables.{Table, stateIn}
-use Rattle.passes.specs.Step.{Arrays, StepAsks}
-use Rattle.model.specs.Running.{runSays, firstStep, EndAnswer, ended, runEnd}
+use Rattle.passes.specs.Step.{Arrays, StepRequires}
+use Rattle.model.specs.Running.{runFault, firstStep, EndAnswer, endWith, runEnd}
 use Rattle.theory.specs.SchedulesLaws.{ends-at, ends-all, run-reached}
 
 -- k steps are made without a fault, and u is the state after them
 pub record FaultlessSteps (a : Study) (u : State) (k : ℕ) : Type 0 where
   pub state : u ≡ engineAfter a k
-  pub faultless : Faultless (λ j. runSays a j .number) (a .steps) k
+  pub faultless : Faultless (λ j. runFault a j .number) (a .steps) k
 
 -- a turn of the loop: q is the step's road, and the code holds the row of step k
-pub record RanTurn (a : Study) (u : State) (k : ℕ) (q : Road) (row : List ℕ) : Type 0 where
+pub record RunTurn (a : Study) (u : State) (k : ℕ) (q : Road) (row : List ℕ) : Type 0 where
   pub ok : StudyOk a
   pub ran : FaultlessSteps a u k
   pub left : k < a .steps
@@ -49,13 +49,13 @@ module _ {a : Study} where
     pub all-ran : k ≡ a .steps
     all-ran = omega (arith, h .faultless .within)
 
-    pub steps-all : k ≡ firstStep (runSays a) (a .steps)
+    pub steps-all : k ≡ firstStep (runFault a) (a .steps)
     steps-all = faultless-end (h .faultless) end
 
-    pub ends-ran : {e : EndAnswer} → e ≡ ended 0 0 0 (a .road) u → e ≡ runEnd a
-    ends-ran g = g ∙ ends-all a (runSays a) (engineAfter a) (h .faultless) (h .state) end
+    pub ends-ran : {e : EndAnswer} → e ≡ endWith 0 0 0 (a .road) u → e ≡ runEnd a
+    ends-ran g = g ∙ ends-all a (runFault a) (engineAfter a) (h .faultless) (h .state) end
 
-  module _ {u : State} {k : ℕ} {q : Road} {row : List ℕ} (t : RanTurn a u k q row) where
+  module _ {u : State} {k : ℕ} {q : Road} {row : List ℕ} (t : RunTurn a u k q row) where
     this-step : StepOf a q u row k
     this-step = record {
       ok = t .ok;
@@ -74,29 +74,29 @@ module _ {a : Study} where
 
     -- running's fault of the step is the code's
     module _ {f : FaultAnswer} (e : f ≡ releasesOf q u row) where
-      says : f ≡ runSays a k
-      says = rw (e, t .road, t .ran .state, t .numbers)
+      fault-is : f ≡ runFault a k
+      fault-is = rw (e, t .road, t .ran .state, t .numbers)
 
       -- a fault ends the run before the step
-      pub ends-fault : {x : EndAnswer} → (f .number ≡ 0 → ⊥) → x ≡ ended (f .number) k (f .place) (a .road) u → x ≡ runEnd a
-      ends-fault n g = g ∙ ends-at a (runSays a) (engineAfter a) (t .ran .faultless) (t .ran .state) (t .left) says n
+      pub ends-fault : {x : EndAnswer} → (f .number ≡ 0 → ⊥) → x ≡ endWith (f .number) k (f .place) (a .road) u → x ≡ runEnd a
+      ends-fault n g = g ∙ ends-at a (runFault a) (engineAfter a) (t .ran .faultless) (t .ran .state) (t .left) fault-is n
 
-      pub steps-fault : (f .number ≡ 0 → ⊥) → k ≡ firstStep (runSays a) (a .steps)
-      steps-fault n = faultless-stop (t .ran .faultless) (t .left) (number-of says) n
+      pub steps-fault : (f .number ≡ 0 → ⊥) → k ≡ firstStep (runFault a) (a .steps)
+      steps-fault n = faultless-stop (t .ran .faultless) (t .left) (number-of fault-is) n
 
       -- without a fault one more step is made
       pub ran-more : f .number ≡ 0 → {v : State} → v ≡ nextOf q u row (outflowsOf q u row) → FaultlessSteps a v (k + 1)
       unfolding engineAfter
       ran-more z ev = record {
         state = rw (ev, t .road, t .ran .state, t .numbers, add-one k);
-        faultless = faultless-more (t .ran .faultless) (t .left) (number-of says) z;
+        faultless = faultless-more (t .ran .faultless) (t .left) (number-of fault-is) z;
       }
 
 -- the passes of a turn require only the arrays and a row
-pub passes-ask : {a : Study} {l : Ledger} {state work : Table} {k : ℕ} {q : Road} {bytes : List ℕ} {ramps : ℕ} {cell y : List ℕ}
-    → RanTurn a (stateIn l state) k q (recordRow bytes (q .n) k) → HoldsRow bytes (q .n) k → Arrays q ramps cell state work
-    → length y ≡ q .n + 1 → StepAsks bytes k q ramps cell l state work y
-passes-ask t holds arrays places = record {
+pub step-ready : {a : Study} {l : Ledger} {state work : Table} {k : ℕ} {q : Road} {bytes : List ℕ} {ramps : ℕ} {cell y : List ℕ}
+    → RunTurn a (stateIn l state) k q (recordRow bytes (q .n) k) → HoldsRow bytes (q .n) k → Arrays q ramps cell state work
+    → length y ≡ q .n + 1 → StepRequires bytes k q ramps cell l state work y
+step-ready t holds arrays places = record {
   input = step-input (this-step t);
   sized = step-sized (this-step t);
   left = step-left (this-step t);

@@ -23,13 +23,13 @@ ghost use Rattle.counts.specs.LongestRun.{longestEnd};
 ghost use Rattle.model.specs.Reading.{studyBy, readAnswer};
 ghost use Rattle.model.specs.Running.{endAnswer, runEnd, runningOf, listAfter};
 ghost use Rattle.theory.specs.SchedulesLaws.{runTable};
-ghost use Rattle.model.specs.Demand.{Taken, Promised, WeightedDemand};
+ghost use Rattle.model.specs.Demand.{Openable, DemandAndGrounds, WeightedDemand};
 ghost use Rattle.model.specs.Weights.{weightedTotalOfRun};
 ghost use Rattle.model.specs.GoingOn.{runningOn, listOn, weightedTotalOn, longestOn};
 ghost use Rattle.running.specs.LentList.{Runnable};
 ghost use Rattle.running.specs.WeightedTotal.{weightedTotalEnd};
-ghost use Rattle.opening.specs.OpenedStudy.{Opens};
-ghost use Rattle.running.specs.Promise.{RanBy};
+ghost use Rattle.opening.specs.OpenedStudy.{OpenedReadable};
+ghost use Rattle.running.specs.Promise.{RunGives};
 
 // A run's answer with its longest queues and its weighted total.
 fn tallied(ended: Ended, gate: AtGate, ramps: [u32; 64], weighted: u64) -> Tallied
@@ -50,7 +50,7 @@ fn run_rows(
     s: State,
     steps: usize,
     weights: Weights,
-    weighs: bool,
+    sums: bool,
     longs: bool,
     out: &mut [u32],
 ) -> Tallied
@@ -58,7 +58,7 @@ fn run_rows(
     ensures answer { λ e. ⌜ endAnswer (e .longest .ended) ≡ runEnd (studyBy (now (bytes .entry)) (now (table .entry)) r s steps) ⌝ }
     ensures list { λ e. ⌜ now (out .exit) ≡ runTable (studyBy (now (bytes .entry)) (now (table .entry)) r s steps) (now (out .entry)) ⌝ }
     ensures weighted { λ e. ⌜ e .weighted
-        ≡ weightedTotalEnd weighs (at (weights .places)) (at (weights .ramps)) (studyBy (now (bytes .entry)) (now (table .entry)) r s steps) ⌝ }
+        ≡ weightedTotalEnd sums (at (weights .places)) (at (weights .ramps)) (studyBy (now (bytes .entry)) (now (table .entry)) r s steps) ⌝ }
     ensures longest { λ e. ⌜ (longs ≡ true → longestQueues (e .longest) ≡ longestEnd (studyBy (now (bytes .entry)) (now (table .entry)) r s steps)) ⌝ }
 {
     let n = r.n;
@@ -90,15 +90,7 @@ fn run_rows(
             return tallied(ended, gate, most, total);
         }
         let new = step.ledger;
-        total = counts::added(
-            total,
-            weighs,
-            n,
-            new,
-            &state,
-            &weights.places,
-            &weights.ramps,
-        );
+        total = counts::added(total, sums, n, new, &state, &weights.places, &weights.ramps);
         if longs {
             gate = counts::raised(gate, l, new, n, &state[QUEUE], &mut most);
         }
@@ -127,12 +119,12 @@ fn run_opened(
     bytes: &[u8],
     table: &[u8],
     weights: Weights,
-    weighs: bool,
+    sums: bool,
     longs: bool,
     out: &mut [u32],
 ) -> Tallied
-    requires { ⌜ Opens (now bytes) (now table) (readAnswer a) ⌝ }
-    ensures { λ e. ⌜ RanBy weighs longs (at (weights .places)) (at (weights .ramps)) (now (out .entry)) (now (bytes .entry)) (now (table .entry)) (readAnswer a)
+    requires { ⌜ OpenedReadable (now bytes) (now table) (readAnswer a) ⌝ }
+    ensures { λ e. ⌜ RunGives sums longs (at (weights .places)) (at (weights .ramps)) (now (out .entry)) (now (bytes .entry)) (now (table .entry)) (readAnswer a)
         (endAnswer (e .longest .ended)) (now (out .exit)) (e .weighted) (longestQueues (e .longest)) ⌝ }
 {
     let refusal = a.refusal;
@@ -145,17 +137,7 @@ fn run_opened(
     if out.len() < steps * (road.n + 1) {
         return unbegun(Refusal::ListLength, 0);
     }
-    run_rows(
-        bytes,
-        table,
-        road,
-        state,
-        steps,
-        weights,
-        weighs,
-        longs,
-        out,
-    )
+    run_rows(bytes, table, road, state, steps, weights, sums, longs, out)
 }
 
 // Runs the rows of a further record from a state, with its longest queues and its weighted total: the refusals of reading, 17, 18, 7, 8, 11, then
@@ -175,7 +157,8 @@ pub fn run_on(bytes: &[u8], table: &[u8], weights: Weights, from: State, out: &m
 pub fn run(bytes: &[u8], table: &[u8], out: &mut [u32]) -> Ended
     ensures answer { λ e. ⌜ endAnswer e ≡ runningOf (now (bytes .entry)) (now (table .entry)) (now (out .entry)) ⌝ }
     ensures list { λ e. ⌜ now (out .exit) ≡ listAfter (now (bytes .entry)) (now (table .entry)) (now (out .entry)) ⌝ }
-    ensures demand { λ e. ⌜ (Taken (now (bytes .entry)) (now (table .entry)) → Promised (now (bytes .entry)) (now (table .entry)) (now (out .exit)) (endAnswer e)) ⌝ }
+    ensures demand { λ e. ⌜
+        (Openable (now (bytes .entry)) (now (table .entry)) → DemandAndGrounds (now (bytes .entry)) (now (table .entry)) (now (out .exit)) (endAnswer e)) ⌝ }
 {
     let weights = Weights {
         places: [0; 65],
@@ -191,9 +174,9 @@ pub fn run_weighted(bytes: &[u8], table: &[u8], weights: Weights, out: &mut [u32
     ensures answer { λ e. ⌜ endAnswer (e .ended) ≡ runningOf (now (bytes .entry)) (now (table .entry)) (now (out .entry)) ⌝ }
     ensures list { λ e. ⌜ now (out .exit) ≡ listAfter (now (bytes .entry)) (now (table .entry)) (now (out .entry)) ⌝ }
     ensures weighted { λ e. ⌜ e .weighted ≡ weightedTotalOfRun (at (weights .places)) (at (weights .ramps)) (now (bytes .entry)) (now (table .entry)) (now (out .entry)) ⌝ }
-    ensures demand { λ e. ⌜ (Taken (now (bytes .entry)) (now (table .entry))
-        → Promised (now (bytes .entry)) (now (table .entry)) (now (out .exit)) (endAnswer (e .ended))) ⌝ }
-    ensures weights { λ e. ⌜ (Taken (now (bytes .entry)) (now (table .entry))
+    ensures demand { λ e. ⌜ (Openable (now (bytes .entry)) (now (table .entry))
+        → DemandAndGrounds (now (bytes .entry)) (now (table .entry)) (now (out .exit)) (endAnswer (e .ended))) ⌝ }
+    ensures weights { λ e. ⌜ (Openable (now (bytes .entry)) (now (table .entry))
         → WeightedDemand (now (bytes .entry)) (now (table .entry)) (at (weights .places)) (at (weights .ramps)) (now (out .exit)) (endAnswer (e .ended)) (e .weighted)) ⌝ }
 {
     let a = opening::opened(bytes, table);
@@ -211,8 +194,8 @@ pub fn run_longest(bytes: &[u8], table: &[u8], out: &mut [u32]) -> Longest
     ensures answer { λ e. ⌜ endAnswer (e .ended) ≡ runningOf (now (bytes .entry)) (now (table .entry)) (now (out .entry)) ⌝ }
     ensures list { λ e. ⌜ now (out .exit) ≡ listAfter (now (bytes .entry)) (now (table .entry)) (now (out .entry)) ⌝ }
     ensures longest { λ e. ⌜ longestQueues e ≡ longestRun (now (bytes .entry)) (now (table .entry)) (now (out .entry)) ⌝ }
-    ensures demand { λ e. ⌜ (Taken (now (bytes .entry)) (now (table .entry))
-        → Promised (now (bytes .entry)) (now (table .entry)) (now (out .exit)) (endAnswer (e .ended))) ⌝ }
+    ensures demand { λ e. ⌜ (Openable (now (bytes .entry)) (now (table .entry))
+        → DemandAndGrounds (now (bytes .entry)) (now (table .entry)) (now (out .exit)) (endAnswer (e .ended))) ⌝ }
 {
     let weights = Weights {
         places: [0; 65],

@@ -22,7 +22,7 @@ use Rattle.theory.specs.RulesLaws.{Sized, length-outflows, outflows-obey}
 use Rattle.model.specs.Stepping.{Answer, releasesOf, answer, stepOn, steppingOf}
 use Rattle.theory.specs.StepLaws.{releases-fit, on-done, on-refused, on-next, stepping-input, stepping-lanes, stepping-on}
 use Rattle.theory.specs.Roads.{step-state, step-row}
-use Rattle.theory.specs.OpenRoad.{opened}
+use Rattle.theory.specs.OpenRoad.{open-road-ok}
 use Rattle.stepping.specs.StepNeeds.{Movable, Steppable}
 use Rattle.model.specs.declared.Fault.{Fault}
 
@@ -99,7 +99,7 @@ module _ (r : Road) (s : State) (row built usable : List ℕ) where
       steps-on l z =
           let k = input-facts r s row input in
           let all = all-at (lanesAt built usable) (r .n) (eq-eqb (firstOf (lanesAt built usable) (r .n)) (r .n) (sym found ∙ e)) in
-          let q = opened r built usable (k .road) l (λ i m. lanes-facts (at built i) (at usable i) (all i m) .within) in
+          let q = open-road-ok r built usable (k .road) l (λ i m. lanes-facts (at built i) (at usable i) (all i m) .within) in
           subst⁻¹ (λ (c : List ℕ). StepInputOk (withCapacity r c) s row) el (record {
             input = record { road = q .ok; state = step-state q s (k .state); row = step-row q row (k .row) };
             sized = record { held = z .held; queue = z .queue; cumulative = z .cumulative };

@@ -19,13 +19,13 @@ use Rattle.model.specs.Schedules.{outflowsOf}
 use Rattle.theory.specs.RulesLaws.{Sized}
 use Rattle.stepping.specs.StepNeeds.{Movable, Countable, MovedCells, moved-cell, moved-end}
 use Rattle.outflows.specs.declared.Ledger.{Ledger}
-use Rattle.outflows.specs.Columns.{sharing, stateOf}
+use Rattle.outflows.specs.Columns.{withShareColumn, stateOf}
 use native.Mathlib.Omega.{arith}
 
 -- what `advance` requires: the row may be used for a move on some road with these shares, and a step is left
-pub record Advances (n : ℕ) (share : List ℕ) (l : Ledger) (held queue cumulative row y : List ℕ) : Type 0 where
+pub record AdvanceLent (n : ℕ) (share : List ℕ) (l : Ledger) (held queue cumulative row y : List ℕ) : Type 0 where
   pub road : Road
-  pub movable : Movable (sharing road n share) (stateOf l held queue cumulative) row y
+  pub movable : Movable (withShareColumn road n share) (stateOf l held queue cumulative) row y
   pub left : l .done < mostSteps
 
 -- the state after a step of the engine

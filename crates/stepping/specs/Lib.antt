@@ -1,4 +1,4 @@
 pub mod StepNeeds
 pub mod LentColumns
 pub mod Findings
-pub mod Nexts
+pub mod EngineStep

@@ -5,11 +5,11 @@ use outflows::Ledger;
 ghost use mathlib.Core.Path.{_≡_};
 ghost use Rattle.model.specs.declared.Road.{Road};
 ghost use Rattle.model.specs.Move.{nextOf};
-ghost use Rattle.outflows.specs.Columns.{sharing, stateOf, sending};
-ghost use Rattle.stepping.specs.LentColumns.{Advances, engineNext};
+ghost use Rattle.outflows.specs.Columns.{withShareColumn, stateOf, withDemands};
+ghost use Rattle.stepping.specs.LentColumns.{AdvanceLent, engineNext};
 ghost use Rattle.model.specs.Schedules.{outflowsOf};
 ghost use Rattle.outflows.specs.Rooms.{Rooms};
-ghost use Rattle.stepping.specs.Nexts.{Nexts};
+ghost use Rattle.stepping.specs.EngineStep.{EngineStepLent};
 
 // Moves every place by a row of outflows that obeys the rules, and counts the step: held counts and ramp queues are added while the cells
 // are moved.
@@ -23,9 +23,9 @@ pub fn advance(
     row: &[u32],
     y: &[u32],
 ) -> Ledger
-    requires { ⌜ Advances n (now share) l (now held) (now queue) (now cumulative) (now row) (now y) ⌝ }
+    requires { ⌜ AdvanceLent n (now share) l (now held) (now queue) (now cumulative) (now row) (now y) ⌝ }
     ensures { λ t. ⌜ ((r : Road) → stateOf t (now (held .exit)) (now (queue .exit)) (now (cumulative .exit))
-        ≡ nextOf (sharing r n (now (share .entry)))
+        ≡ nextOf (withShareColumn r n (now (share .entry)))
         (stateOf l (now (held .entry)) (now (queue .entry)) (now (cumulative .entry))) (now (row .entry)) (now (y .entry))) ⌝ }
 {
     let first = y[0];
@@ -73,16 +73,16 @@ pub fn next<'a>(
     room: &[u32; 64],
     y: &mut [u32],
 ) -> Ledger
-    requires { ⌜ Nexts n «gate_capacity» (now speed) (now share) (now capacity)
+    requires { ⌜ EngineStepLent n «gate_capacity» (now speed) (now share) (now capacity)
         (stateOf l (now held) (now queue) (now cumulative)) (now row) (now room) (now y) ⌝ }
-    ensures state { λ t. ⌜ ((r : Road) → Rooms (sending r n «gate_capacity» (now (speed .entry)) (now (share .entry)) (now (capacity .entry)))
+    ensures state { λ t. ⌜ ((r : Road) → Rooms (withDemands r n «gate_capacity» (now (speed .entry)) (now (share .entry)) (now (capacity .entry)))
         (stateOf l (now (held .entry)) (now (queue .entry)) (now (cumulative .entry))) (now (row .entry)) (now (room .entry))
         → stateOf t (now (held .exit)) (now (queue .exit)) (now (cumulative .exit))
-        ≡ engineNext (sending r n «gate_capacity» (now (speed .entry)) (now (share .entry)) (now (capacity .entry)))
+        ≡ engineNext (withDemands r n «gate_capacity» (now (speed .entry)) (now (share .entry)) (now (capacity .entry)))
         (stateOf l (now (held .entry)) (now (queue .entry)) (now (cumulative .entry))) (now (row .entry))) ⌝ }
-    ensures row { λ t. ⌜ ((r : Road) → Rooms (sending r n «gate_capacity» (now (speed .entry)) (now (share .entry)) (now (capacity .entry)))
+    ensures row { λ t. ⌜ ((r : Road) → Rooms (withDemands r n «gate_capacity» (now (speed .entry)) (now (share .entry)) (now (capacity .entry)))
         (stateOf l (now (held .entry)) (now (queue .entry)) (now (cumulative .entry))) (now (row .entry)) (now (room .entry))
-        → now (y .exit) ≡ outflowsOf (sending r n «gate_capacity» (now (speed .entry)) (now (share .entry)) (now (capacity .entry)))
+        → now (y .exit) ≡ outflowsOf (withDemands r n «gate_capacity» (now (speed .entry)) (now (share .entry)) (now (capacity .entry)))
         (stateOf l (now (held .entry)) (now (queue .entry)) (now (cumulative .entry))) (now (row .entry))) ⌝ }
 {
     outflows::lent::outflows(

@@ -7,7 +7,7 @@ use native.Mathlib.Omega.{arith}
 use lib.ListN.{length, set, drop-of-length-le}
 use Rattle.model.specs.Numbers.{sumOf, fillOf, listOf, at}
 use Rattle.numbers.specs.RowsLaws.{fill-more, fill-list, length-fill, sum-list-none, sum-list-more}
-use Rattle.model.specs.Street.{GrantRequest, sureOf, restBefore, moreOf, grantAt, grantsOf}
+use Rattle.model.specs.Street.{GrantRequest, sureOf, restBefore, moreOf, streetGrant, grantsOf}
 use Rattle.street.specs.StreetLaws.{sure-fits}
 
 -- what remains of the limit after the smaller of wish and guarantee of i ramps
@@ -16,11 +16,11 @@ pub record RestSoFar (limit : ℕ) (guarantees wishes : List ℕ) (left i : ℕ)
   pub sure : left + sumOf (listOf (sureOf guarantees wishes) i) ≡ limit
 
 -- the grants of i ramps are stored
-pub record GrantsSoFar (limit : ℕ) (guarantees wishes lent : List ℕ) (left i : ℕ) (grants : List ℕ) : Type 0 where
+pub record StoredGrants (limit : ℕ) (guarantees wishes lent : List ℕ) (left i : ℕ) (grants : List ℕ) : Type 0 where
   pub within : i ≤ length guarantees
   pub same : length lent ≡ length guarantees
   pub rest : left ≡ restBefore limit guarantees wishes i
-  pub stored : grants ≡ fillOf (grantAt limit guarantees wishes) i lent
+  pub stored : grants ≡ fillOf (streetGrant limit guarantees wishes) i lent
 
 module _ {limit : ℕ} {guarantees wishes : List ℕ} where
   pub left-none : RestSoFar limit guarantees wishes limit 0
@@ -46,16 +46,16 @@ module _ {limit : ℕ} {guarantees wishes : List ℕ} where
 
   module _ {lent : List ℕ} where
     pub granted-none : {left : ℕ} → length lent ≡ length guarantees → left ≡ restBefore limit guarantees wishes 0
-        → GrantsSoFar limit guarantees wishes lent left 0 lent
+        → StoredGrants limit guarantees wishes lent left 0 lent
     unfolding fillOf
     granted-none s e = record { within = omega arith; same = s; rest = e; stored = refl }
 
-    module _ {left i : ℕ} {grants : List ℕ} (h : GrantsSoFar limit guarantees wishes lent left i grants) where
+    module _ {left i : ℕ} {grants : List ℕ} (h : StoredGrants limit guarantees wishes lent left i grants) where
       pub granted-length : length grants ≡ length guarantees
-      granted-length = ap length (h .stored) ∙ length-fill (grantAt limit guarantees wishes) i lent ∙ h .same
+      granted-length = ap length (h .stored) ∙ length-fill (streetGrant limit guarantees wishes) i lent ∙ h .same
 
       pub granted-more : i < length guarantees → {sure more : ℕ} → sure ≡ sureOf guarantees wishes i → more ≡ min (at wishes i - sure) left
-          → GrantsSoFar limit guarantees wishes lent (left - more) (i + 1) (set grants i (sure + more))
+          → StoredGrants limit guarantees wishes lent (left - more) (i + 1) (set grants i (sure + more))
       unfolding restBefore
       granted-more l {sure} {more} e f =
           let m : more ≡ moreOf limit guarantees wishes i = rw (f, e, h .rest) in
@@ -70,7 +70,7 @@ module _ {limit : ℕ} {guarantees wishes : List ℕ} where
       unfolding grantsOf
       granted-end l =
           let n = length guarantees in
-          let f = grantAt limit guarantees wishes in
+          let f = streetGrant limit guarantees wishes in
           let e : i ≡ n = omega (arith, h .within) in
           h .stored ∙ ap (λ (k : ℕ). fillOf f k lent) e ∙ fill-list f n lent (omega (arith, h .same))
           ∙ ap (λ (t : List ℕ). listOf f n ++ t) (drop-of-length-le lent {i = n} (omega (arith, h .same))) ∙ append-nil (listOf f n)

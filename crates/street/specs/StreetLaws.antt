@@ -17,7 +17,7 @@ use Rattle.model.specs.Road.{mostRate, mostRamps}
 use Rattle.numbers.specs.Tests.{and-true, both-true, le-head, eq-head, le-then, eq-then}
 use Rattle.model.specs.Limits.{allWithin}
 use Rattle.limits.specs.AllWithin.{within-at, within-true}
-use Rattle.model.specs.Street.{GrantRequest, streetFrameOk, streetOk, sureOf, restBefore, grantAt, grantsOf, grantingOf, grantsAfter}
+use Rattle.model.specs.Street.{GrantRequest, streetFrameOk, streetOk, sureOf, restBefore, streetGrant, grantsOf, grantingOf, grantsAfter}
 
 module _ (limit : ℕ) (guarantees wishes : List ℕ) where
   -- the test of 24 passes exactly if its limits hold
@@ -82,7 +82,7 @@ module _ (limit : ℕ) (guarantees wishes : List ℕ) where
   sureSum i = sumOf (listOf (sureOf guarantees wishes) i)
 
   abbrev pub grantSum : ℕ → ℕ
-  grantSum i = sumOf (listOf (grantAt limit guarantees wishes) i)
+  grantSum i = sumOf (listOf (streetGrant limit guarantees wishes) i)
 
   sure-least : (i : ℕ) → i ≤ length guarantees → sureSum i ≤ sumOf (take i guarantees)
   sure-least zero l = omega (arith, sum-list-none (sureOf guarantees wishes))
@@ -97,17 +97,17 @@ module _ (limit : ℕ) (guarantees wishes : List ℕ) where
       → grantSum i + restBefore limit guarantees wishes i + sureSum (length guarantees) ≡ limit + sureSum i
   unfolding restBefore
   balance h zero l =
-      omega (arith, sum-list-none (sureOf guarantees wishes), sum-list-none (grantAt limit guarantees wishes), sure-fits h (length guarantees) (le-refl _))
+      omega (arith, sum-list-none (sureOf guarantees wishes), sum-list-none (streetGrant limit guarantees wishes), sure-fits h (length guarantees) (le-refl _))
   balance h (suc i) l =
-      omega (arith, balance h i (omega arith), sum-list-more (sureOf guarantees wishes) i, sum-list-more (grantAt limit guarantees wishes) i)
+      omega (arith, balance h i (omega arith), sum-list-more (sureOf guarantees wishes) i, sum-list-more (streetGrant limit guarantees wishes) i)
 
   pub grants-length : length (grantsOf limit guarantees wishes) ≡ length guarantees
   unfolding grantsOf
   grants-length = length-list _ _
 
-  pub grants-at : (i : ℕ) → i < length guarantees → at (grantsOf limit guarantees wishes) i ≡ grantAt limit guarantees wishes i
+  pub grants-at : (i : ℕ) → i < length guarantees → at (grantsOf limit guarantees wishes) i ≡ streetGrant limit guarantees wishes i
   unfolding grantsOf
-  grants-at i l = list-at (grantAt limit guarantees wishes) (length guarantees) i l
+  grants-at i l = list-at (streetGrant limit guarantees wishes) (length guarantees) i l
 
   -- the sum of the grants never exceeds the limit
   pub grants-limit : GrantRequest limit guarantees wishes → sumOf (grantsOf limit guarantees wishes) ≤ limit
@@ -123,7 +123,7 @@ module _ (limit : ℕ) (guarantees wishes : List ℕ) where
   grants-wish i l = omega (arith, grants-at i l)
 
   -- nothing remains after a ramp that got less than its wish
-  nothing-left : (i : ℕ) → grantAt limit guarantees wishes i < at wishes i → restBefore limit guarantees wishes (suc i) ≡ 0
+  nothing-left : (i : ℕ) → streetGrant limit guarantees wishes i < at wishes i → restBefore limit guarantees wishes (suc i) ≡ 0
   unfolding restBefore
   nothing-left i h = omega arith
 
@@ -145,14 +145,14 @@ module _ (limit : ℕ) (guarantees wishes : List ℕ) where
   -- either the whole limit is granted or every wish
   all-wished : (i : ℕ) → i ≤ length wishes → 0 < restBefore limit guarantees wishes i → grantSum i ≡ sumOf (take i wishes)
   unfolding restBefore
-  all-wished zero l h = omega (arith, sum-list-none (grantAt limit guarantees wishes), sum-start wishes)
+  all-wished zero l h = omega (arith, sum-list-none (streetGrant limit guarantees wishes), sum-start wishes)
   all-wished (suc i) l h =
-      omega (arith, all-wished i (omega arith) (omega arith), sum-list-more (grantAt limit guarantees wishes) i, sum-more i wishes l)
+      omega (arith, all-wished i (omega arith) (omega arith), sum-list-more (streetGrant limit guarantees wishes) i, sum-more i wishes l)
 
   grants-below : (i : ℕ) → i ≤ length wishes → grantSum i ≤ sumOf (take i wishes)
-  grants-below zero l = omega (arith, sum-list-none (grantAt limit guarantees wishes))
+  grants-below zero l = omega (arith, sum-list-none (streetGrant limit guarantees wishes))
   grants-below (suc i) l =
-      omega (arith, grants-below i (omega arith), sum-list-more (grantAt limit guarantees wishes) i, sum-more i wishes l)
+      omega (arith, grants-below i (omega arith), sum-list-more (streetGrant limit guarantees wishes) i, sum-more i wishes l)
 
   pub grants-whole : GrantRequest limit guarantees wishes → sumOf (grantsOf limit guarantees wishes) ≡ min limit (sumOf wishes)
   unfolding grantsOf

@@ -9,7 +9,7 @@ use native.Mathlib.Omega.{arith}
 use lib.ListN.{length, take}
 use lib.Seq.{ext-getD, take-all}
 use Rattle.model.specs.Numbers.{at, unless, sumOf}
-use Rattle.numbers.specs.Tests.{never}
+use Rattle.numbers.specs.Tests.{not-both}
 use Rattle.numbers.specs.SumLaws.{sum-start, sum-more}
 use Rattle.model.specs.Street.{GrantRequest, streetOk, grantsOf, grantingOf, grantsAfter, Fair, GrantEnds}
 use Rattle.street.specs.StreetLaws.{ok-request, request-ok, grants-length, grants-limit, grants-sure, grants-wish, grants-order, grants-whole}
@@ -86,14 +86,14 @@ module _ (limit : ℕ) (guarantees wishes grants : List ℕ) where
       go true e =
           let request = ok-request limit guarantees wishes (length grants) e in
           GrantEnds.granted (request .0) (request .1) (fair limit guarantees wishes (request .0))
-      go false e = GrantEnds.refused (λ request same. never (request-ok limit guarantees wishes (length grants) request same) e)
+      go false e = GrantEnds.refused (λ request same. not-both (request-ok limit guarantees wishes (length grants) request same) e)
 
 -- an answer and grants that the definitions give are one of the cases, so a contract may promise all three
-pub ended : (limit : ℕ) (guarantees wishes grants : List ℕ) {number : ℕ} {left : List ℕ}
+pub meets-contract : (limit : ℕ) (guarantees wishes grants : List ℕ) {number : ℕ} {left : List ℕ}
     → number ≡ grantingOf limit guarantees wishes (length grants) → left ≡ grantsAfter limit guarantees wishes grants
     → (number ≡ grantingOf limit guarantees wishes (length grants)) × ((left ≡ grantsAfter limit guarantees wishes grants)
     × GrantEnds limit guarantees wishes grants number left)
-ended limit guarantees wishes grants e f = (e, (f, rw (e, f) (ends limit guarantees wishes grants)))
+meets-contract limit guarantees wishes grants e f = (e, (f, rw (e, f) (ends limit guarantees wishes grants)))
 
 -- 5: 24 applies exactly if a limit is broken; it leaves the lent grants unchanged
 module _ {limit : ℕ} {guarantees wishes grants : List ℕ} where

@@ -1,3 +1,3 @@
-pub mod PickingLaws
+pub mod RowLaws
 pub mod TakingLaws
 pub mod TakenRows

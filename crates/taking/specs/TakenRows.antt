@@ -11,15 +11,15 @@ use Rattle.model.specs.Road.{startIn}
 use Rattle.model.specs.Record.{rowNumbers, recordRow}
 use Rattle.model.specs.Reading.{readingOf}
 use Rattle.reading.specs.Within.{read-within}
-use Rattle.taking.specs.PickingLaws.{row-read}
-use Rattle.model.specs.Writing.{written, writingOf, targetAfter}
+use Rattle.taking.specs.RowLaws.{row-read}
+use Rattle.model.specs.Writing.{writtenCount, writingOf, targetAfter}
 use Rattle.writing.specs.Theorems.{again-answer, again-bytes}
 use Rattle.model.specs.RowNumbers.{takenRow, takenCount, takenList}
-use Rattle.taking.specs.TakingLaws.{Roomy, length-taken-row, count-all, taken-row, taken-past, taken-rows}
+use Rattle.taking.specs.TakingLaws.{RoomForRows, length-taken-row, count-all, taken-row, taken-past, taken-rows}
 
 -- the rows as writing takes them: the front of the list, as long as the answer
-abbrev pub rowsTaken : List ℕ → ℕ → ℕ → List ℕ → List ℕ
-rowsTaken bytes n T list = take (takenCount n T (length list)) (takenList bytes n T list)
+abbrev pub takenNumbers : List ℕ → ℕ → ℕ → List ℕ → List ℕ
+takenNumbers bytes n T list = take (takenCount n T (length list)) (takenList bytes n T list)
 
 module _ (s : List ℕ) (reads : readingOf s .number ≡ 0) (list : List ℕ)
     (room : readingOf s .steps * rowNumbers (readingOf s .road .n) ≤ length list) where
@@ -29,7 +29,7 @@ module _ (s : List ℕ) (reads : readingOf s .number ≡ 0) (list : List ℕ)
   abbrev T : ℕ
   T = readingOf s .steps
 
-  within : Roomy n T (length list)
+  within : RoomForRows n T (length list)
   within = let w = read-within s (readingOf s) refl reads in record { cells = w .road .cells; steps = w .steps; long = room }
 
   record-row : (t : ℕ) → t < T → takenRow s n t ≡ recordRow s n t
@@ -50,10 +50,10 @@ module _ (s : List ℕ) (reads : readingOf s .number ≡ 0) (list : List ℕ)
   size t = length-taken-row s n t (within .cells)
 
   -- the same for the rows by themselves
-  pub length-rows : length (rowsTaken s n T list) ≡ T * rowNumbers n
+  pub length-rows : length (takenNumbers s n T list) ≡ T * rowNumbers n
   length-rows = ap length (taken-rows s n T list within) ∙ length-concat (takenRow s n) (rowNumbers n) size T
 
-  pub rows-row : (t : ℕ) → t < T → rowAt (rowsTaken s n T list) (rowNumbers n) t ≡ recordRow s n t
+  pub rows-row : (t : ℕ) → t < T → rowAt (takenNumbers s n T list) (rowNumbers n) t ≡ recordRow s n t
   rows-row t l =
       ap (λ (x : List ℕ). rowAt x (rowNumbers n) t) (taken-rows s n T list within)
       ∙ concat-row (takenRow s n) (rowNumbers n) size T t l
@@ -61,8 +61,8 @@ module _ (s : List ℕ) (reads : readingOf s .number ≡ 0) (list : List ℕ)
 
   -- writing what was read with these rows isn't refused and gives the same bytes
   module _ (small : (i : ℕ) → at s i < 256) (target : List ℕ) (long : length s ≤ length target) where
-    pub same-answer : writingOf (readingOf s .road) T (startIn (readingOf s .state)) (rowsTaken s n T list) target ≡ written (length s)
-    same-answer = again-answer s small reads (rowsTaken s n T list) target length-rows rows-row long
+    pub same-answer : writingOf (readingOf s .road) T (startIn (readingOf s .state)) (takenNumbers s n T list) target ≡ writtenCount (length s)
+    same-answer = again-answer s small reads (takenNumbers s n T list) target length-rows rows-row long
 
-    pub same-bytes : take (length s) (targetAfter (readingOf s .road) T (startIn (readingOf s .state)) (rowsTaken s n T list) target) ≡ s
-    same-bytes = again-bytes s small reads (rowsTaken s n T list) target length-rows rows-row long
+    pub same-bytes : take (length s) (targetAfter (readingOf s .road) T (startIn (readingOf s .state)) (takenNumbers s n T list) target) ≡ s
+    same-bytes = again-bytes s small reads (takenNumbers s n T list) target length-rows rows-row long

@@ -14,11 +14,11 @@ use Rattle.numbers.specs.RowsLaws.{fill-more, fill-at, length-fill}
 use Rattle.numbers.specs.TablesLaws.{row-ends, mul-more, part-length, length-front, front-row, front-past, front-rows, front-more, front-none}
 use Rattle.model.specs.Road.{mostCells, mostSteps}
 use Rattle.model.specs.Record.{rowNumbers}
-use Rattle.model.specs.RowNumbers.{rowArray, takenRow, roomy, takenCount, takenList}
-use Rattle.taking.specs.PickingLaws.{length-array}
+use Rattle.model.specs.RowNumbers.{rowArray, takenRow, roomForRows, takenCount, takenList}
+use Rattle.taking.specs.RowLaws.{length-array}
 
 -- there is room for the rows
-pub record Roomy (n T room : ℕ) : Type 0 where
+pub record RoomForRows (n T room : ℕ) : Type 0 where
   pub cells : n ≤ mostCells
   pub steps : T ≤ mostSteps
   pub long : T * rowNumbers n ≤ room
@@ -32,19 +32,19 @@ count-small n T h l = let k : rowNumbers n ≤ rowNumbers mostCells = omega arit
 
 -- the test, from the code's tests
 module _ (n T room : ℕ) where
-  pub over-cells : mostCells < n → roomy n T room ≡ false
+  pub over-cells : mostCells < n → roomForRows n T room ≡ false
   over-cells h = rw (lt-leb n mostCells h)
 
-  pub over-steps : n ≤ mostCells → mostSteps < T → roomy n T room ≡ false
+  pub over-steps : n ≤ mostCells → mostSteps < T → roomForRows n T room ≡ false
   over-steps h l = rw (le-leb n mostCells h, lt-leb T mostSteps l)
 
-  pub too-short : n ≤ mostCells → T ≤ mostSteps → room < T * rowNumbers n → roomy n T room ≡ false
+  pub too-short : n ≤ mostCells → T ≤ mostSteps → room < T * rowNumbers n → roomForRows n T room ≡ false
   too-short h l m = rw (le-leb n mostCells h, le-leb T mostSteps l, lt-leb (T * rowNumbers n) room m)
 
-  has-room : Roomy n T room → roomy n T room ≡ true
+  has-room : RoomForRows n T room → roomForRows n T room ≡ true
   has-room r = rw (le-leb n mostCells (r .cells), le-leb T mostSteps (r .steps), le-leb (T * rowNumbers n) room (r .long))
 
-  pub count-all : Roomy n T room → takenCount n T room ≡ T * rowNumbers n
+  pub count-all : RoomForRows n T room → takenCount n T room ≡ T * rowNumbers n
   unfolding takenCount
   count-all r = rw (has-room r)
 
@@ -52,11 +52,11 @@ module _ (n T room : ℕ) where
   pub count-within : takenCount n T room ≤ room
   unfolding takenCount
   count-within =
-      unless-elim (λ (m : ℕ). m ≤ room) (roomy n T room) (λ _. omega arith) (λ e.
+      unless-elim (λ (m : ℕ). m ≤ room) (roomForRows n T room) (λ _. omega arith) (λ e.
       leb-true (T * rowNumbers n) room (le-head T mostSteps _ (le-head n mostCells _ e .1) .1))
 
 -- without room nothing is taken, and the list is unchanged
-pub untaken : (bytes : List ℕ) (n T : ℕ) (list : List ℕ) → roomy n T (length list) ≡ false
+pub untaken : (bytes : List ℕ) (n T : ℕ) (list : List ℕ) → roomForRows n T (length list) ≡ false
     → (0 ≡ takenCount n T (length list)) × (list ≡ takenList bytes n T list)
 unfolding takenCount takenList
 untaken bytes n T list h = (rw h, rw h)
@@ -65,7 +65,7 @@ pub length-taken-row : (bytes : List ℕ) (n t : ℕ) → n ≤ mostCells → le
 length-taken-row bytes n t h = length-take-le (rowNumbers n) (rowArray bytes n t) (omega (arith, length-array bytes n t))
 
 -- with room: the rows in front of the list
-module _ (bytes : List ℕ) (n T : ℕ) (list : List ℕ) (r : Roomy n T (length list)) where
+module _ (bytes : List ℕ) (n T : ℕ) (list : List ℕ) (r : RoomForRows n T (length list)) where
   size : (t : ℕ) → length (takenRow bytes n t) ≡ rowNumbers n
   size t = length-taken-row bytes n t (r .cells)
 
@@ -132,7 +132,7 @@ module _ {bytes : List ℕ} {n T : ℕ} {list : List ℕ} where
   pub listed-none : RowsSoFar bytes n T list list 0 0
   listed-none = record { within = omega arith; place = omega arith; rows = sym (front-none (takenRow bytes n) (rowNumbers n) list) }
 
-  module _ {out : List ℕ} {from t : ℕ} (h : RowsSoFar bytes n T list out from t) (r : Roomy n T (length list)) where
+  module _ {out : List ℕ} {from t : ℕ} (h : RowsSoFar bytes n T list out from t) (r : RoomForRows n T (length list)) where
     -- the list keeps its length
     pub listed-length : length out ≡ length list
     listed-length =

@@ -17,7 +17,7 @@ use Rattle.theory.specs.RunsLaws.{arrivalsTo, StudyOk, schedule-sized, r
 use Rattle.model.specs.Reading.{readingOf, studyOf}
 use Rattle.reading.specs.Numbers.{Numbers, read-numbers}
 use Rattle.theory.specs.Readable.{readable}
-use Rattle.model.specs.Demand.{Taken, Reaches}
+use Rattle.model.specs.Demand.{Openable, Reaches}
 
 -- the sums after k steps of a table of outflows
 pub record Accounts (a : Study) (zs : List ℕ) (k : ℕ) : Type 0 where
@@ -33,7 +33,7 @@ pub record Accounts (a : Study) (zs : List ℕ) (k : ℕ) : Type 0 where
   pub conserved : presentOf (a .road) (a .start) + arrivalsTo a k
       ≡ presentOf (a .road) (scheduledAt a zs k) + exitsOf (a .road) (scheduledAt a zs k)
 
-module _ (bytes lanes zs : List ℕ) (taken : Taken bytes lanes) where
+module _ (bytes lanes zs : List ℕ) (openable : Openable bytes lanes) where
   abbrev a : Study
   a = studyOf bytes lanes
 
@@ -41,10 +41,10 @@ module _ (bytes lanes zs : List ℕ) (taken : Taken bytes lanes) where
   u k = scheduledAt a zs k
 
   ok : StudyOk (studyOf bytes lanes)
-  ok = readable bytes lanes (readingOf bytes) refl (taken .reads) (taken .opens) .ok
+  ok = readable bytes lanes (readingOf bytes) refl (openable .reads) (openable .opens) .ok
 
   start : Numbers bytes (a .steps) (a .road) (a .start)
-  start = read-numbers bytes (readingOf bytes) refl (taken .reads)
+  start = read-numbers bytes (readingOf bytes) refl (openable .reads)
 
   start-total : totalOf (a .start) ≡ 0
   start-total = omega (arith, start .gateTime, start .roadTime, start .rampTime)

@@ -14,7 +14,7 @@ use Rattle.model.specs.Limits.{inputOk}
 use Rattle.limits.specs.LimitsLaws.{input-facts}
 use Rattle.model.specs.Stepping.{Answer, answer, stepOn, steppingOf}
 use Rattle.theory.specs.StepLaws.{stepping-input, stepping-on}
-use Rattle.theory.specs.OpenRoad.{opened-all}
+use Rattle.theory.specs.OpenRoad.{open-road-all}
 
 -- a step without closures: 7, then 8, 9 or 10 on the road itself
 abbrev pub plainStep : Road → State → List ℕ → Answer
@@ -27,6 +27,6 @@ all-open-steps r s row built some = go (inputOk r s row) refl
     go : (b : Bool) → inputOk r s row ≡ b → steppingOf r s row built built ≡ plainStep r s row
     go true e =
         stepping-on r s row built built e (first-none (lanesAt built built) (r .n) (λ i l. lanes-all (at built i) (some i l)))
-        ∙ ap (λ (q : Road). stepOn q s row) (opened-all r built built (input-facts r s row e .road) (λ i l. (some i l, refl)))
+        ∙ ap (λ (q : Road). stepOn q s row) (open-road-all r built built (input-facts r s row e .road) (λ i l. (some i l, refl)))
         ∙ rw e refl
     go false e = stepping-input r s row built built e ∙ rw e refl

@@ -11,13 +11,13 @@ use Rattle.model.specs.Lanes.{builtIn, openIn}
 use Rattle.model.specs.declared.Road.{Road}
 use Rattle.model.specs.Schedules.{Study, openRoad, roadAt, engineAfter, outflowsAt}
 use Rattle.theory.specs.Roads.{Wider, step-alike}
-use Rattle.theory.specs.OpenRoad.{opened-wider}
+use Rattle.theory.specs.OpenRoad.{open-road-wider}
 use Rattle.theory.specs.RunsLaws.{ReleasesFitUpTo, StudyOk, Rivals, engine-schedule, engine-obeys, run-behind}
 use Rattle.theory.specs.Behind.{Behind}
 
 -- b is the study a with another road, on which no speed, wave, jam count or capacity is smaller. The shares are the same: with a larger share
 -- less leaves by the off-ramp, and what goes on stays present
-pub record Improved (a b : Study) : Type 0 where
+pub record BetterRoad (a b : Study) : Type 0 where
   pub road : Wider (a .road) (b .road)
   pub start : b .start ≡ a .start
   pub steps : b .steps ≡ a .steps
@@ -25,7 +25,7 @@ pub record Improved (a b : Study) : Type 0 where
   pub lanes : b .lanes ≡ a .lanes
 
 -- both studies are within the limits and have a capacity for each cell
-module _ {a b : Study} (h : Improved a b) (okA : StudyOk a) (okB : StudyOk b) (la : a .road .n ≤ length (a .road .capacity))
+module _ {a b : Study} (h : BetterRoad a b) (okA : StudyOk a) (okB : StudyOk b) (la : a .road .n ≤ length (a .road .capacity))
     (lb : b .road .n ≤ length (b .road .capacity)) where
   abbrev roadOf : Road → ℕ → Bool → ℕ → Road
   roadOf r n empty k = cond empty r (openRoad r (builtIn (a .lanes) n) (openIn (a .lanes) n k))
@@ -41,10 +41,10 @@ module _ {a b : Study} (h : Improved a b) (okA : StudyOk a) (okB : StudyOk b) (l
     where
       go : (t : Bool) → Wider (roadOf (a .road) (a .road .n) t k) (roadOf (b .road) (a .road .n) t k)
       go true = h .road
-      go false = opened-wider (a .road) (b .road) (builtIn (a .lanes) (a .road .n)) (openIn (a .lanes) (a .road .n) k) la lb (h .road)
+      go false = open-road-wider (a .road) (b .road) (builtIn (a .lanes) (a .road .n)) (openIn (a .lanes) (a .road .n) k) la lb (h .road)
 
-  pub improved-rivals : (k : ℕ) → k ≤ a .steps → Rivals a b k
-  improved-rivals k l = record {
+  pub better-rivals : (k : ℕ) → k ≤ a .steps → Rivals a b k
+  better-rivals k l = record {
     sized = okA .sized;
     start = h .start;
     rows = λ j m. h .rows j (omega arith);
@@ -57,7 +57,7 @@ module _ {a b : Study} (h : Improved a b) (okA : StudyOk a) (okB : StudyOk b) (l
   }
 
   -- after k steps that both make, no F on the better road is smaller and its total is not larger
-  pub improved-behind : (k : ℕ) → k ≤ a .steps → ReleasesFitUpTo a k → ReleasesFitUpTo b k → Behind (a .road) (engineAfter b k) (engineAfter a k)
-  improved-behind k l fitsA fitsB =
+  pub better-behind : (k : ℕ) → k ≤ a .steps → ReleasesFitUpTo a k → ReleasesFitUpTo b k → Behind (a .road) (engineAfter b k) (engineAfter a k)
+  better-behind k l fitsA fitsB =
       subst⁻¹ (Behind (a .road) (engineAfter b k)) (engine-schedule a k)
-      (run-behind a b (outflowsAt a) k (improved-rivals k l) fitsB (engine-obeys a k fitsA))
+      (run-behind a b (outflowsAt a) k (better-rivals k l) fitsB (engine-obeys a k fitsA))

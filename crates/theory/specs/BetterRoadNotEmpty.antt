@@ -15,10 +15,10 @@ use Rattle.model.specs.Limits.{placeOk, rowOk}
 use Rattle.model.specs.Flow.{capacityAt, demandAt, mostReleaseAt, shareAt, cumulativeAt}
 use Rattle.model.specs.Move.{movedTo, countedOf}
 use Rattle.model.specs.Stepping.{lowestOf, tableFault}
-use Rattle.theory.specs.BetterRoad.{Improved}
+use Rattle.theory.specs.BetterRoad.{BetterRoad}
 use Rattle.model.specs.Reading.{readingBy, studyOf}
 use Rattle.model.specs.Running.{endOf, openingOf, runningOf}
-use Rattle.model.specs.Demand.{Taken}
+use Rattle.model.specs.Demand.{Openable}
 use Rattle.model.specs.WorkedRoads.{two, four, header, cell, row, list}
 
 -- one part in cell 1, with share 0 and the speed given: with speed 500 it is still there after the one step, with 1000 it has left
@@ -36,9 +36,9 @@ unfolding single two four header cell row readingBy oneOf numberOf secondsSize f
 same-rows zero l = refl
 same-rows (suc k) l = absurd (omega arith)
 
-improved : Improved (studyOf (single (two 1 244)) []) (studyOf (single (two 3 232)) [])
+better : BetterRoad (studyOf (single (two 1 244)) []) (studyOf (single (two 3 232)) [])
 unfolding single two four header cell row readingBy oneOf numberOf secondsSize fillOf listOf firstFrom firstOf placeOk rowOk capacityAt
-improved = record {
+better = record {
   road = record {
     alike = record { n = refl; share = λ i l. refl };
     gate = omega arith;
@@ -54,25 +54,25 @@ improved = record {
 }
 
 -- speed 500, and speed 1000
-pub record Profits : Type 0 where
-  pub first : Taken (single (two 1 244)) []
-  pub other : Taken (single (two 3 232)) []
-  pub pair : Improved (studyOf (single (two 1 244)) []) (studyOf (single (two 3 232)) [])
+pub record FasterRoad : Type 0 where
+  pub first : Openable (single (two 1 244)) []
+  pub other : Openable (single (two 3 232)) []
+  pub pair : BetterRoad (studyOf (single (two 1 244)) []) (studyOf (single (two 3 232)) [])
   pub accepts : runningOf (single (two 1 244)) [] list .number ≡ 0
   pub too : runningOf (single (two 3 232)) [] list .number ≡ 0
   pub before : totalOf (runningOf (single (two 1 244)) [] list .state) ≡ 1
   pub after : totalOf (runningOf (single (two 3 232)) [] list .state) ≡ 0
 
-pub profits : Profits
+pub faster-road : FasterRoad
 unfolding single two four header cell row readingBy oneOf numberOf secondsSize
     thousandthsOf demandOf gateDemandOf supplyOf roomOf onwardOf enteringOf greatestOf outflowOf
     sumOf fillOf listOf firstFrom firstOf firstFault placeOk rowOk
     capacityAt demandAt mostReleaseAt shareAt cumulativeAt movedTo countedOf outflowsOf lowestOf
     tableFault roadAt engineAfter endOf openingOf runningOf
-profits = record {
+faster-road = record {
   first = record { reads = refl; opens = refl };
   other = record { reads = refl; opens = refl };
-  pair = improved;
+  pair = better;
   accepts = refl;
   too = refl;
   before = refl;

@@ -1,52 +1,51 @@
 -- Theorem: if the weights fall from the gate on, the weighted total of a run is at most that of each schedule. Assumes nothing.
-use mathlib.Core.Path.{_≡_, refl, sym, ap, _∙_}
+use mathlib.Core.Path.{_≡_, refl, sym, _∙_}
 use mathlib.Core.Logic.{⊎-elim}
 use mathlib.Core.List.{List}
 use Prim.Native.Nat.{ℕ, suc, _≤_, _<_}
 use native.Mathlib.Nat.{le-refl}
 use native.Mathlib.Omega.{arith}
 use lib.ListN.{length}
-use borrow.Author.Tests.{ne-eqb}
 use Rattle.numbers.specs.Tests.{order}
 use Rattle.model.specs.Schedules.{Study, tableSize, scheduleAfter, engineAfter, proposedAt, scheduledAt}
 use Rattle.theory.specs.RunsLaws.{ReleasesFitUpTo, StudyOk, rivals-self, run-weighted}
 use Rattle.model.specs.Weights.{weightedTotal, Falling, weightedTotalOfRun, weightedTotalOfSchedule}
-use Rattle.theory.specs.WeightsLaws.{weighted-total-same, weighted-total-none}
+use Rattle.theory.specs.WeightsLaws.{weighted-total-same}
 use Rattle.model.specs.Reading.{readingOf, studyOf}
 use Rattle.reading.specs.Numbers.{read-numbers}
-use Rattle.model.specs.Running.{runSays, firstStep, stepsMade, openingOf, runningOf, tableOf, listAfter}
-use Rattle.model.specs.Judging.{judgeSays, judgingOf}
+use Rattle.model.specs.Running.{runFault, firstStep, stepsMade, runningOf, tableOf, listAfter}
+use Rattle.model.specs.Judging.{judgeFault, judgingOf}
 use Rattle.theory.specs.SchedulesLaws.{step-before, end-made, run-fits}
 use Rattle.theory.specs.TableLaws.{table-row}
-use Rattle.theory.specs.RunEnds.{runs-unopened, runs-short, runs-long, writes-long, judges-length, judges-ends}
+use Rattle.theory.specs.RunEnds.{runs-short, runs-long, writes-long, judges-length, judges-ends}
 use Rattle.theory.specs.Readable.{readable}
-use Rattle.model.specs.Demand.{Reaches, Taken, WeightedDemand}
+use Rattle.model.specs.Demand.{Reaches, Openable, WeightedDemand}
 use Rattle.theory.specs.DemandLaws.{own-state, run-done, judge-done}
-use Rattle.theory.specs.DemandWhole.{sized, promised}
+use Rattle.theory.specs.DemandWhole.{sized, demand-and-grounds}
 
-module _ (bytes lanes : List ℕ) (taken : Taken bytes lanes) (list : List ℕ) where
+module _ (bytes lanes : List ℕ) (openable : Openable bytes lanes) (list : List ℕ) where
   abbrev a : Study
   a = studyOf bytes lanes
 
   ok : StudyOk (studyOf bytes lanes)
-  ok = readable bytes lanes (readingOf bytes) refl (taken .reads) (taken .opens) .ok
+  ok = readable bytes lanes (readingOf bytes) refl (openable .reads) (openable .opens) .ok
 
   -- no step is done at a record's start
   zero : studyOf bytes lanes .start .done ≡ 0
-  zero = read-numbers bytes (readingOf bytes) refl (taken .reads) .done
+  zero = read-numbers bytes (readingOf bytes) refl (openable .reads) .done
 
   abbrev K : ℕ
-  K = firstStep (runSays a) (a .steps)
+  K = firstStep (runFault a) (a .steps)
 
   -- the steps made are at most those before the first fault
   made : stepsMade (studyOf bytes lanes) (runningOf bytes lanes list) ≤ K
   made = ⊎-elim
-      (λ (l : tableSize a ≤ length list). rw (runs-long bytes lanes taken list l) (omega (arith, end-made a (runSays a) (engineAfter a))))
-      (λ (l : length list < tableSize a). rw (runs-short bytes lanes taken list l) (omega arith))
+      (λ (l : tableSize a ≤ length list). rw (runs-long bytes lanes openable list l) (omega (arith, end-made a (runFault a) (engineAfter a))))
+      (λ (l : length list < tableSize a). rw (runs-short bytes lanes openable list l) (omega arith))
       (order (tableSize a) (length list))
 
   fits : ReleasesFitUpTo a K
-  fits = run-fits a K (step-before (runSays a) (a .steps))
+  fits = run-fits a K (step-before (runFault a) (a .steps))
 
   -- the states of the rows written are the engine's
   states : (j : ℕ) → j ≤ stepsMade (studyOf bytes lanes) (runningOf bytes lanes list)
@@ -54,9 +53,9 @@ module _ (bytes lanes : List ℕ) (taken : Taken bytes lanes) (list : List ℕ) 
   unfolding scheduleAfter engineAfter
   states j m = ⊎-elim
       (λ (l : tableSize a ≤ length list).
-      rw (writes-long bytes lanes taken list l) (own-state a ok (tableOf a list K) (λ i n. table-row a ok list K i n) j (omega (arith, made))))
+      rw (writes-long bytes lanes openable list l) (own-state a ok (tableOf a list K) (λ i n. table-row a ok list K i n) j (omega (arith, made))))
       (λ (l : length list < tableSize a).
-      let none : stepsMade a (runningOf bytes lanes list) ≡ 0 = rw (runs-short bytes lanes taken list l) refl in
+      let none : stepsMade a (runningOf bytes lanes list) ≡ 0 = rw (runs-short bytes lanes openable list l) refl in
       let z : j ≡ 0 = omega arith in
       rw z refl)
       (order (tableSize a) (length list))
@@ -64,22 +63,22 @@ module _ (bytes lanes : List ℕ) (taken : Taken bytes lanes) (list : List ℕ) 
   -- running and judging make as many steps as the state returned has done, and a schedule reaches the steps judged
   run-made : stepsMade (studyOf bytes lanes) (runningOf bytes lanes list) ≡ runningOf bytes lanes list .state .done
   run-made = ⊎-elim
-      (λ (l : tableSize a ≤ length list). rw (runs-long bytes lanes taken list l) (omega (arith, end-made a (runSays a) (engineAfter a), run-done a ok, zero)))
-      (λ (l : length list < tableSize a). rw (runs-short bytes lanes taken list l) refl)
+      (λ (l : tableSize a ≤ length list). rw (runs-long bytes lanes openable list l) (omega (arith, end-made a (runFault a) (engineAfter a), run-done a ok, zero)))
+      (λ (l : length list < tableSize a). rw (runs-short bytes lanes openable list l) refl)
       (order (tableSize a) (length list))
 
   judge-made : (zs : List ℕ) → stepsMade (studyOf bytes lanes) (judgingOf bytes lanes zs) ≡ judgingOf bytes lanes zs .state .done
   judge-made zs = ⊎-elim
-      (λ (l : length zs ≡ tableSize a). rw (judges-ends bytes lanes taken zs l) (omega (arith, end-made a (judgeSays a zs) (scheduledAt a zs), judge-done a ok zs, zero)))
-      (λ (n : length zs ≡ tableSize a → ⊥). rw (judges-length bytes lanes taken zs n) refl)
-      (sized bytes lanes taken zs)
+      (λ (l : length zs ≡ tableSize a). rw (judges-ends bytes lanes openable zs l) (omega (arith, end-made a (judgeFault a zs) (scheduledAt a zs), judge-done a ok zs, zero)))
+      (λ (n : length zs ≡ tableSize a → ⊥). rw (judges-length bytes lanes openable zs n) refl)
+      (sized bytes lanes openable zs)
 
   judge-reaches : (zs : List ℕ) → Reaches (studyOf bytes lanes) zs (stepsMade (studyOf bytes lanes) (judgingOf bytes lanes zs))
   judge-reaches zs = ⊎-elim
-      (promised bytes lanes taken list .grounds .reached zs)
+      (demand-and-grounds bytes lanes openable list .grounds .reached zs)
       (λ (n : length zs ≡ tableSize a → ⊥).
-      rw (judges-length bytes lanes taken zs n) (record { within = omega arith; obeys = λ j m. absurd (omega arith) }))
-      (sized bytes lanes taken zs)
+      rw (judges-length bytes lanes openable zs n) (record { within = omega arith; obeys = λ j m. absurd (omega arith) }))
+      (sized bytes lanes openable zs)
 
   module _ (w u : ℕ → ℕ) where
     own : (k : ℕ) → k ≤ stepsMade (studyOf bytes lanes) (runningOf bytes lanes list)
@@ -105,26 +104,3 @@ module _ (bytes lanes : List ℕ) (taken : Taken bytes lanes) (list : List ℕ) 
               let k : m ≡ stepsMade a (judgingOf bytes lanes zs) = run-made ∙ e ∙ sym (judge-made zs) in
               rw (← k, ← own m (le-refl m)) (best falling zs m (le-refl m) (rw (← k) at (judge-reaches zs)));
         }
-
--- the weighted total at the end: 0 if the run did not begin, else that of the steps before the first fault
-module _ (w u : ℕ → ℕ) (bytes lanes list : List ℕ) where
-  weighed-none : stepsMade (studyOf bytes lanes) (runningOf bytes lanes list) ≡ 0 → weightedTotalOfRun w u bytes lanes list ≡ 0
-  unfolding weightedTotalOfRun
-  weighed-none e =
-      ap (weightedTotal w u (studyOf bytes lanes .road .n) (engineAfter (studyOf bytes lanes))) e
-      ∙ weighted-total-none w u (studyOf bytes lanes .road .n) (engineAfter (studyOf bytes lanes))
-
-  pub weighted-unopened : (openingOf bytes lanes .number ≡ 0 → ⊥) → weightedTotalOfRun w u bytes lanes list ≡ 0
-  weighted-unopened h = weighed-none (rw (runs-unopened bytes lanes h list, ne-eqb (openingOf bytes lanes .number) 0 h) refl)
-
-  module _ (taken : Taken bytes lanes) where
-    pub weighted-short : length list < tableSize (studyOf bytes lanes) → weightedTotalOfRun w u bytes lanes list ≡ 0
-    weighted-short l = weighed-none (rw (runs-short bytes lanes taken list l) refl)
-
-    pub weighted-long : tableSize (studyOf bytes lanes) ≤ length list
-        → weightedTotalOfRun w u bytes lanes list
-        ≡ weightedTotal w u (studyOf bytes lanes .road .n) (engineAfter (studyOf bytes lanes)) (firstStep (runSays (studyOf bytes lanes)) (studyOf bytes lanes .steps))
-    unfolding weightedTotalOfRun
-    weighted-long l =
-        let a = studyOf bytes lanes in
-        ap (weightedTotal w u (a .road .n) (engineAfter a)) (ap (stepsMade a) (runs-long bytes lanes taken list l) ∙ end-made a (runSays a) (engineAfter a))

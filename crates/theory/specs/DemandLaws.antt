@@ -11,8 +11,8 @@ use Rattle.model.specs.Flow.{cumulativeAt}
 use Rattle.theory.specs.RunsLaws.{ReleasesFitUpTo, StudyOk, engine-greatest, rivals-self, run-behind}
 use Rattle.theory.specs.RulesLaws.{outflows-obey}
 use Rattle.theory.specs.Behind.{Behind}
-use Rattle.model.specs.Running.{runSays, firstStep, ended, runEnd}
-use Rattle.model.specs.Judging.{judgeSays, judgeEnd}
+use Rattle.model.specs.Running.{runFault, firstStep, endWith, runEnd}
+use Rattle.model.specs.Judging.{judgeFault, judgeEnd}
 use Rattle.theory.specs.SchedulesLaws.{step-within, step-before, end-all, end-state, run-fits, run-reached, judge-reached, obeys-faults, faults-obeys}
 use Rattle.model.specs.Demand.{Ahead, GreatestIn}
 
@@ -30,13 +30,13 @@ behind-ahead r s t b = record {
 module _ (a : Study) (ok : StudyOk a) where
   -- the steps that running makes, and those that judging makes
   abbrev K : ℕ
-  K = firstStep (runSays a) (a .steps)
+  K = firstStep (runFault a) (a .steps)
 
   abbrev J : List ℕ → ℕ
-  J zs = firstStep (judgeSays a zs) (a .steps)
+  J zs = firstStep (judgeFault a zs) (a .steps)
 
   fits : ReleasesFitUpTo a K
-  fits = run-fits a K (step-before (runSays a) (a .steps))
+  fits = run-fits a K (step-before (runFault a) (a .steps))
 
   -- no schedule of the study is ahead of the engine
   pub engine-best : (zs : List ℕ) (k : ℕ) → k ≤ K → ObeysUpTo a (proposedAt a zs) k → Ahead (a .road) (engineAfter a k) (scheduledAt a zs k)
@@ -64,24 +64,24 @@ module _ (a : Study) (ok : StudyOk a) where
     pub own-judged : K ≡ a .steps → judgeEnd a out ≡ runEnd a
     own-judged e =
         let n : J out ≡ a .steps =
-        omega (arith, step-within (judgeSays a out) (a .steps), obeys-faults a ok out (a .steps) (le-refl (a .steps)) (λ j l. own-obeys j (omega arith))) in
-        end-all a (judgeSays a out) (scheduledAt a out) n
-        ∙ ap (ended 0 0 0 (a .road)) (own-state (a .steps) (omega arith))
-        ∙ sym (end-all a (runSays a) (engineAfter a) e)
+        omega (arith, step-within (judgeFault a out) (a .steps), obeys-faults a ok out (a .steps) (le-refl (a .steps)) (λ j l. own-obeys j (omega arith))) in
+        end-all a (judgeFault a out) (scheduledAt a out) n
+        ∙ ap (endWith 0 0 0 (a .road)) (own-state (a .steps) (omega arith))
+        ∙ sym (end-all a (runFault a) (engineAfter a) e)
 
   -- the states returned are those after the steps made
   pub run-done : runEnd a .state .done ≡ a .start .done + K
   run-done =
-      ap (λ (u : State). u .done) (end-state a (runSays a) (engineAfter a))
-      ∙ run-reached a ok K (step-within (runSays a) (a .steps)) (step-before (runSays a) (a .steps)) .done
+      ap (λ (u : State). u .done) (end-state a (runFault a) (engineAfter a))
+      ∙ run-reached a ok K (step-within (runFault a) (a .steps)) (step-before (runFault a) (a .steps)) .done
 
   pub judge-done : (zs : List ℕ) → judgeEnd a zs .state .done ≡ a .start .done + J zs
   judge-done zs =
-      ap (λ (u : State). u .done) (end-state a (judgeSays a zs) (scheduledAt a zs))
-      ∙ judge-reached a ok zs (J zs) (step-within (judgeSays a zs) (a .steps)) (step-before (judgeSays a zs) (a .steps)) .done
+      ap (λ (u : State). u .done) (end-state a (judgeFault a zs) (scheduledAt a zs))
+      ∙ judge-reached a ok zs (J zs) (step-within (judgeFault a zs) (a .steps)) (step-before (judgeFault a zs) (a .steps)) .done
 
   pub returned-ahead : (zs : List ℕ) → runEnd a .state .done ≡ judgeEnd a zs .state .done → Ahead (a .road) (runEnd a .state) (judgeEnd a zs .state)
   returned-ahead zs e =
       let k : K ≡ J zs = omega (arith, run-done, e, judge-done zs) in
-      rw (end-state a (runSays a) (engineAfter a), end-state a (judgeSays a zs) (scheduledAt a zs), ← k)
+      rw (end-state a (runFault a) (engineAfter a), end-state a (judgeFault a zs) (scheduledAt a zs), ← k)
       (engine-best zs K (le-refl K) (λ j l. faults-obeys a ok zs j (omega (arith, k))))

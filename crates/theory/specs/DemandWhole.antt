@@ -20,13 +20,13 @@ use Rattle.model.specs.Schedules.{Study, tableSize, scheduleAfter, engineAfter,
 use Rattle.theory.specs.RunsLaws.{StudyOk}
 use Rattle.model.specs.Reading.{readingOf, studyOf}
 use Rattle.reading.specs.Numbers.{read-numbers}
-use Rattle.model.specs.Running.{runSays, firstStep, EndAnswer, noState, runEnd, runningOf, stepsMade, tableOf, listAfter}
-use Rattle.model.specs.Judging.{judgeSays, judgeEnd, judgingOf}
+use Rattle.model.specs.Running.{runFault, firstStep, EndAnswer, noState, runEnd, runningOf, stepsMade, tableOf, listAfter}
+use Rattle.model.specs.Judging.{judgeFault, judgeEnd, judgingOf}
 use Rattle.theory.specs.TableLaws.{flowsOf, length-flows, flows-row, table-row, table-front}
 use Rattle.theory.specs.SchedulesLaws.{step-within, end-made, end-state, end-road, end-number, run-began, obeys-faults, faults-obeys}
 use Rattle.theory.specs.RunEnds.{runs-short, runs-long, writes-short, writes-long, judges-length, judges-ends}
 use Rattle.theory.specs.Readable.{readable}
-use Rattle.model.specs.Demand.{Ahead, Reaches, Taken, Demand, Grounds, Promised}
+use Rattle.model.specs.Demand.{Ahead, Reaches, Openable, Demand, Grounds, DemandAndGrounds}
 use Rattle.theory.specs.DemandLaws.{own-state, own-obeys, own-greatest, own-best, own-judged, run-done, judge-done, returned-ahead}
 
 -- a state with every F 0
@@ -48,22 +48,22 @@ fresh-ahead r u v a b = record {
 fresh-empty : (r : Road) → Fresh r emptyState
 fresh-empty r = record { gate = refl; cell = λ i l. zeros-at i; rampTime = refl; total = refl }
 
-module _ (bytes lanes : List ℕ) (taken : Taken bytes lanes) where
+module _ (bytes lanes : List ℕ) (openable : Openable bytes lanes) where
   abbrev a : Study
   a = studyOf bytes lanes
 
   ok : StudyOk (studyOf bytes lanes)
-  ok = readable bytes lanes (readingOf bytes) refl (taken .reads) (taken .opens) .ok
+  ok = readable bytes lanes (readingOf bytes) refl (openable .reads) (openable .opens) .ok
 
   abbrev K : ℕ
-  K = firstStep (runSays a) (a .steps)
+  K = firstStep (runFault a) (a .steps)
 
   abbrev J : List ℕ → ℕ
-  J zs = firstStep (judgeSays a zs) (a .steps)
+  J zs = firstStep (judgeFault a zs) (a .steps)
 
   fresh-start : Fresh (a .road) (a .start)
   fresh-start =
-      let n = read-numbers bytes (readingOf bytes) refl (taken .reads) in
+      let n = read-numbers bytes (readingOf bytes) refl (openable .reads) in
       record {
         gate = n .gateCumulative;
         cell = λ i l. rw (n .cumulative) (zeros-at i);
@@ -76,13 +76,13 @@ module _ (bytes lanes : List ℕ) (taken : Taken bytes lanes) where
   unfolding engineAfter
   run-fresh h =
       let z : K ≡ 0 = omega (arith, run-done a ok, h) in
-      subst⁻¹ (Fresh (a .road)) (end-state a (runSays a) (engineAfter a) ∙ ap (engineAfter a) z) fresh-start
+      subst⁻¹ (Fresh (a .road)) (end-state a (runFault a) (engineAfter a) ∙ ap (engineAfter a) z) fresh-start
 
   judge-fresh : (zs : List ℕ) → judgeEnd a zs .state .done ≡ 0 → Fresh (a .road) (judgeEnd a zs .state)
   unfolding scheduleAfter
   judge-fresh zs h =
       let z : J zs ≡ 0 = omega (arith, judge-done a ok zs, h) in
-      subst⁻¹ (Fresh (a .road)) (end-state a (judgeSays a zs) (scheduledAt a zs) ∙ ap (scheduledAt a zs) z) fresh-start
+      subst⁻¹ (Fresh (a .road)) (end-state a (judgeFault a zs) (scheduledAt a zs) ∙ ap (scheduledAt a zs) z) fresh-start
 
   -- a schedule has the right length, or not
   pub sized : (zs : List ℕ) → (length zs ≡ tableSize (studyOf bytes lanes)) ⊎ ((length zs ≡ tableSize (studyOf bytes lanes)) → ⊥)
@@ -95,26 +95,26 @@ module _ (bytes lanes : List ℕ) (taken : Taken bytes lanes) where
   -- a schedule of the right length: it reaches the steps that judging makes, and the state returned is its own
   module _ (zs : List ℕ) (right : length zs ≡ tableSize (studyOf bytes lanes)) where
     answer : judgingOf bytes lanes zs ≡ judgeEnd a zs
-    answer = judges-ends bytes lanes taken zs right
+    answer = judges-ends bytes lanes openable zs right
 
     judged-made : stepsMade a (judgingOf bytes lanes zs) ≡ J zs
-    judged-made = ap (stepsMade a) answer ∙ end-made a (judgeSays a zs) (scheduledAt a zs)
+    judged-made = ap (stepsMade a) answer ∙ end-made a (judgeFault a zs) (scheduledAt a zs)
 
     judge-reaches : (k : ℕ) → Reaches a zs k → k ≤ stepsMade a (judgingOf bytes lanes zs)
     judge-reaches k h = omega (arith, judged-made, obeys-faults a ok zs k (h .within) (h .obeys))
 
     judge-reached : Reaches a zs (stepsMade a (judgingOf bytes lanes zs))
     judge-reached = record {
-      within = omega (arith, judged-made, step-within (judgeSays a zs) (a .steps));
+      within = omega (arith, judged-made, step-within (judgeFault a zs) (a .steps));
       obeys = λ j l. faults-obeys a ok zs j (omega (arith, judged-made));
     }
 
     judged-state : judgingOf bytes lanes zs .state ≡ scheduledAt a zs (stepsMade a (judgingOf bytes lanes zs))
     judged-state =
-        ap (λ (e : EndAnswer). e .state) answer ∙ end-state a (judgeSays a zs) (scheduledAt a zs) ∙ ap (scheduledAt a zs) (sym judged-made)
+        ap (λ (e : EndAnswer). e .state) answer ∙ end-state a (judgeFault a zs) (scheduledAt a zs) ∙ ap (scheduledAt a zs) (sym judged-made)
 
     judged-road : judgingOf bytes lanes zs .road ≡ a .road
-    judged-road = ap (λ (e : EndAnswer). e .road) answer ∙ end-road a (judgeSays a zs) (scheduledAt a zs)
+    judged-road = ap (λ (e : EndAnswer). e .road) answer ∙ end-road a (judgeFault a zs) (scheduledAt a zs)
 
   -- a state compared with the one that judging returns, for either length of the schedule
   against : (u : State) (zs : List ℕ) → u .done ≡ judgingOf bytes lanes zs .state .done
@@ -123,10 +123,10 @@ module _ (bytes lanes : List ℕ) (taken : Taken bytes lanes) where
       → (u .done ≡ 0 → Fresh (studyOf bytes lanes .road) u) → Ahead (studyOf bytes lanes .road) u (judgingOf bytes lanes zs .state)
   against u zs h right fresh = ⊎-elim
       (λ (l : length zs ≡ tableSize a).
-      let j = judges-ends bytes lanes taken zs l in
+      let j = judges-ends bytes lanes openable zs l in
       subst⁻¹ (λ (e : EndAnswer). Ahead (a .road) u (e .state)) j (right l (h ∙ ap (λ (e : EndAnswer). e .state .done) j)))
       (λ n.
-      let j = judges-length bytes lanes taken zs n in
+      let j = judges-length bytes lanes openable zs n in
       subst⁻¹ (λ (e : EndAnswer). Ahead (a .road) u (e .state)) j
       (fresh-ahead (a .road) u emptyState (fresh (h ∙ ap (λ (e : EndAnswer). e .state .done) j)) (fresh-empty (a .road))))
       (sized zs)
@@ -165,11 +165,11 @@ module _ (bytes lanes : List ℕ) (taken : Taken bytes lanes) where
       judgedRoad = judged-road;
     }
 
-    pub unbegun : Promised bytes lanes list (noState number place)
+    pub unbegun : DemandAndGrounds bytes lanes list (noState number place)
     unbegun = record { demand = unbegun-demand; grounds = unbegun-grounds }
 
   -- the same for a list that is too short
-  short : (list : List ℕ) → Promised bytes lanes list (noState 11 0)
+  short : (list : List ℕ) → DemandAndGrounds bytes lanes list (noState 11 0)
   unfolding began oneOf
   short list = unbegun list 11 0 (λ e. omega arith) refl
 
@@ -179,7 +179,7 @@ module _ (bytes lanes : List ℕ) (taken : Taken bytes lanes) where
     out = tableOf a list K
 
     made : stepsMade a (runEnd a) ≡ K
-    made = end-made a (runSays a) (engineAfter a)
+    made = end-made a (runFault a) (engineAfter a)
 
     same : (j : ℕ) → j < K → proposedAt a out j ≡ outflowsAt a j
     same j l = table-row a ok list K j l
@@ -191,7 +191,7 @@ module _ (bytes lanes : List ℕ) (taken : Taken bytes lanes) where
     judged : K ≡ a .steps → judgingOf bytes lanes (take (tableSize a) out) ≡ runEnd a
     judged f =
         ap (judgingOf bytes lanes) (table f)
-        ∙ judges-ends bytes lanes taken (flowsOf a (a .steps)) (length-flows a ok (a .steps))
+        ∙ judges-ends bytes lanes openable (flowsOf a (a .steps)) (length-flows a ok (a .steps))
         ∙ own-judged a ok (flowsOf a (a .steps)) (λ j l. flows-row a ok (a .steps) j (omega (arith, f))) f
 
     long-demand : Demand bytes lanes out (runEnd a)
@@ -204,13 +204,13 @@ module _ (bytes lanes : List ℕ) (taken : Taken bytes lanes) where
     long-grounds : Grounds bytes lanes out (runEnd a)
     long-grounds = record {
       own = λ j l. record {
-        within = omega (arith, made, step-within (runSays a) (a .steps));
+        within = omega (arith, made, step-within (runFault a) (a .steps));
         obeys = λ i m. own-obeys a ok out same i (omega (arith, made));
       };
-      ownState = λ n. end-state a (runSays a) (engineAfter a) ∙ sym (own-state a ok out same K (le-refl K)) ∙ ap (scheduledAt a out) (sym made);
-      ownRoad = λ n. end-road a (runSays a) (engineAfter a);
-      ownJudged = λ h. judged (end-number a (runSays a) (engineAfter a) h);
-      allRows = λ h. made ∙ end-number a (runSays a) (engineAfter a) h;
+      ownState = λ n. end-state a (runFault a) (engineAfter a) ∙ sym (own-state a ok out same K (le-refl K)) ∙ ap (scheduledAt a out) (sym made);
+      ownRoad = λ n. end-road a (runFault a) (engineAfter a);
+      ownJudged = λ h. judged (end-number a (runFault a) (engineAfter a) h);
+      allRows = λ h. made ∙ end-number a (runFault a) (engineAfter a) h;
       noRows = λ h. absurd (let e = run-began a in let z : _≡_ {A = ℕ} 0 1 = cc in omega arith);
       reaches = judge-reaches;
       reached = judge-reached;
@@ -218,10 +218,10 @@ module _ (bytes lanes : List ℕ) (taken : Taken bytes lanes) where
       judgedRoad = judged-road;
     }
 
-  pub promised : (list : List ℕ) → Promised bytes lanes (listAfter bytes lanes list) (runningOf bytes lanes list)
-  promised list = ⊎-elim
+  pub demand-and-grounds : (list : List ℕ) → DemandAndGrounds bytes lanes (listAfter bytes lanes list) (runningOf bytes lanes list)
+  demand-and-grounds list = ⊎-elim
       (λ (l : tableSize a ≤ length list).
-      rw (writes-long bytes lanes taken list l, runs-long bytes lanes taken list l) (record { demand = long-demand list l; grounds = long-grounds list l }))
+      rw (writes-long bytes lanes openable list l, runs-long bytes lanes openable list l) (record { demand = long-demand list l; grounds = long-grounds list l }))
       (λ (l : length list < tableSize a).
-      rw (writes-short bytes lanes taken list l, runs-short bytes lanes taken list l) (short list))
+      rw (writes-short bytes lanes openable list l, runs-short bytes lanes openable list l) (short list))
       (order (tableSize a) (length list))

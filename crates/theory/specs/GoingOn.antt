@@ -14,8 +14,8 @@ use Rattle.model.specs.declared.Road.{Road}
 use Rattle.model.specs.declared.Law.{Law}
 use Rattle.model.specs.Refusals.{FaultAnswer}
 use Rattle.model.specs.Schedules.{Study, roadAt, scheduleAfter, engineAfter, outflowsAt, proposedAt, scheduledAt}
-use Rattle.model.specs.Running.{EndAnswer, ended, runSays, firstStep, endOf, runEnd, stepsMade}
-use Rattle.model.specs.Judging.{judgeSays, judgeEnd}
+use Rattle.model.specs.Running.{EndAnswer, endWith, runFault, firstStep, endOf, runEnd, stepsMade}
+use Rattle.model.specs.Judging.{judgeFault, judgeEnd}
 use Rattle.model.specs.Filling.{MeterState, meteredOf}
 use Rattle.model.specs.Filling.{meteredFrom}
 use Rattle.theory.specs.StepLaws.{number-of}
@@ -38,40 +38,40 @@ pub record EndsAs (a b : Study) (k : ℕ) (e f : EndAnswer) : Type 0 where
   pub state : e .state ≡ f .state
 
 -- after k steps without a fault: from the faults of each step, and from the states
-module _ {a b : Study} {k : ℕ} (h : Rest a b k) (says tells : ℕ → FaultAnswer) (after then : ℕ → State)
-    (none : (j : ℕ) → j < k → says j .number ≡ 0) (same : (j : ℕ) → j < b .steps → tells j ≡ says (k + j))
+module _ {a b : Study} {k : ℕ} (h : Rest a b k) (faults faults′ : ℕ → FaultAnswer) (after then : ℕ → State)
+    (none : (j : ℕ) → j < k → faults j .number ≡ 0) (same : (j : ℕ) → j < b .steps → faults′ j ≡ faults (k + j))
     (states : (j : ℕ) → j ≤ b .steps → then j ≡ after (k + j)) where
   abbrev K : ℕ
-  K = firstStep tells (b .steps)
+  K = firstStep faults′ (b .steps)
 
-  within : firstStep tells (b .steps) ≤ b .steps
-  within = step-within tells (b .steps)
+  within : firstStep faults′ (b .steps) ≤ b .steps
+  within = step-within faults′ (b .steps)
 
-  faultless : Faultless (λ j. says j .number) (a .steps) (k + K)
+  faultless : Faultless (λ j. faults j .number) (a .steps) (k + K)
   faultless = record {
     within = omega (arith, h .steps, within);
     before = λ j l. ⊎-elim
         (λ (m : k ≤ j).
         let e : k + (j - k) ≡ j = omega arith in
-        ap (λ (i : ℕ). says i .number) (sym e)
+        ap (λ (i : ℕ). faults i .number) (sym e)
         ∙ sym (number-of (same (j - k) (omega (arith, within))))
-        ∙ step-before tells (b .steps) (j - k) (omega arith))
+        ∙ step-before faults′ (b .steps) (j - k) (omega arith))
         (λ (m : j < k). none j m)
         (order k j);
   }
 
-  pub first-rest : firstStep says (a .steps) ≡ k + firstStep tells (b .steps)
+  pub first-rest : firstStep faults (a .steps) ≡ k + firstStep faults′ (b .steps)
   first-rest = ⊎-elim
       (λ (l : b .steps ≤ K). sym (faultless-end faultless (omega (arith, h .steps))))
-      (λ (l : K < b .steps). sym (faultless-stop faultless (omega (arith, h .steps)) (number-of (same K l)) (fault-there (λ j. tells j .number) (b .steps) l)))
+      (λ (l : K < b .steps). sym (faultless-stop faultless (omega (arith, h .steps)) (number-of (same K l)) (fault-there (λ j. faults′ j .number) (b .steps) l)))
       (order (b .steps) K)
 
-  pub end-rest : EndsAs a b k (endOf a says after) (endOf b tells then)
+  pub end-rest : EndsAs a b k (endOf a faults after) (endOf b faults′ then)
   end-rest = ⊎-elim
       (λ (l : b .steps ≤ K).
       let e : K ≡ b .steps = omega (arith, within) in
-      let x = end-all a says after (omega (arith, first-rest, h .steps)) in
-      let y = end-all b tells then e in
+      let x = end-all a faults after (omega (arith, first-rest, h .steps)) in
+      let y = end-all b faults′ then e in
       rw (x, y) (record {
         number = refl;
         made = sym (h .steps);
@@ -80,15 +80,15 @@ module _ {a b : Study} {k : ℕ} (h : Rest a b k) (says tells : ℕ → FaultAns
         state = ap after (sym (h .steps)) ∙ sym (states (b .steps) (le-refl (b .steps)));
       }))
       (λ (l : K < b .steps).
-      let f : says (k + K) ≡ tells K = sym (same K l) in
-      let x : endOf a says after ≡ ended (says (k + K) .number) (k + K) (says (k + K) .place) (a .road) (after (k + K)) =
-      rw first-rest at (end-fault a says after (omega (arith, first-rest, h .steps))) in
+      let f : faults (k + K) ≡ faults′ K = sym (same K l) in
+      let x : endOf a faults after ≡ endWith (faults (k + K) .number) (k + K) (faults (k + K) .place) (a .road) (after (k + K)) =
+      rw first-rest at (end-fault a faults after (omega (arith, first-rest, h .steps))) in
       record {
-        number = ap (λ (e : EndAnswer). e .number) x ∙ ap (λ (q : FaultAnswer). q .number) f ∙ sym (ap (λ (e : EndAnswer). e .number) (end-fault b tells then l));
-        made = end-made a says after ∙ first-rest ∙ ap (λ (j : ℕ). k + j) (sym (end-made b tells then));
-        place = ap (λ (e : EndAnswer). e .place) x ∙ ap (λ (q : FaultAnswer). q .place) f ∙ sym (ap (λ (e : EndAnswer). e .place) (end-fault b tells then l));
-        road = end-road a says after ∙ sym (h .road) ∙ sym (end-road b tells then);
-        state = end-state a says after ∙ ap after first-rest ∙ sym (states K within) ∙ sym (end-state b tells then);
+        number = ap (λ (e : EndAnswer). e .number) x ∙ ap (λ (q : FaultAnswer). q .number) f ∙ sym (ap (λ (e : EndAnswer). e .number) (end-fault b faults′ then l));
+        made = end-made a faults after ∙ first-rest ∙ ap (λ (j : ℕ). k + j) (sym (end-made b faults′ then));
+        place = ap (λ (e : EndAnswer). e .place) x ∙ ap (λ (q : FaultAnswer). q .place) f ∙ sym (ap (λ (e : EndAnswer). e .place) (end-fault b faults′ then l));
+        road = end-road a faults after ∙ sym (h .road) ∙ sym (end-road b faults′ then);
+        state = end-state a faults after ∙ ap after first-rest ∙ sym (states K within) ∙ sym (end-state b faults′ then);
       })
       (order (b .steps) K)
 
@@ -119,8 +119,8 @@ module _ {a b : Study} {k : ℕ} (h : Rest a b k) where
     engine-rest zero l = s ∙ ap (engineAfter a) (sym (add-zero k))
     engine-rest (suc j) l = rw (engine-rest j (omega arith), h .roads j l, h .rows j l, add-suc k j)
 
-    pub says-rest : (j : ℕ) → j < b .steps → runSays b j ≡ runSays a (k + j)
-    says-rest j l = rw (engine-rest j (omega arith), h .roads j l, h .rows j l)
+    pub faults-rest : (j : ℕ) → j < b .steps → runFault b j ≡ runFault a (k + j)
+    faults-rest j l = rw (engine-rest j (omega arith), h .roads j l, h .rows j l)
 
     pub outflows-rest : (j : ℕ) → j < b .steps → outflowsAt b j ≡ outflowsAt a (k + j)
     outflows-rest j l = rw (engine-rest j (omega arith), h .roads j l, h .rows j l)
@@ -136,13 +136,13 @@ module _ {a b : Study} {k : ℕ} (h : Rest a b k) where
         ∙ append-assoc (flowsOf a k) (flowsOf b j) (outflowsAt b j)
 
     -- if the first k steps have no fault, the whole run ends as the rest does
-    pub run-rest : ((j : ℕ) → j < k → runSays a j .number ≡ 0) → EndsAs a b k (runEnd a) (runEnd b)
-    run-rest none = end-rest h (runSays a) (runSays b) (engineAfter a) (engineAfter b) none says-rest engine-rest
+    pub run-rest : ((j : ℕ) → j < k → runFault a j .number ≡ 0) → EndsAs a b k (runEnd a) (runEnd b)
+    run-rest none = end-rest h (runFault a) (runFault b) (engineAfter a) (engineAfter b) none faults-rest engine-rest
 
   -- so does judging a schedule whose first k rows have no fault; the rest begins with its own state after them
   pub judge-rest : (ys zs : List ℕ) → b .start ≡ scheduledAt a ys k → ((j : ℕ) → j < b .steps → proposedAt b zs j ≡ proposedAt a ys (k + j))
-      → ((j : ℕ) → j < k → judgeSays a ys j .number ≡ 0) → EndsAs a b k (judgeEnd a ys) (judgeEnd b zs)
+      → ((j : ℕ) → j < k → judgeFault a ys j .number ≡ 0) → EndsAs a b k (judgeEnd a ys) (judgeEnd b zs)
   judge-rest ys zs s same none =
       let states = schedule-rest (proposedAt a ys) (proposedAt b zs) s same in
-      end-rest h (judgeSays a ys) (judgeSays b zs) (scheduledAt a ys) (scheduledAt b zs) none
+      end-rest h (judgeFault a ys) (judgeFault b zs) (scheduledAt a ys) (scheduledAt b zs) none
       (λ j l. rw (states j (omega arith), h .roads j l, h .rows j l, same j l)) states

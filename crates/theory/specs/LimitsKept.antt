@@ -65,9 +65,9 @@ module _ (r : Road) (s : State) (row y : List ℕ) (ok : InputOk r s row) (z : S
         )
 
     -- the limits after s steps become those after s + 1
-    pub kept : StateOk r T
+    pub limits-kept : StateOk r T
     unfolding cumulativeAt
-    kept = record {
+    limits-kept = record {
       done = omega (arith, next-done r s row y);
       total = rw (next-done r s row y) (omega (arith, next-total r s row y, ok .state .total, present-bound));
       gateQueue = rw (next-done r s row y) gate-queue-kept;
@@ -93,7 +93,7 @@ module _ (r q : Road) (h : StepRoad r q) (s : State) (row : List ℕ) (z : Sized
   step-kept later l =
       input-ok r N later (record {
         road = input-facts r s row in-limits .road;
-        state = state-back h N (kept q s row (outflowsOf q s row) input-on z (outflows-obey q s row ok) d);
+        state = state-back h N (limits-kept q s row (outflowsOf q s row) input-on z (outflows-obey q s row ok) d);
         row = l;
       })
 

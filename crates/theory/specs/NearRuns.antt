@@ -18,7 +18,7 @@ use Rattle.theory.specs.Finer.{timesOf, scaledState, scaled, reachOf}
 use Rattle.theory.specs.FinerLaws.{FinerRoad, finer-alike}
 use Rattle.theory.specs.Coupling.{Coupling, coupled-on, coupled-back, coupled-start, coupled-step, scaled-nothing, onward-nothing}
 use Rattle.theory.specs.StepRules.{DecidedOutflows, greatest-decided}
-use Rattle.theory.specs.WholeShares.{AllOn, all-on-alike, whole-most, whole-least}
+use Rattle.theory.specs.WholeShares.{SharesWhole, shares-whole-alike, whole-most, whole-least}
 use Rattle.theory.specs.AnyShares.{Most, Least, most-alike, least-alike, most-step, least-step}
 
 -- demand or room decides at each place in the first k steps of a schedule, as in the papers' rules
@@ -26,14 +26,14 @@ abbrev pub Deciding : Study → (ℕ → List ℕ) → ℕ → Type 0
 Deciding a ys k = (j : ℕ) → j < k → DecidedOutflows (roadAt a j) (scheduleAfter a ys j) (a .rows j) (ys j)
 
 -- what the theorems require from a study and from K
-pub record Countable (K : ℕ) (a : Study) : Type 0 where
+pub record FinerRequires (K : ℕ) (a : Study) : Type 0 where
   pub some : 0 < K
   pub ok : StudyOk a
   -- no step is done at the start
   pub zero : a .start .done ≡ 0
   pub roads : (j : ℕ) → FinerRoad K (roadAt a j) (roadAt (scaled K a) j)
 
-module _ {K : ℕ} {a : Study} (h : Countable K a) where
+module _ {K : ℕ} {a : Study} (h : FinerRequires K a) where
   abbrev r : Road
   r = a .road
 
@@ -86,7 +86,7 @@ module _ {K : ℕ} {a : Study} (h : Countable K a) where
         (own k (le-refl (suc k))) (fine k (le-refl (suc k))) (coupled-on K (h .ok .roads k) (S k) (T k) before))
 
     -- shares 1,000 before the last: the finer F is at most k × K above K times F, and never below
-    pub whole-most-after : AllOn (a .road) → (k : ℕ) → ObeysUpTo a ys k → ObeysUpTo (scaled K a) zs k → Deciding a ys k
+    pub whole-most-after : SharesWhole (a .road) → (k : ℕ) → ObeysUpTo a ys k → ObeysUpTo (scaled K a) zs k → Deciding a ys k
         → (p : ℕ) → p ≤ a .road .n → cumulativeAt (scheduleAfter (scaled K a) zs k) p ≤ K * cumulativeAt (scheduleAfter a ys k) p + k * K
     unfolding scheduleAfter
     whole-most-after on zero own fine decide p l = omega (arith, scaled-nothing K r (a .start) (h .ok .road) nothing p l)
@@ -98,11 +98,11 @@ module _ {K : ℕ} {a : Study} (h : Countable K a) where
         let e : k * K + K ≡ suc k * K = omega arith in
         subst (λ (u : ℕ). cumulativeAt (scheduleAfter (scaled K a) zs (suc k)) p ≤ K * cumulativeAt (scheduleAfter a ys (suc k)) p + u) e
         (whole-most K (k * K) (roadAt a k) (roadAt (scaled K a) k) (S k) (T k) (a .rows k) (ys k) (zs k) (h .some) (h .ok .roads k .ok) (h .roads k)
-        (all-on-alike (a .road) (roadAt a k) (step-on k) on) (own k (le-refl (suc k))) (fine k (le-refl (suc k)))
+        (shares-whole-alike (a .road) (roadAt a k) (step-on k) on) (own k (le-refl (suc k))) (fine k (le-refl (suc k)))
         (coupled-on K (h .ok .roads k) (S k) (T k) (coupled k own′ fine′))
         (λ i m. before i (omega (arith, same))) (decide k (le-refl (suc k))) p (omega (arith, same)))
 
-    pub whole-least-after : AllOn (a .road) → (k : ℕ) → ObeysUpTo a ys k → ObeysUpTo (scaled K a) zs k → Deciding (scaled K a) zs k
+    pub whole-least-after : SharesWhole (a .road) → (k : ℕ) → ObeysUpTo a ys k → ObeysUpTo (scaled K a) zs k → Deciding (scaled K a) zs k
         → (p : ℕ) → p ≤ a .road .n → K * cumulativeAt (scheduleAfter a ys k) p ≤ cumulativeAt (scheduleAfter (scaled K a) zs k) p
     unfolding scheduleAfter
     whole-least-after on zero own fine decide p l = omega (arith, ap (λ (x : ℕ). K * x) (nothing p l))
@@ -112,7 +112,7 @@ module _ {K : ℕ} {a : Study} (h : Countable K a) where
         let before = whole-least-after on k own′ fine′ (λ j m. decide j (omega arith)) in
         let same = h .ok .roads k .n in
         whole-least K (k * K) (roadAt a k) (roadAt (scaled K a) k) (S k) (T k) (a .rows k) (ys k) (zs k) (h .some) (h .ok .roads k .ok) (h .roads k)
-        (all-on-alike (a .road) (roadAt a k) (step-on k) on) (own k (le-refl (suc k))) (fine k (le-refl (suc k)))
+        (shares-whole-alike (a .road) (roadAt a k) (step-on k) on) (own k (le-refl (suc k))) (fine k (le-refl (suc k)))
         (coupled-on K (h .ok .roads k) (S k) (T k) (coupled k own′ fine′))
         (λ i m. before i (omega (arith, same))) (decide k (le-refl (suc k))) p (omega (arith, same))
 

@@ -22,7 +22,7 @@ use Rattle.model.specs.Move.{nextOf}
 use Rattle.model.specs.Stepping.{releasesOf, tableFault}
 use Rattle.theory.specs.StepLaws.{number-of, table-passes}
 use Rattle.model.specs.Judging.{verdictOf, judgeEnd, judgingOf}
-use Rattle.theory.specs.OpenRoad.{same-road, other-road, opened-all}
+use Rattle.theory.specs.OpenRoad.{same-road, other-road, open-road-all}
 use Rattle.model.specs.Reading.{readingOf, studyOf}
 use Rattle.reading.specs.Within.{read-within}
 use Rattle.model.specs.Running.{EndAnswer, noState, endOf, openingOf, runEnd, runningOf, stepsMade, tableOf, listAfter}
@@ -39,11 +39,11 @@ plainScheduled r s rows ys zero = s
 plainScheduled r s rows ys (suc k) = nextOf r (plainScheduled r s rows ys k) (rows k) (ys k)
 
 -- the ends of running and judging, and the rows that running writes
-abbrev pub plainRun : Study → EndAnswer
-plainRun a = endOf a (λ k. releasesOf (a .road) (plainAfter (a .road) (a .start) (a .rows) k) (a .rows k)) (plainAfter (a .road) (a .start) (a .rows))
+abbrev pub plainRunEnd : Study → EndAnswer
+plainRunEnd a = endOf a (λ k. releasesOf (a .road) (plainAfter (a .road) (a .start) (a .rows) k) (a .rows k)) (plainAfter (a .road) (a .start) (a .rows))
 
-abbrev pub plainJudge : Study → List ℕ → EndAnswer
-plainJudge a zs =
+abbrev pub plainJudgeEnd : Study → List ℕ → EndAnswer
+plainJudgeEnd a zs =
     endOf a
     (λ k. verdictOf (a .road) (plainScheduled (a .road) (a .start) (a .rows) (proposedAt a zs) k) (a .rows k) (proposedAt a zs k))
     (plainScheduled (a .road) (a .start) (a .rows) (proposedAt a zs))
@@ -56,13 +56,13 @@ unfoldable pub plainRunning : List ℕ → List ℕ → EndAnswer
 plainRunning bytes list =
     unless (eqb (readingOf bytes .number) 0) (noState (readingOf bytes .number) (readingOf bytes .place))
     (unless (leb (tableSize (studyOf bytes [])) (length list)) (noState 11 0)
-    (plainRun (studyOf bytes [])))
+    (plainRunEnd (studyOf bytes [])))
 
 unfoldable pub plainJudging : List ℕ → List ℕ → EndAnswer
 plainJudging bytes zs =
     unless (eqb (readingOf bytes .number) 0) (noState (readingOf bytes .number) (readingOf bytes .place))
     (unless (eqb (length zs) (tableSize (studyOf bytes []))) (noState 12 0)
-    (plainJudge (studyOf bytes []) zs))
+    (plainJudgeEnd (studyOf bytes []) zs))
 
 unfoldable pub plainList : List ℕ → List ℕ → List ℕ
 plainList bytes list =
@@ -81,12 +81,12 @@ module _ (a : Study) (one : (k : ℕ) → k < a .steps → roadAt a k ≡ a .roa
   scheduled-plain ys zero l = refl
   scheduled-plain ys (suc k) l = rw (scheduled-plain ys k (omega arith), one k l) refl
 
-  run-plain : runEnd a ≡ plainRun a
+  run-plain : runEnd a ≡ plainRunEnd a
   run-plain =
       end-same a _ _ (engineAfter a) (plainAfter (a .road) (a .start) (a .rows)) (λ k _ l. rw (one k l, after-plain k (omega arith)) refl)
       (λ k _. after-plain k)
 
-  judge-plain : (zs : List ℕ) → judgeEnd a zs ≡ plainJudge a zs
+  judge-plain : (zs : List ℕ) → judgeEnd a zs ≡ plainJudgeEnd a zs
   judge-plain zs =
       end-same a _ _ (scheduledAt a zs) (plainScheduled (a .road) (a .start) (a .rows) (proposedAt a zs))
       (λ k _ l. rw (one k l, scheduled-plain (proposedAt a zs) k (omega arith)) refl) (λ k _. scheduled-plain (proposedAt a zs) k)
@@ -118,8 +118,8 @@ module _ (bytes : List ℕ) where
       unless-elim Within (eqb (readingOf bytes .number) 0) (λ e. rw e (omega arith)) (λ _.
       unless-elim Within (leb (tableSize (studyOf bytes [])) (length list)) (λ _. omega arith) (λ _.
       let a = studyOf bytes [] in
-      let says : ℕ → FaultAnswer = λ k. releasesOf (a .road) (plainAfter (a .road) (a .start) (a .rows) k) (a .rows k) in
-      omega (arith, end-made a says (plainAfter (a .road) (a .start) (a .rows)), step-within says (a .steps))))
+      let faults : ℕ → FaultAnswer = λ k. releasesOf (a .road) (plainAfter (a .road) (a .start) (a .rows) k) (a .rows k) in
+      omega (arith, end-made a faults (plainAfter (a .road) (a .start) (a .rows)), step-within faults (a .steps))))
 
   pub empty-writes : (list : List ℕ) → listAfter bytes [] list ≡ plainList bytes list
   unfolding listAfter plainList
@@ -158,14 +158,14 @@ module _ (bytes table : List ℕ) (reads : readingOf bytes .number ≡ 0) (h : A
   pub open-one : (k : ℕ) → k < studyOf bytes table .steps → roadAt (studyOf bytes table) k ≡ studyOf bytes table .road
   open-one k l =
       sym (other-road a some k)
-      ∙ opened-all (a .road) (builtIn table (a .road .n)) (openIn table (a .road .n) k) road-ok
+      ∙ open-road-all (a .road) (builtIn table (a .road .n)) (openIn table (a .road .n) k) road-ok
       (λ i m. (h .some i m, ap (λ (x : List ℕ). at x i) (h .all k l)))
 
-  open-run : runEnd a ≡ plainRun (studyOf bytes [])
+  open-run : runEnd a ≡ plainRunEnd (studyOf bytes [])
   unfolding endOf
   open-run = run-plain a open-one
 
-  open-judge : (zs : List ℕ) → judgeEnd a zs ≡ plainJudge (studyOf bytes []) zs
+  open-judge : (zs : List ℕ) → judgeEnd a zs ≡ plainJudgeEnd (studyOf bytes []) zs
   unfolding endOf
   open-judge zs = judge-plain a open-one zs
 

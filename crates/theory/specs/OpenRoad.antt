@@ -27,9 +27,9 @@ module _ (r : Road) (built usable : List ℕ) where
   open-at lr i l = fill-at (λ j. openCapacity (at (r .capacity) j) (at built j) (at usable j)) (r .n) (r .capacity) i l lr
 
   -- if every open lane is built, no capacity is larger, so every limit holds
-  pub opened : RoadOk r → r .n ≤ length (r .capacity) → ((i : ℕ) → i < r .n → bitAnd (at usable i) (at built i) ≡ at usable i)
+  pub open-road-ok : RoadOk r → r .n ≤ length (r .capacity) → ((i : ℕ) → i < r .n → bitAnd (at usable i) (at built i) ≡ at usable i)
       → StepRoad r (openRoad r built usable)
-  opened ok lr within = record {
+  open-road-ok ok lr within = record {
     n = refl;
     share = refl;
     ramp = refl;
@@ -49,18 +49,18 @@ module _ (r : Road) (built usable : List ℕ) where
   }
 
   -- with all lanes open it is the road itself
-  pub opened-all : RoadOk r → ((i : ℕ) → i < r .n → (0 < at built i) × (at usable i ≡ at built i)) → openRoad r built usable ≡ r
-  opened-all ok all =
+  pub open-road-all : RoadOk r → ((i : ℕ) → i < r .n → (0 < at built i) × (at usable i ≡ at built i)) → openRoad r built usable ≡ r
+  open-road-all ok all =
       ap (withCapacity r)
       (fill-same (λ i. openCapacity (at (r .capacity) i) (at built i) (at usable i)) (at (r .capacity)) (r .n) (r .capacity)
       (λ i l. rw (all i l .1) (open-all (at (r .capacity) i) (at built i) (all i l .0) (omega (arith, ok .capacity i l))))
       ∙ fill-own (r .capacity) (r .n))
 
 -- a road that is nowhere worse is nowhere worse under the same lanes
-pub opened-wider : (a b : Road) (built usable : List ℕ) → a .n ≤ length (a .capacity) → b .n ≤ length (b .capacity) → Wider a b
+pub open-road-wider : (a b : Road) (built usable : List ℕ) → a .n ≤ length (a .capacity) → b .n ≤ length (b .capacity) → Wider a b
     → Wider (openRoad a built usable) (openRoad b built usable)
 unfolding capacityAt
-opened-wider a b built usable la lb h = record {
+open-road-wider a b built usable la lb h = record {
   alike = record { n = h .alike .n; share = h .alike .share };
   gate = h .gate;
   speed = h .speed;
@@ -99,7 +99,7 @@ module _ (a : Study) where
       go true e = step-road-self (a .road) ok
       go false e =
           let some = eqb-false (length (a .lanes)) 0 e in
-          opened (a .road) (builtIn (a .lanes) (a .road .n)) (openIn (a .lanes) (a .road .n) k) ok lr
+          open-road-ok (a .road) (builtIn (a .lanes) (a .road .n)) (openIn (a .lanes) (a .road .n) k) ok lr
           (table-within (a .lanes) (a .road .n) (a .steps) (t .right some) (t .cells some) k)
 
   -- the invariant of a loop over the steps for its road q: the study's road with other capacities, and with an empty table the study's road
@@ -108,7 +108,7 @@ module _ (a : Study) where
     pub same : length (a .lanes) ≡ 0 → q ≡ a .road
 
 -- how a turn of the loop changes q: to the road with the capacities of step k, or not at all with an empty table
-pub record Turned (a : Study) (q : Road) (k : ℕ) (v : Road) : Type 0 where
+pub record RoadTurn (a : Study) (q : Road) (k : ℕ) (v : Road) : Type 0 where
   pub before : OnRoad a q
   pub came : ((length (a .lanes) ≡ 0 → ⊥) × (v ≡ withCapacity q (stepRoad a k .capacity))) ⊎ ((length (a .lanes) ≡ 0) × (v ≡ q))
 
@@ -116,18 +116,18 @@ module _ {a : Study} where
   pub on-road : OnRoad a (a .road)
   on-road = record { other = refl; same = λ e. refl }
 
-  module _ {q : Road} {k : ℕ} {v : Road} (h : Turned a q k v) where
+  module _ {q : Road} {k : ℕ} {v : Road} (h : RoadTurn a q k v) where
     -- the result is the road of step k
-    pub turned-road : v ≡ roadAt a k
-    turned-road = ⊎-elim
+    pub turn-road : v ≡ roadAt a k
+    turn-road = ⊎-elim
         (λ (o : (length (a .lanes) ≡ 0 → ⊥) × (v ≡ withCapacity q (stepRoad a k .capacity))).
         o .1 ∙ ap (λ (r : Road). withCapacity r (stepRoad a k .capacity)) (h .before .other) ∙ other-road a (o .0) k)
         (λ (o : (length (a .lanes) ≡ 0) × (v ≡ q)). o .1 ∙ h .before .same (o .0) ∙ same-road a (o .0) k)
         (h .came)
 
     -- and it keeps the loop's invariant
-    pub turned-on : OnRoad a v
-    turned-on = ⊎-elim
+    pub turn-on-road : OnRoad a v
+    turn-on-road = ⊎-elim
         (λ (o : (length (a .lanes) ≡ 0 → ⊥) × (v ≡ withCapacity q (stepRoad a k .capacity))). record {
           other = ap (λ (r : Road). withCapacity r (a .road .capacity)) (o .1) ∙ h .before .other;
           same = λ e. absurd (o .0 e);

@@ -7,7 +7,7 @@ use borrow.Author.Tests.{eq-eqb, ne-eqb}
 use Rattle.numbers.specs.Tests.{unless-elim, fault-elim}
 use Rattle.model.specs.Reading.{ReadAnswer, refusedOf, readingOf, studyBy, studyOf}
 use Rattle.theory.specs.StepLaws.{number-of, table-empty}
-use Rattle.model.specs.Demand.{Taken}
+use Rattle.model.specs.Demand.{Openable}
 use Rattle.model.specs.Running.{lanesFault, openingOf}
 use Rattle.theory.specs.Readable.{Readable, readable}
 
@@ -30,11 +30,11 @@ module _ (bytes lanes : List ℕ) where
       rw (eq-eqb (lanesFault (studyOf bytes lanes) .number) 0 z)
       (unless-elim (λ (x : ReadAnswer). x ≡ readingOf bytes) (eqb (readingOf bytes .number) 0) (λ _. refl) (λ _. refl))
 
-  pub opening-taken : Taken bytes lanes → openingOf bytes lanes ≡ readingOf bytes
-  opening-taken t = opening-same (t .opens)
+  pub openable-opening : Openable bytes lanes → openingOf bytes lanes ≡ readingOf bytes
+  openable-opening t = opening-same (t .opens)
 
   -- if opening has no refusal, neither reading nor the table has one
-  pub opening-opens : openingOf bytes lanes .number ≡ 0 → Taken bytes lanes
+  pub opening-opens : openingOf bytes lanes .number ≡ 0 → Openable bytes lanes
   opening-opens h =
       fault-elim (readingOf bytes .number) (λ n. absurd (n (rw (opening-refused n) at h))) (λ reads.
       fault-elim (lanesFault (studyOf bytes lanes) .number) (λ n. absurd (n (rw (opening-closed reads n) at h))) (λ opens.
@@ -42,15 +42,15 @@ module _ (bytes lanes : List ℕ) where
 
 -- x is the answer of opening without a refusal
 module _ (bytes lanes : List ℕ) {x : ReadAnswer} (e : x ≡ openingOf bytes lanes) (h : x .number ≡ 0) where
-  pub opened-taken : Taken bytes lanes
-  opened-taken = opening-opens bytes lanes (rw e at h)
+  pub opened-openable : Openable bytes lanes
+  opened-openable = opening-opens bytes lanes (rw e at h)
 
   -- x is reading's answer
   pub opened-reads : x ≡ readingOf bytes
-  opened-reads = e ∙ opening-taken bytes lanes opened-taken
+  opened-reads = e ∙ openable-opening bytes lanes opened-openable
 
   pub opened-readable : Readable bytes (studyBy bytes lanes (x .road) (x .state) (x .steps))
-  opened-readable = readable bytes lanes x opened-reads h (rw opened-reads (opened-taken .opens))
+  opened-readable = readable bytes lanes x opened-reads h (rw opened-reads (opened-openable .opens))
 
 -- the empty table has no fault
 pub opening-empty : (bytes : List ℕ) → openingOf bytes [] ≡ readingOf bytes

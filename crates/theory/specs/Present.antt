@@ -18,8 +18,8 @@ use Rattle.theory.specs.Roads.{Alike, step-alike, alike-then, present-al
 use Rattle.theory.specs.Finer.{scaled}
 use Rattle.theory.specs.FinerLaws.{finer-alike}
 use Rattle.theory.specs.Coupling.{Coupling}
-use Rattle.theory.specs.WholeShares.{AllOn, onward-all}
-use Rattle.theory.specs.NearRuns.{Deciding, Countable, coupled, whole-most-after, whole-least-after}
+use Rattle.theory.specs.WholeShares.{SharesWhole, onward-all}
+use Rattle.theory.specs.NearRuns.{Deciding, FinerRequires, coupled, whole-most-after, whole-least-after}
 
 -- ramp queues are K times as long, with any shares
 pub queues-finer : (K : ℕ) (r : Road) (s t : State) → Coupling K r s t → (k : ℕ) → k ≤ r .n → sumOf (take k (t .queue)) ≡ K * sumOf (take k (s .queue))
@@ -33,7 +33,7 @@ queues-finer K r s t c (suc k) l =
       ap (λ (x : ℕ). K * x) (sum-more k (s .queue) (omega (arith, c .sizedS .queue))),
     )
 
-module _ (K : ℕ) (r : Road) (on : AllOn r) (s t : State) (c : Coupling K r s t) where
+module _ (K : ℕ) (r : Road) (on : SharesWhole r) (s t : State) (c : Coupling K r s t) where
   -- the gate and the first k cells, plus what has left the last of them
   prefix : (k : ℕ) → k ≤ r .n
       → t .«gate_queue» + sumOf (take k (t .held)) + cumulativeAt t k ≡ K * (s .«gate_queue» + sumOf (take k (s .held)) + cumulativeAt s k)
@@ -54,18 +54,18 @@ module _ (K : ℕ) (r : Road) (on : AllOn r) (s t : State) (c : Coupling K r s t
   present-account = omega (arith, prefix (r .n) (le-refl (r .n)), queues-finer K r s t c (r .n) (le-refl (r .n)))
 
 -- present, total and gate time of the study exceed those of a finer schedule by at most this much after k steps; one part is K finer parts
-pub record Sooner (K k : ℕ) (r : Road) (s t : State) : Type 0 where
+pub record AboveAtMost (K k : ℕ) (r : Road) (s t : State) : Type 0 where
   pub present : K * presentOf r s ≤ presentOf r t + k * K
   pub total : 2 * (K * totalOf s) ≤ 2 * totalOf t + k * (k + 1) * K
   pub gateTime : 2 * (K * s .«gate_time») ≤ 2 * t .«gate_time» + k * (k + 1) * K
 
 -- and they are never less
-pub record Later (K : ℕ) (r : Road) (s t : State) : Type 0 where
+pub record NotBelow (K : ℕ) (r : Road) (s t : State) : Type 0 where
   pub present : presentOf r t ≤ K * presentOf r s
   pub total : totalOf t ≤ K * totalOf s
   pub gateTime : t .«gate_time» ≤ K * s .«gate_time»
 
-module _ {K : ℕ} {a : Study} (h : Countable K a) (ys zs : ℕ → List ℕ) where
+module _ {K : ℕ} {a : Study} (h : FinerRequires K a) (ys zs : ℕ → List ℕ) where
   abbrev r : Road
   r = a .road
 
@@ -124,10 +124,10 @@ module _ {K : ℕ} {a : Study} (h : Countable K a) (ys zs : ℕ → List ℕ) wh
         queues-finer K r (S (suc k)) (T (suc k)) c (r .n) (le-refl (r .n)),
       )
 
-  module _ (on : AllOn (a .road)) where
-    pub sooner : (k : ℕ) → ObeysUpTo a ys k → ObeysUpTo (scaled K a) zs k → Deciding a ys k
-        → Sooner K k (a .road) (scheduleAfter a ys k) (scheduleAfter (scaled K a) zs k)
-    sooner zero own fine decide =
+  module _ (on : SharesWhole (a .road)) where
+    pub above-at-most : (k : ℕ) → ObeysUpTo a ys k → ObeysUpTo (scaled K a) zs k → Deciding a ys k
+        → AboveAtMost K k (a .road) (scheduleAfter a ys k) (scheduleAfter (scaled K a) zs k)
+    above-at-most zero own fine decide =
         let e = present-account K r on (S 0) (T 0) (coupled h ys zs 0 own fine) in
         let f = whole-most-after h ys zs on 0 own fine decide in
         record {
@@ -135,8 +135,8 @@ module _ {K : ℕ} {a : Study} (h : Countable K a) (ys zs : ℕ → List ℕ) wh
           total = omega (arith, start-times);
           gateTime = omega (arith, start-times);
         }
-    sooner (suc k) own fine decide =
-        let before = sooner k (λ j l. own j (omega arith)) (λ j l. fine j (omega arith)) (λ j l. decide j (omega arith)) in
+    above-at-most (suc k) own fine decide =
+        let before = above-at-most k (λ j l. own j (omega arith)) (λ j l. fine j (omega arith)) (λ j l. decide j (omega arith)) in
         let c = coupled h ys zs (suc k) own fine in
         let e = present-account K r on (S (suc k)) (T (suc k)) c in
         let f = whole-most-after h ys zs on (suc k) own fine decide in
@@ -148,9 +148,9 @@ module _ {K : ℕ} {a : Study} (h : Countable K a) (ys zs : ℕ → List ℕ) wh
               omega (arith, before .gateTime, c .gate, f 0 (omega arith), ap (λ (x : ℕ). K * x) (own-gate-time k), fine-gate-time k);
         }
 
-    pub later : (k : ℕ) → ObeysUpTo a ys k → ObeysUpTo (scaled K a) zs k → Deciding (scaled K a) zs k
-        → Later K (a .road) (scheduleAfter a ys k) (scheduleAfter (scaled K a) zs k)
-    later zero own fine decide =
+    pub not-below : (k : ℕ) → ObeysUpTo a ys k → ObeysUpTo (scaled K a) zs k → Deciding (scaled K a) zs k
+        → NotBelow K (a .road) (scheduleAfter a ys k) (scheduleAfter (scaled K a) zs k)
+    not-below zero own fine decide =
         let e = present-account K r on (S 0) (T 0) (coupled h ys zs 0 own fine) in
         let f = whole-least-after h ys zs on 0 own fine decide in
         record {
@@ -158,8 +158,8 @@ module _ {K : ℕ} {a : Study} (h : Countable K a) (ys zs : ℕ → List ℕ) wh
           total = omega (arith, start-times);
           gateTime = omega (arith, start-times);
         }
-    later (suc k) own fine decide =
-        let before = later k (λ j l. own j (omega arith)) (λ j l. fine j (omega arith)) (λ j l. decide j (omega arith)) in
+    not-below (suc k) own fine decide =
+        let before = not-below k (λ j l. own j (omega arith)) (λ j l. fine j (omega arith)) (λ j l. decide j (omega arith)) in
         let c = coupled h ys zs (suc k) own fine in
         let e = present-account K r on (S (suc k)) (T (suc k)) c in
         let f = whole-least-after h ys zs on (suc k) own fine decide in

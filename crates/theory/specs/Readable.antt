@@ -15,7 +15,7 @@ use Rattle.reading.specs.Within.{read-within, read-row}
 use Rattle.reading.specs.Numbers.{read-numbers, read-entries}
 use Rattle.model.specs.Listing.{mostOutflows}
 use Rattle.reading.specs.Table.{read-table}
-use Rattle.model.specs.Demand.{Taken}
+use Rattle.model.specs.Demand.{Openable}
 use Rattle.reading.specs.Versions.{read-seconds}
 
 -- the study is within the limits, its seconds too, and the record holds its rows
@@ -56,5 +56,5 @@ readable bytes lanes x e h f =
 pub readable-open : (bytes : List ℕ) (x : ReadAnswer) → x ≡ readingOf bytes → x .number ≡ 0 → Readable bytes (studyBy bytes [] (x .road) (x .state) (x .steps))
 readable-open bytes x e h = readable bytes [] x e h (number-of (table-empty [] (x .road .n) (x .steps) refl))
 
-pub taken-open : (bytes : List ℕ) → readingOf bytes .number ≡ 0 → Taken bytes []
-taken-open bytes h = record { reads = h; opens = number-of (table-empty [] (readingOf bytes .road .n) (readingOf bytes .steps) refl) }
+pub openable-empty : (bytes : List ℕ) → readingOf bytes .number ≡ 0 → Openable bytes []
+openable-empty bytes h = record { reads = h; opens = number-of (table-empty [] (readingOf bytes .road .n) (readingOf bytes .steps) refl) }

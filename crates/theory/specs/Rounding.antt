@@ -14,14 +14,14 @@ use Rattle.model.specs.Flow.{cumulativeAt}
 use Rattle.theory.specs.RunsLaws.{ReleasesFitUpTo, engine-schedule, engine-obeys}
 use Rattle.model.specs.Reading.{readingOf, studyOf}
 use Rattle.reading.specs.Numbers.{read-numbers}
-use Rattle.model.specs.Demand.{Taken, Reaches}
+use Rattle.model.specs.Demand.{Openable, Reaches}
 use Rattle.theory.specs.Readable.{readable}
 use Rattle.theory.specs.Finer.{scaled, reachOf, thousandsOf}
 use Rattle.theory.specs.FinerLaws.{mostFiner, roads-open, roads-closed}
-use Rattle.theory.specs.WholeShares.{AllOn}
+use Rattle.theory.specs.WholeShares.{SharesWhole}
 use Rattle.theory.specs.AnyShares.{Most}
-use Rattle.theory.specs.NearRuns.{Deciding, Countable, engine-decides, finer-decides, coupled, whole-most-after, whole-least-after, most-after, least-after}
-use Rattle.theory.specs.Present.{Sooner, Later, sooner, later, ramp-time-finer}
+use Rattle.theory.specs.NearRuns.{Deciding, FinerRequires, engine-decides, finer-decides, coupled, whole-most-after, whole-least-after, most-after, least-after}
+use Rattle.theory.specs.Present.{AboveAtMost, NotBelow, above-at-most, not-below, ramp-time-finer}
 
 -- states after k steps: s of the study, t of the finer one. For place p let R be the product of the shares from p on and m their number: no F
 -- differs by more than 2 k parts (each K finer parts), divided by R ÷ 1,000^m, the part of its outflow that reaches the end
@@ -43,13 +43,13 @@ pub record Near (K k : ℕ) (r : Road) (s t : State) : Type 0 where
 pub record NearWhole (K k : ℕ) (r : Road) (s t : State) : Type 0 where
   pub least : (p : ℕ) → p ≤ r .n → K * cumulativeAt s p ≤ cumulativeAt t p
   pub most : (p : ℕ) → p ≤ r .n → cumulativeAt t p ≤ K * cumulativeAt s p + k * K
-  pub later : Later K r s t
-  pub sooner : Sooner K k r s t
+  pub notBelow : NotBelow K r s t
+  pub above : AboveAtMost K k r s t
   -- road time is the total less gate and ramp time
   pub roadMost : 2 * t .«road_time» ≤ 2 * (K * s .«road_time») + k * (k + 1) * K
   pub roadLeast : 2 * (K * s .«road_time») ≤ 2 * t .«road_time» + k * (k + 1) * K
 
-module _ {K : ℕ} {a : Study} (h : Countable K a) (k : ℕ) where
+module _ {K : ℕ} {a : Study} (h : FinerRequires K a) (k : ℕ) where
   -- a schedule ys of the study and a schedule zs of the finer study; in both, demand or room decides
   module _ (ys zs : ℕ → List ℕ) (own : ObeysUpTo a ys k) (fine : ObeysUpTo (scaled K a) zs k) (decide : Deciding a ys k)
       (finer : Deciding (scaled K a) zs k) where
@@ -71,16 +71,16 @@ module _ {K : ℕ} {a : Study} (h : Countable K a) (k : ℕ) where
           rampTime = ramp-time-finer h ys zs k own fine;
         }
 
-    schedules-near-whole : AllOn (a .road) → NearWhole K k (a .road) (scheduleAfter a ys k) (scheduleAfter (scaled K a) zs k)
+    schedules-near-whole : SharesWhole (a .road) → NearWhole K k (a .road) (scheduleAfter a ys k) (scheduleAfter (scaled K a) zs k)
     schedules-near-whole on =
-        let x = later h ys zs on k own fine finer in
-        let y = sooner h ys zs on k own fine decide in
+        let x = not-below h ys zs on k own fine finer in
+        let y = above-at-most h ys zs on k own fine decide in
         let e = ramp-time-finer h ys zs k own fine in
         record {
           least = whole-least-after h ys zs on k own fine finer;
           most = whole-most-after h ys zs on k own fine decide;
-          later = x;
-          sooner = y;
+          notBelow = x;
+          above = y;
           roadMost = omega (arith, x .total, y .gateTime, e);
           roadLeast = omega (arith, y .total, x .gateTime, e);
         }
@@ -94,7 +94,7 @@ module _ {K : ℕ} {a : Study} (h : Countable K a) (k : ℕ) where
         subst⁻¹ (λ (u : State). Near K k (a .road) u (scheduleAfter (scaled K a) zs k)) (engine-schedule a k)
         (schedules-near (outflowsAt a) zs (engine-obeys a k fits) fine (engine-decides h k fits) finer)
 
-    pub papers-near-whole : AllOn (a .road) → (zs : ℕ → List ℕ) → ObeysUpTo (scaled K a) zs k → Deciding (scaled K a) zs k
+    pub papers-near-whole : SharesWhole (a .road) → (zs : ℕ → List ℕ) → ObeysUpTo (scaled K a) zs k → Deciding (scaled K a) zs k
         → NearWhole K k (a .road) (engineAfter a k) (scheduleAfter (scaled K a) zs k)
     papers-near-whole on zs fine finer =
         subst⁻¹ (λ (u : State). NearWhole K k (a .road) u (scheduleAfter (scaled K a) zs k)) (engine-schedule a k)
@@ -106,7 +106,7 @@ module _ {K : ℕ} {a : Study} (h : Countable K a) (k : ℕ) where
         subst⁻¹ (λ (u : State). Near K k (a .road) (engineAfter a k) u) (engine-schedule (scaled K a) k)
         (papers-near (outflowsAt (scaled K a)) (engine-obeys (scaled K a) k fine) (finer-decides h k fine))
 
-    pub rounding-whole : AllOn (a .road) → ReleasesFitUpTo (scaled K a) k → NearWhole K k (a .road) (engineAfter a k) (engineAfter (scaled K a) k)
+    pub rounding-whole : SharesWhole (a .road) → ReleasesFitUpTo (scaled K a) k → NearWhole K k (a .road) (engineAfter a k) (engineAfter (scaled K a) k)
     rounding-whole on fine =
         subst⁻¹ (λ (u : State). NearWhole K k (a .road) (engineAfter a k) u) (engine-schedule (scaled K a) k)
         (papers-near-whole on (outflowsAt (scaled K a)) (engine-obeys (scaled K a) k fine) (finer-decides h k fine))
@@ -117,24 +117,24 @@ module _ {K : ℕ} {a : Study} (h : Countable K a) (k : ℕ) where
         subst⁻¹ (λ (u : State). Most K (2 * k * K) (a .road) u (scheduledAt (scaled K a) zs k)) (engine-schedule a k)
         (most-after h (outflowsAt a) (proposedAt (scaled K a) zs) k (engine-obeys a k fits) (reaches .obeys) (engine-decides h k fits))
 
-    pub finer-schedules-whole : AllOn (a .road) → (zs : List ℕ) → Reaches (scaled K a) zs k
-        → Sooner K k (a .road) (engineAfter a k) (scheduledAt (scaled K a) zs k)
+    pub finer-schedules-whole : SharesWhole (a .road) → (zs : List ℕ) → Reaches (scaled K a) zs k
+        → AboveAtMost K k (a .road) (engineAfter a k) (scheduledAt (scaled K a) zs k)
     finer-schedules-whole on zs reaches =
-        subst⁻¹ (λ (u : State). Sooner K k (a .road) u (scheduledAt (scaled K a) zs k)) (engine-schedule a k)
-        (sooner h (outflowsAt a) (proposedAt (scaled K a) zs) on k (engine-obeys a k fits) (reaches .obeys) (engine-decides h k fits))
+        subst⁻¹ (λ (u : State). AboveAtMost K k (a .road) u (scheduledAt (scaled K a) zs k)) (engine-schedule a k)
+        (above-at-most h (outflowsAt a) (proposedAt (scaled K a) zs) on k (engine-obeys a k fits) (reaches .obeys) (engine-decides h k fits))
 
 -- every record without a refusal can be counted K times finer: for every K with all lanes open, for K up to 4,294 under a table of lanes
 abbrev pub Within : List ℕ → ℕ → Type 0
 Within lanes K = (length lanes ≡ 0) ⊎ (K ≤ mostFiner)
 
-pub countable : (bytes lanes : List ℕ) → Taken bytes lanes → (K : ℕ) → 0 < K → Within lanes K → Countable K (studyOf bytes lanes)
-countable bytes lanes taken K some within =
-    let x = readable bytes lanes (readingOf bytes) refl (taken .reads) (taken .opens) .ok in
-    let c = read-numbers bytes (readingOf bytes) refl (taken .reads) .capacity .entries in
+pub finer-ready : (bytes lanes : List ℕ) → Openable bytes lanes → (K : ℕ) → 0 < K → Within lanes K → FinerRequires K (studyOf bytes lanes)
+finer-ready bytes lanes openable K some within =
+    let x = readable bytes lanes (readingOf bytes) refl (openable .reads) (openable .opens) .ok in
+    let c = read-numbers bytes (readingOf bytes) refl (openable .reads) .capacity .entries in
     record {
       some = some;
       ok = x;
-      zero = read-numbers bytes (readingOf bytes) refl (taken .reads) .done;
+      zero = read-numbers bytes (readingOf bytes) refl (openable .reads) .done;
       roads = ⊎-elim
           (λ (e : length lanes ≡ 0). roads-open K (studyOf bytes lanes) some e)
           (λ (m : K ≤ mostFiner). roads-closed K (studyOf bytes lanes) some m (omega (arith, x .road .cells, c)) x)

@@ -9,11 +9,11 @@ use lib.ListN.{length}
 use Rattle.model.specs.Numbers.{unless}
 use Rattle.model.specs.Schedules.{tableSize, engineAfter}
 use Rattle.model.specs.Reading.{ReadAnswer, refusedOf, readingOf, studyOf}
-use Rattle.model.specs.Demand.{Taken}
-use Rattle.model.specs.Running.{runSays, noState, lanesFault, openingOf, runEnd, runningOf, tableOf, listAfter}
+use Rattle.model.specs.Demand.{Openable}
+use Rattle.model.specs.Running.{runFault, noState, lanesFault, openingOf, runEnd, runningOf, tableOf, listAfter}
 use Rattle.model.specs.Judging.{judgeEnd, judgingOf}
 use Rattle.theory.specs.SchedulesLaws.{runTable, end-made}
-use Rattle.theory.specs.Opening.{opening-refused, opening-closed, opening-taken}
+use Rattle.theory.specs.Opening.{opening-refused, opening-closed, openable-opening}
 use Rattle.theory.specs.TableLaws.{table-none}
 
 -- both give the same refusal for a record that isn't opened, and nothing is written
@@ -53,9 +53,9 @@ module _ (bytes lanes : List ℕ) (h : readingOf bytes .number ≡ 0) (n : lanes
   pub writes-closed : (list : List ℕ) → listAfter bytes lanes list ≡ list
   writes-closed list = writes-unopened bytes lanes (rw closed n) list
 
-module _ (bytes lanes : List ℕ) (t : Taken bytes lanes) where
+module _ (bytes lanes : List ℕ) (t : Openable bytes lanes) where
   opens : eqb (openingOf bytes lanes .number) 0 ≡ true
-  opens = eq-eqb (openingOf bytes lanes .number) 0 (rw (opening-taken bytes lanes t) (t .reads))
+  opens = eq-eqb (openingOf bytes lanes .number) 0 (rw (openable-opening bytes lanes t) (t .reads))
 
   -- 11 and 12
   pub runs-short : (list : List ℕ) → length list < tableSize (studyOf bytes lanes) → runningOf bytes lanes list ≡ noState 11 0
@@ -81,7 +81,7 @@ module _ (bytes lanes : List ℕ) (t : Taken bytes lanes) where
       → listAfter bytes lanes list ≡ runTable (studyOf bytes lanes) list
   unfolding listAfter
   writes-long list l =
-      rw (runs-long list l) (ap (tableOf (studyOf bytes lanes) list) (end-made (studyOf bytes lanes) (runSays (studyOf bytes lanes)) (engineAfter (studyOf bytes lanes))))
+      rw (runs-long list l) (ap (tableOf (studyOf bytes lanes) list) (end-made (studyOf bytes lanes) (runFault (studyOf bytes lanes)) (engineAfter (studyOf bytes lanes))))
 
   pub judges-ends : (zs : List ℕ) → length zs ≡ tableSize (studyOf bytes lanes) → judgingOf bytes lanes zs ≡ judgeEnd (studyOf bytes lanes) zs
   unfolding judgingOf

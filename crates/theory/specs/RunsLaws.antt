@@ -13,7 +13,7 @@ use Rattle.limits.specs.LimitsLaws.{RoadOk, StateOk, RowOk, InputOk}
 use Rattle.model.specs.Move.{nextOf, presentOf, exitsOf}
 use Rattle.theory.specs.RulesLaws.{Sized, outflows-obey, outflows-greatest}
 use Rattle.theory.specs.MoveLaws.{next-done, next-sized}
-use Rattle.theory.specs.LimitsKept.{kept}
+use Rattle.theory.specs.LimitsKept.{limits-kept}
 use Rattle.theory.specs.Roads.{Alike, ComparedRoads, StepRoad, step-alike, step-state, state-back, step-row, alike-back, wider-self, present-alike, sized-alike}
 use Rattle.theory.specs.Behind.{Behind, behind-self, step-behind}
 use Rattle.model.specs.Weights.{weightedTotal, Falling}
@@ -93,7 +93,7 @@ module _ (a : Study) (ys : ℕ → List ℕ) (ok : StudyOk a) where
       let q = ok .roads k in
       record {
         state = state-back q (nextOf (roadAt a k) u (a .rows k) (ys k))
-            (kept (roadAt a k) u (a .rows k) (ys k)
+            (limits-kept (roadAt a k) u (a .rows k) (ys k)
             (record { road = q .ok; state = step-state q u (p .state); row = step-row q (a .rows k) (ok .row k l) })
             (sized-at k) (h k (le-refl (suc k))) (omega (arith, p .done, ok .steps)));
         sized = schedule-sized a ys ok (suc k);

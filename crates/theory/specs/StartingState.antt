@@ -14,34 +14,34 @@ use Rattle.limits.specs.LimitsLaws.{StateOk, state-facts}
 use Rattle.model.specs.Schedules.{Study, study, roadAt}
 use Rattle.model.specs.Reading.{ReadAnswer, refusedOf, acceptedOf, readingOf, studyBy}
 use Rattle.model.specs.Running.{EndAnswer, noState, openingOf}
-use Rattle.model.specs.Demand.{Taken}
+use Rattle.model.specs.Demand.{Openable}
 use Rattle.model.specs.GoingOn.{studyFrom, stateFault, unlessStarted}
 use Rattle.theory.specs.RulesLaws.{Sized}
 use Rattle.theory.specs.Readable.{Readable, readable}
 use Rattle.theory.specs.Opening.{opening-opens}
 
 -- the study with another start
-abbrev pub startedAt : Study → State → Study
-startedAt a s = study (a .road) s (a .steps) (a .rows) (a .lanes)
+abbrev pub withStart : Study → State → Study
+withStart a s = study (a .road) s (a .steps) (a .rows) (a .lanes)
 
 -- the roads of its steps are the same
-pub same-roads : (a : Study) (s : State) (k : ℕ) → roadAt a k ≡ roadAt (startedAt a s) k
+pub same-roads : (a : Study) (s : State) (k : ℕ) → roadAt a k ≡ roadAt (withStart a s) k
 unfolding roadAt
 same-roads a s k = refl
 
 -- neither 7 nor 8 applies
-pub record Begins (a : Study) : Type 0 where
+pub record StartOk (a : Study) : Type 0 where
   pub state : StateOk (a .road) (a .start)
   pub steps : a .start .done + a .steps ≤ mostSteps
 
-pub begins : (a : Study) → stateFault a ≡ 0 → Begins a
+pub start-ok : (a : Study) → stateFault a ≡ 0 → StartOk a
 unfolding stateFault
-begins a = unless-elim (λ (x : ℕ). x ≡ 0 → Begins a) (stateOk (a .road) (a .start)) (λ _ z. absurd (omega arith)) (λ s.
-    unless-elim (λ (x : ℕ). x ≡ 0 → Begins a) (leb (a .start .done + a .steps) mostSteps) (λ _ z. absurd (omega arith)) (λ l z.
+start-ok a = unless-elim (λ (x : ℕ). x ≡ 0 → StartOk a) (stateOk (a .road) (a .start)) (λ _ z. absurd (omega arith)) (λ s.
+    unless-elim (λ (x : ℕ). x ≡ 0 → StartOk a) (leb (a .start .done + a .steps) mostSteps) (λ _ z. absurd (omega arith)) (λ l z.
     record { state = state-facts (a .road) (a .start) s; steps = leb-true _ _ l }))
 
 -- so the study is within the limits if it was from the record's own start
-pub readable-from : {bytes : List ℕ} {a : Study} (s : State) → Readable bytes a → Sized (a .road) s → Begins (startedAt a s) → Readable bytes (startedAt a s)
+pub readable-from : {bytes : List ℕ} {a : Study} (s : State) → Readable bytes a → Sized (a .road) s → StartOk (withStart a s) → Readable bytes (withStart a s)
 readable-from {a = a} s h sized b = record {
   ok = record {
     road = h .ok .road;
@@ -105,8 +105,8 @@ module _ (bytes lanes : List ℕ) (s : State) where
     pub starts : (e : EndAnswer) → unlessStarted bytes lanes s e ≡ e
     starts e = rw (eq-eqb (openingOf bytes lanes .number) 0 opens, eq-eqb (stateFault a) 0 unfaulted) refl
 
-    pub starting-taken : Taken bytes lanes
-    starting-taken = opening-opens bytes lanes opens
+    pub starting-openable : Openable bytes lanes
+    starting-openable = opening-opens bytes lanes opens
 
     pub starting-reads : startingOf bytes lanes s ≡ acceptedOf (readingOf bytes .steps) (readingOf bytes .road) s
     starting-reads = starting-starts opens unfaulted
@@ -114,9 +114,9 @@ module _ (bytes lanes : List ℕ) (s : State) where
     -- the study is within the limits
     pub starting-readable : (readingOf bytes .road .n ≤ mostCells → Sized (readingOf bytes .road) s) → Readable bytes (studyFrom bytes lanes s)
     starting-readable sized =
-        let t = starting-taken in
+        let t = starting-openable in
         let h = readable bytes lanes (readingOf bytes) refl (t .reads) (t .opens) in
-        readable-from s h (sized (h .ok .road .cells)) (begins a unfaulted)
+        readable-from s h (sized (h .ok .road .cells)) (start-ok a unfaulted)
 
 -- the same for the code's answer
 module _ (bytes lanes : List ℕ) (s : State) {x : ReadAnswer} (ex : x ≡ startingOf bytes lanes s) where
@@ -129,9 +129,6 @@ module _ (bytes lanes : List ℕ) (s : State) {x : ReadAnswer} (ex : x ≡ start
 
     pub found-study : studyBy bytes lanes (x .road) (x .state) (x .steps) ≡ studyFrom bytes lanes s
     found-study = ap (λ (y : ReadAnswer). studyBy bytes lanes (y .road) (y .state) (y .steps)) (ex ∙ starting-reads bytes lanes s (rw ex at n))
-
-    pub found-state : x .state ≡ s
-    found-state = ap (λ (y : ReadAnswer). y .state) (ex ∙ starting-reads bytes lanes s (rw ex at n))
 
     pub found-readable : (readingOf bytes .road .n ≤ mostCells → Sized (readingOf bytes .road) s)
         → Readable bytes (studyBy bytes lanes (x .road) (x .state) (x .steps))

@@ -21,16 +21,16 @@ use Rattle.model.specs.Schedules.{Study, openRoad, roadAt, tableSize, engineAft
 use Rattle.limits.specs.LimitsLaws.{input-ok}
 use Rattle.model.specs.Stepping.{Answer, answer, stepOn, steppingOf}
 use Rattle.theory.specs.StepLaws.{TableOk, releases-fit, on-next, stepping-on}
-use Rattle.theory.specs.OpenRoad.{opened-all, same-road, other-road}
+use Rattle.theory.specs.OpenRoad.{open-road-all, same-road, other-road}
 use Rattle.theory.specs.LanesUnread.{SameTo, fault-unread as unread, road-unread}
 use Rattle.model.specs.Move.{nextOf}
 use Rattle.theory.specs.RunsLaws.{StudyOk, ReachedState}
 use Rattle.model.specs.Reading.{readingOf, studyOf}
-use Rattle.model.specs.Running.{runSays, firstStep, EndAnswer, endOf, runEnd, runningOf, stepsMade, tableOf, listAfter}
+use Rattle.model.specs.Running.{runFault, firstStep, EndAnswer, endOf, runEnd, runningOf, stepsMade, tableOf, listAfter}
 use Rattle.theory.specs.SchedulesLaws.{step-within, step-before, end-made, end-same, run-reached}
 use Rattle.theory.specs.TableLaws.{table-row}
 use Rattle.theory.specs.RunEnds.{runs-long, writes-long}
-use Rattle.model.specs.Demand.{Taken}
+use Rattle.model.specs.Demand.{Openable}
 use Rattle.theory.specs.DemandLaws.{own-state}
 use Rattle.theory.specs.Readable.{Readable, readable}
 
@@ -76,7 +76,7 @@ module _ (a : Study) (ok : StudyOk a) (t : TableOk (a .lanes) (a .road .n) (a .s
           let z = eqb-true (length (a .lanes)) 0 e in
           let all = given .allOpen z in
           on (first-none (lanesAt built usable) (a .road .n) (λ i m. rw (all i m .1) (lanes-all (at built i) (all i m .0))))
-          (opened-all (a .road) built usable (ok .road) all ∙ same-road a z k)
+          (open-road-all (a .road) built usable (ok .road) all ∙ same-road a z k)
       go false e =
           let some = eqb-false (length (a .lanes)) 0 e in
           let same = road-unread (a .road) (given .tableBuilt some) (given .tableOpen some) in
@@ -92,13 +92,13 @@ module _ (a : Study) (ok : StudyOk a) (t : TableOk (a .lanes) (a .road .n) (a .s
 module _ {bytes : List ℕ} {a : Study} (h : Readable bytes a) {built : List ℕ} {usable : ℕ → List ℕ}
     (given : (k : ℕ) → k < a .steps → LanesOf a built (usable k) k) where
   abbrev K : ℕ
-  K = firstStep (runSays a) (a .steps)
+  K = firstStep (runFault a) (a .steps)
 
-  abbrev says : ℕ → FaultAnswer
-  says k = fault (steppedIn a built usable k .number) (steppedIn a built usable k .place)
+  abbrev faults : ℕ → FaultAnswer
+  faults k = fault (steppedIn a built usable k .number) (steppedIn a built usable k .place)
 
   reached : (k : ℕ) → k ≤ K → ReachedState a (engineAfter a k) k
-  reached k l = run-reached a (h .ok) k (omega (arith, step-within (runSays a) (a .steps))) (λ j m. step-before (runSays a) (a .steps) j (omega arith))
+  reached k l = run-reached a (h .ok) k (omega (arith, step-within (runFault a) (a .steps))) (λ j m. step-before (runFault a) (a .steps) j (omega arith))
 
   left : (k : ℕ) → k ≤ K → k < a .steps → engineAfter a k .done ≡ mostSteps → ⊥
   left k l m e = omega (arith, reached k l .done, h .ok .steps)
@@ -108,51 +108,51 @@ module _ {bytes : List ℕ} {a : Study} (h : Readable bytes a) {built : List ℕ
     same-step : steppedIn a built usable k ≡ stepOn (roadAt a k) (engineAfter a k) (a .rows k)
     same-step = rw e (step-on a (h .ok) (h .table) m (given k m) (engineAfter a k) (reached k l))
 
-    accepted : runSays a k .number ≡ 0 → steppedIn a built usable k ≡ answer (fault 0 0) (nextOf (roadAt a k) (engineAfter a k) (a .rows k) (outflowsAt a k))
+    accepted : runFault a k .number ≡ 0 → steppedIn a built usable k ≡ answer (fault 0 0) (nextOf (roadAt a k) (engineAfter a k) (a .rows k) (outflowsAt a k))
     accepted z =
         same-step
         ∙ on-next (roadAt a k) (engineAfter a k) (a .rows k) (left k l m) (releases-fit (roadAt a k) (engineAfter a k) (a .rows k) z)
 
-    same-fault : runSays a k ≡ says k
+    same-fault : runFault a k ≡ faults k
     same-fault =
         rw (same-step, ne-eqb (engineAfter a k .done) mostSteps (left k l m))
-        (unless-elim (λ (x : Answer). runSays a k ≡ fault (x .number) (x .place)) (eqb (runSays a k .number) 0) (λ _. refl) (λ _. refl))
+        (unless-elim (λ (x : Answer). runFault a k ≡ fault (x .number) (x .place)) (eqb (runFault a k .number) 0) (λ _. refl) (λ _. refl))
 
   -- the states
   pub stepped-runs : (k : ℕ) → k ≤ K → steppedAfter a built usable k ≡ engineAfter a k
   unfolding steppedAfter engineAfter
   stepped-runs zero l = refl
   stepped-runs (suc k) l =
-      let m : k < a .steps = omega (arith, step-within (runSays a) (a .steps)) in
-      ap (λ (x : Answer). x .state) (accepted k (omega arith) m (stepped-runs k (omega arith)) (step-before (runSays a) (a .steps) k l))
+      let m : k < a .steps = omega (arith, step-within (runFault a) (a .steps)) in
+      ap (λ (x : Answer). x .state) (accepted k (omega arith) m (stepped-runs k (omega arith)) (step-before (runFault a) (a .steps) k l))
 
   -- the end
   pub steps-end : steppedEnd a built usable ≡ runEnd a
   steps-end =
-      sym (end-same a (runSays a) says (engineAfter a) (steppedAfter a built usable) (λ k l m. same-fault k l m (stepped-runs k l))
+      sym (end-same a (runFault a) faults (engineAfter a) (steppedAfter a built usable) (λ k l m. same-fault k l m (stepped-runs k l))
       (λ k l _. sym (stepped-runs k l)))
 
 -- for a record and a table without a refusal, with a list for all T rows
-module _ (bytes lanes list : List ℕ) (taken : Taken bytes lanes) (long : tableSize (studyOf bytes lanes) ≤ length list) (built : List ℕ)
+module _ (bytes lanes list : List ℕ) (openable : Openable bytes lanes) (long : tableSize (studyOf bytes lanes) ≤ length list) (built : List ℕ)
     (usable : ℕ → List ℕ) (given : (k : ℕ) → k < studyOf bytes lanes .steps → LanesOf (studyOf bytes lanes) built (usable k) k) where
   abbrev a : Study
   a = studyOf bytes lanes
 
   abbrev last : ℕ
-  last = firstStep (runSays a) (a .steps)
+  last = firstStep (runFault a) (a .steps)
 
   reads : Readable bytes (studyOf bytes lanes)
-  reads = readable bytes lanes (readingOf bytes) refl (taken .reads) (taken .opens)
+  reads = readable bytes lanes (readingOf bytes) refl (openable .reads) (openable .opens)
 
   made : stepsMade a (runningOf bytes lanes list) ≡ last
-  made = ap (stepsMade a) (runs-long bytes lanes taken list long) ∙ end-made a (runSays a) (engineAfter a)
+  made = ap (stepsMade a) (runs-long bytes lanes openable list long) ∙ end-made a (runFault a) (engineAfter a)
 
   states : (k : ℕ) → k ≤ stepsMade a (runningOf bytes lanes list) → steppedAfter a built usable k ≡ scheduledAt a (listAfter bytes lanes list) k
   states k l =
       let m : k ≤ last = omega (arith, made) in
       stepped-runs reads given k m
       ∙ sym (own-state a (reads .ok) (tableOf a list last) (λ j n. table-row a (reads .ok) list last j n) k m)
-      ∙ ap (λ (out : List ℕ). scheduledAt a out k) (sym (writes-long bytes lanes taken list long))
+      ∙ ap (λ (out : List ℕ). scheduledAt a out k) (sym (writes-long bytes lanes openable list long))
 
-  pub stepped : StepsAsRun bytes lanes list built usable
-  stepped = record { states = states; ends = steps-end reads given ∙ sym (runs-long bytes lanes taken list long) }
+  pub steps-as-run : StepsAsRun bytes lanes list built usable
+  steps-as-run = record { states = states; ends = steps-end reads given ∙ sym (runs-long bytes lanes openable list long) }

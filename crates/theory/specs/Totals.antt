@@ -23,12 +23,12 @@ use Rattle.theory.specs.FinerRules.{onward-floor, onward-above}
 use Rattle.theory.specs.FinerLaws.{reach-on, reach-le}
 use Rattle.theory.specs.Coupling.{Coupling}
 use Rattle.theory.specs.AnyShares.{Most, Least}
-use Rattle.theory.specs.NearRuns.{Deciding, Countable, coupled, most-after, least-after, engine-decides, finer-decides}
+use Rattle.theory.specs.NearRuns.{Deciding, FinerRequires, coupled, most-after, least-after, engine-decides, finer-decides}
 use Rattle.theory.specs.Present.{queues-finer, own-total, fine-total, own-gate-time, fine-gate-time, start-times, ramp-time-finer}
 
 -- some of what leaves each place before the last goes on
-abbrev pub SomeOn : Road → Type 0
-SomeOn r = (p : ℕ) → p < r .n → shareAt r p ≡ 0 → ⊥
+abbrev pub SharesNotZero : Road → Type 0
+SharesNotZero r = (p : ℕ) → p < r .n → shareAt r p ≡ 0 → ⊥
 
 -- what has left by an off-ramp, F less its onward total, differs by little more than F; W is the product of the shares and D their thousands
 module _ (K b W D Z F F′ : ℕ) (share : b ≤ whole) (some : W ≤ D) where
@@ -119,7 +119,7 @@ module _ (K W D n k g g′ x x′ q q′ : ℕ) (ramps : q′ ≡ K * q) where
   road-most h l = omega (arith, ap (λ (z : ℕ). z * W) ramps)
 
 -- a bound with the shares from a place on gives one with all shares
-module _ (r : Road) (ok : RoadOk r) (on : SomeOn r) (x y u : ℕ) where
+module _ (r : Road) (ok : RoadOk r) (on : SharesNotZero r) (x y u : ℕ) where
   before : (p : ℕ) → p < r .n → x * reachOf r (suc p) ≤ y * reachOf r (suc p) + u * thousandsOf r (suc p)
       → x * reachOf r p ≤ y * reachOf r p + u * thousandsOf r p
   before p l h =
@@ -137,7 +137,7 @@ module _ (r : Road) (ok : RoadOk r) (on : SomeOn r) (x y u : ℕ) where
   from-gate zero l h = h
   from-gate (suc p) l h = from-gate p (omega arith) (before p l h)
 
-module _ (K Z : ℕ) (r : Road) (s t : State) (ok : RoadOk r) (on : SomeOn r) (c : Coupling K r s t) where
+module _ (K Z : ℕ) (r : Road) (s t : State) (ok : RoadOk r) (on : SharesNotZero r) (c : Coupling K r s t) where
   abbrev R : ℕ
   R = reachOf r 0
 
@@ -198,19 +198,19 @@ module _ (K Z : ℕ) (r : Road) (s t : State) (ok : RoadOk r) (on : SomeOn r) (c
         (from-gate r ok on (K * cumulativeAt s (r .n)) (cumulativeAt t (r .n)) Z (r .n) (le-refl (r .n)) (m .outflow (r .n) (le-refl (r .n))))
 
 -- after k steps, by the product of all shares: how far the study's present, total and gate time may exceed those of a finer schedule
-pub record SoonerOn (K k : ℕ) (r : Road) (s t : State) : Type 0 where
+pub record AboveByShares (K k : ℕ) (r : Road) (s t : State) : Type 0 where
   pub present : K * presentOf r s * reachOf r 0 ≤ presentOf r t * reachOf r 0 + suc (r .n) * ((2 * k * K + 1) * thousandsOf r 0)
   pub total : K * totalOf s * reachOf r 0 ≤ totalOf t * reachOf r 0 + suc (r .n) * ((k * (k + 1) * K + k) * thousandsOf r 0)
   pub gateTime : K * s .«gate_time» * reachOf r 0 ≤ t .«gate_time» * reachOf r 0 + k * (k + 1) * K * thousandsOf r 0
 
 -- and how far those of a finer schedule in which demand or room decides may exceed the study's
-pub record LaterOn (K k : ℕ) (r : Road) (s t : State) : Type 0 where
+pub record BelowByShares (K k : ℕ) (r : Road) (s t : State) : Type 0 where
   pub present : presentOf r t * reachOf r 0 ≤ K * presentOf r s * reachOf r 0 + suc (r .n) * ((k * (K + 1) + K) * thousandsOf r 0)
   pub total : 2 * (totalOf t * reachOf r 0)
       ≤ 2 * (K * totalOf s * reachOf r 0) + suc (r .n) * ((k * (k + 1) * (K + 1) + 2 * k * K) * thousandsOf r 0)
   pub gateTime : 2 * (t .«gate_time» * reachOf r 0) ≤ 2 * (K * s .«gate_time» * reachOf r 0) + k * (k + 1) * (K + 1) * thousandsOf r 0
 
-module _ {K : ℕ} {a : Study} (h : Countable K a) (on : SomeOn (a .road)) (ys zs : ℕ → List ℕ) where
+module _ {K : ℕ} {a : Study} (h : FinerRequires K a) (on : SharesNotZero (a .road)) (ys zs : ℕ → List ℕ) where
   abbrev road : Road
   road = a .road
 
@@ -233,15 +233,15 @@ module _ {K : ℕ} {a : Study} (h : Countable K a) (on : SomeOn (a .road)) (ys z
   now-most k own fine decide =
       present-most K (k * (K + 1)) road (S k) (T k) (h .ok .road) on (coupled h ys zs k own fine) (least-after h ys zs k own fine decide)
 
-  pub sooner-on : (k : ℕ) → ObeysUpTo a ys k → ObeysUpTo (scaled K a) zs k → Deciding a ys k
-      → SoonerOn K k (a .road) (scheduleAfter a ys k) (scheduleAfter (scaled K a) zs k)
-  sooner-on zero own fine decide = record {
+  pub above-by-shares : (k : ℕ) → ObeysUpTo a ys k → ObeysUpTo (scaled K a) zs k → Deciding a ys k
+      → AboveByShares K k (a .road) (scheduleAfter a ys k) (scheduleAfter (scaled K a) zs k)
+  above-by-shares zero own fine decide = record {
     present = now-least 0 own fine decide;
     total = omega (arith, ap (λ (z : ℕ). z * reachOf road 0) (start-times h ys zs .1 .1));
     gateTime = omega (arith, ap (λ (z : ℕ). z * reachOf road 0) (start-times h ys zs .0));
   }
-  sooner-on (suc k) own fine decide =
-      let past = sooner-on k (λ j l. own j (omega arith)) (λ j l. fine j (omega arith)) (λ j l. decide j (omega arith)) in
+  above-by-shares (suc k) own fine decide =
+      let past = above-by-shares k (λ j l. own j (omega arith)) (λ j l. fine j (omega arith)) (λ j l. decide j (omega arith)) in
       let now = now-least (suc k) own fine decide in
       record {
         present = now;
@@ -261,15 +261,15 @@ module _ {K : ℕ} {a : Study} (h : Countable K a) (on : SomeOn (a .road)) (ys z
             );
       }
 
-  pub later-on : (k : ℕ) → ObeysUpTo a ys k → ObeysUpTo (scaled K a) zs k → Deciding (scaled K a) zs k
-      → LaterOn K k (a .road) (scheduleAfter a ys k) (scheduleAfter (scaled K a) zs k)
-  later-on zero own fine decide = record {
+  pub below-by-shares : (k : ℕ) → ObeysUpTo a ys k → ObeysUpTo (scaled K a) zs k → Deciding (scaled K a) zs k
+      → BelowByShares K k (a .road) (scheduleAfter a ys k) (scheduleAfter (scaled K a) zs k)
+  below-by-shares zero own fine decide = record {
     present = now-most 0 own fine decide;
     total = omega (arith, ap (λ (z : ℕ). z * reachOf road 0) (start-times h ys zs .1 .1));
     gateTime = omega (arith, ap (λ (z : ℕ). z * reachOf road 0) (start-times h ys zs .0));
   }
-  later-on (suc k) own fine decide =
-      let past = later-on k (λ j l. own j (omega arith)) (λ j l. fine j (omega arith)) (λ j l. decide j (omega arith)) in
+  below-by-shares (suc k) own fine decide =
+      let past = below-by-shares k (λ j l. own j (omega arith)) (λ j l. fine j (omega arith)) (λ j l. decide j (omega arith)) in
       let now = now-most (suc k) own fine decide in
       record {
         present = now;
@@ -292,36 +292,36 @@ module _ {K : ℕ} {a : Study} (h : Countable K a) (on : SomeOn (a .road)) (ys z
 
 -- both bounds, for the two runs
 pub record NearTotal (K k : ℕ) (r : Road) (s t : State) : Type 0 where
-  pub sooner : SoonerOn K k r s t
-  pub later : LaterOn K k r s t
+  pub above : AboveByShares K k r s t
+  pub below : BelowByShares K k r s t
   -- road time is the total less gate and ramp time
   pub roadMost : 2 * (t .«road_time» * reachOf r 0)
       ≤ 2 * (K * s .«road_time» * reachOf r 0) + suc (r .n) * ((k * (k + 1) * (3 * K + 1) + 2 * k * K) * thousandsOf r 0)
   pub roadLeast : 2 * (K * s .«road_time» * reachOf r 0)
       ≤ 2 * (t .«road_time» * reachOf r 0) + suc (r .n) * ((k * (k + 1) * (3 * K + 1) + 2 * k) * thousandsOf r 0)
 
-pub near-total : (K k : ℕ) (r : Road) (s t : State) → t .«ramp_time» ≡ K * s .«ramp_time» → SoonerOn K k r s t → LaterOn K k r s t → NearTotal K k r s t
+pub near-total : (K k : ℕ) (r : Road) (s t : State) → t .«ramp_time» ≡ K * s .«ramp_time» → AboveByShares K k r s t → BelowByShares K k r s t → NearTotal K k r s t
 near-total K k r s t ramps x y = record {
-  sooner = x;
-  later = y;
+  above = x;
+  below = y;
   roadMost = road-most K (reachOf r 0) (thousandsOf r 0) (r .n) k (s .«gate_time») (t .«gate_time») (s .«road_time») (t .«road_time») (s .«ramp_time»)
       (t .«ramp_time») ramps (y .total) (x .gateTime);
   roadLeast = road-least K (reachOf r 0) (thousandsOf r 0) (r .n) k (s .«gate_time») (t .«gate_time») (s .«road_time») (t .«road_time») (s .«ramp_time»)
       (t .«ramp_time») ramps (x .total) (y .gateTime);
 }
 
-module _ {K : ℕ} {a : Study} (h : Countable K a) (on : SomeOn (a .road)) (k : ℕ) (fits : ReleasesFitUpTo a k) where
+module _ {K : ℕ} {a : Study} (h : FinerRequires K a) (on : SharesNotZero (a .road)) (k : ℕ) (fits : ReleasesFitUpTo a k) where
   pub rounding-total : ReleasesFitUpTo (scaled K a) k → NearTotal K k (a .road) (engineAfter a k) (engineAfter (scaled K a) k)
   rounding-total fine =
       subst⁻¹ (λ (u : State). NearTotal K k (a .road) (engineAfter a k) u) (engine-schedule (scaled K a) k)
       (subst⁻¹ (λ (u : State). NearTotal K k (a .road) u (scheduleAfter (scaled K a) (outflowsAt (scaled K a)) k)) (engine-schedule a k)
       (near-total K k (a .road) (scheduleAfter a (outflowsAt a) k) (scheduleAfter (scaled K a) (outflowsAt (scaled K a)) k)
       (ramp-time-finer h (outflowsAt a) (outflowsAt (scaled K a)) k (engine-obeys a k fits) (engine-obeys (scaled K a) k fine))
-      (sooner-on h on (outflowsAt a) (outflowsAt (scaled K a)) k (engine-obeys a k fits) (engine-obeys (scaled K a) k fine) (engine-decides h k fits))
-      (later-on h on (outflowsAt a) (outflowsAt (scaled K a)) k (engine-obeys a k fits) (engine-obeys (scaled K a) k fine) (finer-decides h k fine))))
+      (above-by-shares h on (outflowsAt a) (outflowsAt (scaled K a)) k (engine-obeys a k fits) (engine-obeys (scaled K a) k fine) (engine-decides h k fits))
+      (below-by-shares h on (outflowsAt a) (outflowsAt (scaled K a)) k (engine-obeys a k fits) (engine-obeys (scaled K a) k fine) (finer-decides h k fine))))
 
   -- demand 3 within the bound: no schedule of the finer study has less present, or a smaller total, by more than this
-  pub finer-schedules-total : (zs : List ℕ) → Reaches (scaled K a) zs k → SoonerOn K k (a .road) (engineAfter a k) (scheduledAt (scaled K a) zs k)
+  pub finer-schedules-total : (zs : List ℕ) → Reaches (scaled K a) zs k → AboveByShares K k (a .road) (engineAfter a k) (scheduledAt (scaled K a) zs k)
   finer-schedules-total zs reaches =
-      subst⁻¹ (λ (u : State). SoonerOn K k (a .road) u (scheduledAt (scaled K a) zs k)) (engine-schedule a k)
-      (sooner-on h on (outflowsAt a) (proposedAt (scaled K a) zs) k (engine-obeys a k fits) (reaches .obeys) (engine-decides h k fits))
+      subst⁻¹ (λ (u : State). AboveByShares K k (a .road) u (scheduledAt (scaled K a) zs k)) (engine-schedule a k)
+      (above-by-shares h on (outflowsAt a) (proposedAt (scaled K a) zs) k (engine-obeys a k fits) (reaches .obeys) (engine-decides h k fits))

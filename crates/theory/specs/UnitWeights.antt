@@ -15,16 +15,16 @@ use Rattle.model.specs.Weights.{weightedPresent, weightedTotal, weightedTotalOf
 use Rattle.theory.specs.WeightsLaws.{ones, none, gateAlone, cellsAlone, weighted-ones, weighted-gate, weighted-cells, weighted-ramps}
 use Rattle.model.specs.Reading.{readingOf, studyOf}
 use Rattle.theory.specs.Readable.{readable}
-use Rattle.model.specs.Demand.{Reaches, Taken}
+use Rattle.model.specs.Demand.{Reaches, Openable}
 use Rattle.theory.specs.Accounts.{accounts}
 
 -- for every schedule, after every step that it reaches; the rows of the run are such a schedule
-module _ (bytes lanes zs : List ℕ) (taken : Taken bytes lanes) (k : ℕ) (reach : Reaches (studyOf bytes lanes) zs k) where
+module _ (bytes lanes zs : List ℕ) (openable : Openable bytes lanes) (k : ℕ) (reach : Reaches (studyOf bytes lanes) zs k) where
   abbrev a : Study
   a = studyOf bytes lanes
 
   at-step : (j : ℕ) → Sized (a .road) (scheduledAt a zs (suc j))
-  at-step j = schedule-sized a (proposedAt a zs) (readable bytes lanes (readingOf bytes) refl (taken .reads) (taken .opens) .ok) (suc j)
+  at-step j = schedule-sized a (proposedAt a zs) (readable bytes lanes (readingOf bytes) refl (openable .reads) (openable .opens) .ok) (suc j)
 
   module _ (w u : ℕ → ℕ) (count : State → ℕ) (h : (s : State) → Sized (a .road) s → weightedPresent w u (a .road .n) s ≡ count s) where
     counts : weightedTotalOfSchedule w u (studyOf bytes lanes) zs k ≡ sumOf (listOf (λ j. count (scheduledAt (studyOf bytes lanes) zs (suc j))) k)
@@ -32,13 +32,13 @@ module _ (bytes lanes zs : List ℕ) (taken : Taken bytes lanes) (k : ℕ) (reac
     counts = sum-list-same _ _ k (λ j l. h (scheduledAt a zs (suc j)) (at-step j))
 
   pub ones-total : weightedTotalOfSchedule ones ones (studyOf bytes lanes) zs k ≡ totalOf (scheduledAt (studyOf bytes lanes) zs k)
-  ones-total = counts ones ones (presentOf (a .road)) (weighted-ones (a .road)) ∙ sym (accounts bytes lanes zs taken k reach .total)
+  ones-total = counts ones ones (presentOf (a .road)) (weighted-ones (a .road)) ∙ sym (accounts bytes lanes zs openable k reach .total)
 
   pub gate-time : weightedTotalOfSchedule gateAlone none (studyOf bytes lanes) zs k ≡ scheduledAt (studyOf bytes lanes) zs k .«gate_time»
-  gate-time = counts gateAlone none (λ s. s .«gate_queue») (weighted-gate (a .road)) ∙ sym (accounts bytes lanes zs taken k reach .gateTime)
+  gate-time = counts gateAlone none (λ s. s .«gate_queue») (weighted-gate (a .road)) ∙ sym (accounts bytes lanes zs openable k reach .gateTime)
 
   pub road-time : weightedTotalOfSchedule cellsAlone none (studyOf bytes lanes) zs k ≡ scheduledAt (studyOf bytes lanes) zs k .«road_time»
-  road-time = counts cellsAlone none (heldSum (a .road)) (weighted-cells (a .road)) ∙ sym (accounts bytes lanes zs taken k reach .roadTime)
+  road-time = counts cellsAlone none (heldSum (a .road)) (weighted-cells (a .road)) ∙ sym (accounts bytes lanes zs openable k reach .roadTime)
 
   pub ramp-time : weightedTotalOfSchedule none ones (studyOf bytes lanes) zs k ≡ scheduledAt (studyOf bytes lanes) zs k .«ramp_time»
-  ramp-time = counts none ones (queueSum (a .road)) (weighted-ramps (a .road)) ∙ sym (accounts bytes lanes zs taken k reach .rampTime)
+  ramp-time = counts none ones (queueSum (a .road)) (weighted-ramps (a .road)) ∙ sym (accounts bytes lanes zs openable k reach .rampTime)

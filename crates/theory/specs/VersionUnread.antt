@@ -23,8 +23,8 @@ use Rattle.model.specs.Stepping.{lowestOf, releasesOf, stepOn, steppingOf}
 use Rattle.model.specs.Judging.{outflowFaultAt, verdictOf}
 
 -- a road with another version and other seconds
-abbrev pub stamped : ℕ → ℕ → Road → Road
-stamped version seconds r = record {
+abbrev pub withVersion : ℕ → ℕ → Road → Road
+withVersion version seconds r = record {
   n = r .n;
   version = version;
   seconds = seconds;
@@ -39,7 +39,7 @@ stamped version seconds r = record {
 
 -- b is the study a, except for the version and the seconds of its road
 pub record OtherVersion (a b : Study) : Type 0 where
-  pub road : b .road ≡ stamped (b .road .version) (b .road .seconds) (a .road)
+  pub road : b .road ≡ withVersion (b .road .version) (b .road .seconds) (a .road)
   pub start : b .start ≡ a .start
   pub steps : b .steps ≡ a .steps
   pub rows : (k : ℕ) → k < a .steps → b .rows k ≡ a .rows k
@@ -59,76 +59,76 @@ lowest-same f g n base h = rw (fault-same f g n h) (go (eqb (firstFault g n) n) 
 
 -- one step
 module _ (version seconds : ℕ) (r : Road) where
-  pub share-stamped : (p : ℕ) → shareAt (stamped version seconds r) p ≡ shareAt r p
+  pub share-version : (p : ℕ) → shareAt (withVersion version seconds r) p ≡ shareAt r p
   unfolding shareAt
-  share-stamped zero = refl
-  share-stamped (suc i) = refl
+  share-version zero = refl
+  share-version (suc i) = refl
 
-  demand-stamped : (s : State) (p : ℕ) → demandAt (stamped version seconds r) s p ≡ demandAt r s p
+  demand-version : (s : State) (p : ℕ) → demandAt (withVersion version seconds r) s p ≡ demandAt r s p
   unfolding demandAt capacityAt
-  demand-stamped s zero = refl
-  demand-stamped s (suc i) = refl
+  demand-version s zero = refl
+  demand-version s (suc i) = refl
 
-  outflow-stamped : (s : State) (row : List ℕ) (p : ℕ) → outflowAt (stamped version seconds r) s row p ≡ outflowAt r s row p
+  outflow-version : (s : State) (row : List ℕ) (p : ℕ) → outflowAt (withVersion version seconds r) s row p ≡ outflowAt r s row p
   unfolding capacityAt
-  outflow-stamped s row p = rw (share-stamped p, demand-stamped s p)
+  outflow-version s row p = rw (share-version p, demand-version s p)
 
-  pub outflows-stamped : (s : State) (row : List ℕ) → outflowsOf (stamped version seconds r) s row ≡ outflowsOf r s row
+  pub outflows-version : (s : State) (row : List ℕ) → outflowsOf (withVersion version seconds r) s row ≡ outflowsOf r s row
   unfolding outflowsOf
-  outflows-stamped s row =
+  outflows-version s row =
       rw (
-        list-same (outflowAt (stamped version seconds r) s row) (outflowAt r s row) (r .n) (λ p l. outflow-stamped s row p),
-        demand-stamped s (r .n),
+        list-same (outflowAt (withVersion version seconds r) s row) (outflowAt r s row) (r .n) (λ p l. outflow-version s row p),
+        demand-version s (r .n),
       )
 
-  held-stamped : (s : State) (row y : List ℕ) (i : ℕ) → heldOf (stamped version seconds r) s row y i ≡ heldOf r s row y i
-  held-stamped s row y i = rw (share-stamped i)
+  held-version : (s : State) (row y : List ℕ) (i : ℕ) → heldOf (withVersion version seconds r) s row y i ≡ heldOf r s row y i
+  held-version s row y i = rw (share-version i)
 
-  pub next-stamped : (s : State) (row y : List ℕ) → nextOf (stamped version seconds r) s row y ≡ nextOf r s row y
+  pub next-version : (s : State) (row y : List ℕ) → nextOf (withVersion version seconds r) s row y ≡ nextOf r s row y
   unfolding countedOf movedTo
-  next-stamped s row y =
-      rw (fill-same (heldOf (stamped version seconds r) s row y) (heldOf r s row y) (r .n) (s .held) (λ i l. held-stamped s row y i))
+  next-version s row y =
+      rw (fill-same (heldOf (withVersion version seconds r) s row y) (heldOf r s row y) (r .n) (s .held) (λ i l. held-version s row y i))
 
-  pub releases-stamped : (s : State) (row : List ℕ) → releasesOf (stamped version seconds r) s row ≡ releasesOf r s row
+  pub releases-version : (s : State) (row : List ℕ) → releasesOf (withVersion version seconds r) s row ≡ releasesOf r s row
   unfolding capacityAt
-  releases-stamped s row = refl
+  releases-version s row = refl
 
-  pub exits-stamped : (s : State) → exitsOf (stamped version seconds r) s ≡ exitsOf r s
+  pub exits-version : (s : State) → exitsOf (withVersion version seconds r) s ≡ exitsOf r s
   unfolding exitsOf
-  exits-stamped s = refl
+  exits-version s = refl
 
   -- judging's fault of a row
-  fault-stamped : (s : State) (row y : List ℕ) (p : ℕ) → outflowFaultAt (stamped version seconds r) s row y p ≡ outflowFaultAt r s row y p
+  fault-version : (s : State) (row y : List ℕ) (p : ℕ) → outflowFaultAt (withVersion version seconds r) s row y p ≡ outflowFaultAt r s row y p
   unfolding outflowFaultAt capacityAt
-  fault-stamped s row y p = rw (share-stamped p, demand-stamped s p)
+  fault-version s row y p = rw (share-version p, demand-version s p)
 
-  pub verdict-stamped : (s : State) (row y : List ℕ) → verdictOf (stamped version seconds r) s row y ≡ verdictOf r s row y
+  pub verdict-version : (s : State) (row y : List ℕ) → verdictOf (withVersion version seconds r) s row y ≡ verdictOf r s row y
   unfolding verdictOf capacityAt
-  verdict-stamped s row y =
-      rw (lowest-same (outflowFaultAt (stamped version seconds r) s row y) (outflowFaultAt r s row y) (r .n + 1) 0 (λ p l. fault-stamped s row y p))
+  verdict-version s row y =
+      rw (lowest-same (outflowFaultAt (withVersion version seconds r) s row y) (outflowFaultAt r s row y) (r .n + 1) 0 (λ p l. fault-version s row y p))
 
   -- the test of 7
-  place-stamped : (s : State) (p : ℕ) → placeOk (stamped version seconds r) s p ≡ placeOk r s p
+  place-version : (s : State) (p : ℕ) → placeOk (withVersion version seconds r) s p ≡ placeOk r s p
   unfolding placeOk
-  place-stamped s zero = refl
-  place-stamped s (suc i) = refl
+  place-version s zero = refl
+  place-version s (suc i) = refl
 
-  pub input-stamped : (s : State) (row : List ℕ) → inputOk (stamped version seconds r) s row ≡ inputOk r s row
+  pub input-version : (s : State) (row : List ℕ) → inputOk (withVersion version seconds r) s row ≡ inputOk r s row
   unfolding inputOk
-  input-stamped s row =
-      rw (first-same (placeOk (stamped version seconds r) s) (placeOk r s) (r .n + 1) (λ p l. place-stamped s p))
+  input-version s row =
+      rw (first-same (placeOk (withVersion version seconds r) s) (placeOk r s) (r .n + 1) (λ p l. place-version s p))
 
 -- stepping itself, 7 and 18 included
-pub stepping-stamped : (version seconds : ℕ) (r : Road) (s : State) (row built usable : List ℕ)
-    → steppingOf (stamped version seconds r) s row built usable ≡ steppingOf r s row built usable
+pub stepping-version : (version seconds : ℕ) (r : Road) (s : State) (row built usable : List ℕ)
+    → steppingOf (withVersion version seconds r) s row built usable ≡ steppingOf r s row built usable
 unfolding steppingOf
-stepping-stamped version seconds r s row built usable =
+stepping-version version seconds r s row built usable =
     let q = openRoad r built usable in
     rw (
-      input-stamped version seconds r s row,
-      releases-stamped version seconds q s row,
-      outflows-stamped version seconds q s row,
-      next-stamped version seconds q s row (outflowsOf q s row),
+      input-version version seconds r s row,
+      releases-version version seconds q s row,
+      outflows-version version seconds q s row,
+      next-version version seconds q s row (outflowsOf q s row),
     )
 
 -- the road of step k, from a road and a table of lanes
@@ -143,17 +143,17 @@ module _ {a b : Study} (h : OtherVersion a b) where
   abbrev seconds : ℕ
   seconds = b .road .seconds
 
-  pub road-at : (k : ℕ) → roadAt b k ≡ stamped version seconds (roadAt a k)
+  pub road-at : (k : ℕ) → roadAt b k ≡ withVersion version seconds (roadAt a k)
   unfolding roadAt
   road-at k =
       ap (λ (r : Road). roadWith r (b .lanes) k) (h .road)
-      ∙ ap (λ (l : List ℕ). roadWith (stamped version seconds (a .road)) l k) (h .lanes)
+      ∙ ap (λ (l : List ℕ). roadWith (withVersion version seconds (a .road)) l k) (h .lanes)
       ∙ go (eqb (length (a .lanes)) 0)
     where
       go : (t : Bool)
-          → cond t (stamped version seconds (a .road))
-          (openRoad (stamped version seconds (a .road)) (builtIn (a .lanes) (a .road .n)) (openIn (a .lanes) (a .road .n) k))
-          ≡ stamped version seconds (cond t (a .road) (openRoad (a .road) (builtIn (a .lanes) (a .road .n)) (openIn (a .lanes) (a .road .n) k)))
+          → cond t (withVersion version seconds (a .road))
+          (openRoad (withVersion version seconds (a .road)) (builtIn (a .lanes) (a .road .n)) (openIn (a .lanes) (a .road .n) k))
+          ≡ withVersion version seconds (cond t (a .road) (openRoad (a .road) (builtIn (a .lanes) (a .road .n)) (openIn (a .lanes) (a .road .n) k)))
       go true = refl
       go false = refl
 
@@ -161,13 +161,13 @@ module _ {a b : Study} (h : OtherVersion a b) where
   outflows-from : (k : ℕ) → k < a .steps → (s : State) → outflowsOf (roadAt b k) s (b .rows k) ≡ outflowsOf (roadAt a k) s (a .rows k)
   outflows-from k l s =
       ap (λ (r : Road). outflowsOf r s (b .rows k)) (road-at k)
-      ∙ outflows-stamped version seconds (roadAt a k) s (b .rows k)
+      ∙ outflows-version version seconds (roadAt a k) s (b .rows k)
       ∙ ap (outflowsOf (roadAt a k) s) (h .rows k l)
 
   next-from : (k : ℕ) → k < a .steps → (s : State) (y : List ℕ) → nextOf (roadAt b k) s (b .rows k) y ≡ nextOf (roadAt a k) s (a .rows k) y
   next-from k l s y =
       ap (λ (r : Road). nextOf r s (b .rows k) y) (road-at k)
-      ∙ next-stamped version seconds (roadAt a k) s (b .rows k) y
+      ∙ next-version version seconds (roadAt a k) s (b .rows k) y
       ∙ ap (λ (row : List ℕ). nextOf (roadAt a k) s row y) (h .rows k l)
 
   -- the same state after every step
@@ -192,7 +192,7 @@ module _ {a b : Study} (h : OtherVersion a b) where
   same-releases k l =
       ap (λ (u : State). releasesOf (roadAt b k) u (b .rows k)) (same-state k (omega arith))
       ∙ ap (λ (r : Road). releasesOf r (engineAfter a k) (b .rows k)) (road-at k)
-      ∙ releases-stamped version seconds (roadAt a k) (engineAfter a k) (b .rows k)
+      ∙ releases-version version seconds (roadAt a k) (engineAfter a k) (b .rows k)
       ∙ ap (releasesOf (roadAt a k) (engineAfter a k)) (h .rows k l)
 
   pub same-total : (k : ℕ) → k ≤ a .steps → totalOf (engineAfter b k) ≡ totalOf (engineAfter a k)
@@ -202,7 +202,7 @@ module _ {a b : Study} (h : OtherVersion a b) where
   same-exits k l =
       ap (exitsOf (b .road)) (same-state k l)
       ∙ ap (λ (r : Road). exitsOf r (engineAfter a k)) (h .road)
-      ∙ exits-stamped version seconds (a .road) (engineAfter a k)
+      ∙ exits-version version seconds (a .road) (engineAfter a k)
 
   -- for any schedule: the same states, and the same verdict on each of its rows
   pub same-schedule : (ys : ℕ → List ℕ) (k : ℕ) → k ≤ a .steps → scheduleAfter b ys k ≡ scheduleAfter a ys k
@@ -216,5 +216,5 @@ module _ {a b : Study} (h : OtherVersion a b) where
   same-verdict ys k l =
       ap (λ (u : State). verdictOf (roadAt b k) u (b .rows k) (ys k)) (same-schedule ys k (omega arith))
       ∙ ap (λ (r : Road). verdictOf r (scheduleAfter a ys k) (b .rows k) (ys k)) (road-at k)
-      ∙ verdict-stamped version seconds (roadAt a k) (scheduleAfter a ys k) (b .rows k) (ys k)
+      ∙ verdict-version version seconds (roadAt a k) (scheduleAfter a ys k) (b .rows k) (ys k)
       ∙ ap (λ (row : List ℕ). verdictOf (roadAt a k) (scheduleAfter a ys k) row (ys k)) (h .rows k l)

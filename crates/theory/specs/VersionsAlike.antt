@@ -17,11 +17,11 @@ use Rattle.model.specs.Numbers.{rowAt, frontOf}
 use Rattle.numbers.specs.TablesLaws.{front-same}
 use Rattle.model.specs.Schedules.{Study, roadAt, places, tableSize, scheduleAfter, engineAfter, outflowsAt, proposedAt, scheduledAt}
 use Rattle.theory.specs.StepLaws.{number-of}
-use Rattle.model.specs.Judging.{verdictOf, judgeSays, judgeEnd, judgingOf}
+use Rattle.model.specs.Judging.{verdictOf, judgeFault, judgeEnd, judgingOf}
 use Rattle.theory.specs.VersionUnread.{OtherVersion, same-state, same-outflows, same-releases, same-schedule, same-verdict}
 use Rattle.model.specs.Reading.{studyOf}
-use Rattle.model.specs.Demand.{Taken}
-use Rattle.model.specs.Running.{runSays, firstStep, EndAnswer, endOf, runEnd, tableOf, runningOf, listAfter}
+use Rattle.model.specs.Demand.{Openable}
+use Rattle.model.specs.Running.{runFault, firstStep, EndAnswer, endOf, runEnd, tableOf, runningOf, listAfter}
 use Rattle.theory.specs.SchedulesLaws.{runTable, step-within, end-all, end-fault}
 use Rattle.theory.specs.RunEnds.{runs-short, runs-long, writes-short, writes-long, judges-length, judges-ends}
 
@@ -37,7 +37,7 @@ alike-self d = record { number = refl; step = refl; place = refl; state = refl }
 
 -- two studies that differ only in this way, with the same faults and the same states
 module _ {a b : Study} (h : OtherVersion a b) (f g : ℕ → FaultAnswer) (x y : ℕ → State)
-    (says : (k : ℕ) → k < a .steps → g k ≡ f k) (states : (k : ℕ) → k ≤ a .steps → y k ≡ x k) where
+    (faults : (k : ℕ) → k < a .steps → g k ≡ f k) (states : (k : ℕ) → k ≤ a .steps → y k ≡ x k) where
   abbrev T : ℕ
   T = a .steps
 
@@ -46,7 +46,7 @@ module _ {a b : Study} (h : OtherVersion a b) (f g : ℕ → FaultAnswer) (x y :
 
   -- they have the same first fault
   pub same-first : firstStep g (b .steps) ≡ firstStep f (a .steps)
-  same-first = ap (firstStep g) (h .steps) ∙ fault-same (λ k. g k .number) (λ k. f k .number) T (λ k l. number-of (says k l))
+  same-first = ap (firstStep g) (h .steps) ∙ fault-same (λ k. g k .number) (λ k. f k .number) T (λ k l. number-of (faults k l))
 
   -- they end alike
   pub same-end : EndsAlike (endOf a f x) (endOf b g y)
@@ -60,7 +60,7 @@ module _ {a b : Study} (h : OtherVersion a b) (f g : ℕ → FaultAnswer) (x y :
       go false e =
           let l : K < T = omega (arith, step-within f T, eqb-false K T e) in
           let m : firstStep g (b .steps) < b .steps = omega (arith, same-first, h .steps) in
-          let q : g (firstStep g (b .steps)) ≡ f (firstStep f (a .steps)) = ap g same-first ∙ says K l in
+          let q : g (firstStep g (b .steps)) ≡ f (firstStep f (a .steps)) = ap g same-first ∙ faults K l in
           let s : y (firstStep g (b .steps)) ≡ x (firstStep f (a .steps)) = ap y same-first ∙ states K (omega arith) in
           rw (end-fault a f x l, end-fault b g y m)
           (record { number = number-of q; step = same-first; place = ap (λ (p : FaultAnswer). p .place) q; state = s })
@@ -74,16 +74,16 @@ module _ {a b : Study} (h : OtherVersion a b) where
   same-table = ap (λ (t : ℕ). t * places b) (h .steps) ∙ ap (λ (p : ℕ). a .steps * p) same-places
 
   -- the run's first fault and end
-  run-first : firstStep (runSays b) (b .steps) ≡ firstStep (runSays a) (a .steps)
-  run-first = same-first h (runSays a) (runSays b) (engineAfter a) (engineAfter b) (same-releases h) (same-state h)
+  run-first : firstStep (runFault b) (b .steps) ≡ firstStep (runFault a) (a .steps)
+  run-first = same-first h (runFault a) (runFault b) (engineAfter a) (engineAfter b) (same-releases h) (same-state h)
 
   pub run-end : EndsAlike (runEnd a) (runEnd b)
-  run-end = same-end h (runSays a) (runSays b) (engineAfter a) (engineAfter b) (same-releases h) (same-state h)
+  run-end = same-end h (runFault a) (runFault b) (engineAfter a) (engineAfter b) (same-releases h) (same-state h)
 
   -- the end of a schedule's judgement
   pub judge-end : (zs : List ℕ) → EndsAlike (judgeEnd a zs) (judgeEnd b zs)
   judge-end zs =
-      same-end h (judgeSays a zs) (judgeSays b zs) (scheduledAt a zs) (scheduledAt b zs)
+      same-end h (judgeFault a zs) (judgeFault b zs) (scheduledAt a zs) (scheduledAt b zs)
       (λ k l.
       ap (λ (p : ℕ). verdictOf (roadAt b k) (scheduleAfter b (rowAt zs p) k) (b .rows k) (rowAt zs p k)) same-places ∙ same-verdict h (proposedAt a zs) k l)
       (λ k l. ap (λ (p : ℕ). scheduleAfter b (rowAt zs p) k) same-places ∙ same-schedule h (proposedAt a zs) k l)
@@ -91,14 +91,14 @@ module _ {a b : Study} (h : OtherVersion a b) where
   -- the same rows
   pub same-rows : (list : List ℕ) → runTable b list ≡ runTable a list
   same-rows list =
-      let k = firstStep (runSays a) (a .steps) in
-      let l : k ≤ a .steps = step-within (runSays a) (a .steps) in
+      let k = firstStep (runFault a) (a .steps) in
+      let l : k ≤ a .steps = step-within (runFault a) (a .steps) in
       ap (tableOf b list) run-first
       ∙ front-same (outflowsAt b) (outflowsAt a) (places b) list k (λ i m. same-outflows h i (omega arith))
       ∙ ap (λ (p : ℕ). frontOf (outflowsAt a) p list k) same-places
 
 -- for two records without a refusal under one table of lanes: running and judging answer alike, and running leaves the same list
-module _ (s t lanes : List ℕ) (first : Taken s lanes) (other : Taken t lanes) (h : OtherVersion (studyOf s lanes) (studyOf t lanes)) (list : List ℕ) where
+module _ (s t lanes : List ℕ) (first : Openable s lanes) (other : Openable t lanes) (h : OtherVersion (studyOf s lanes) (studyOf t lanes)) (list : List ℕ) where
   pub runs-alike : EndsAlike (runningOf s lanes list) (runningOf t lanes list)
   runs-alike =
       let z = same-table h in

@@ -24,17 +24,17 @@ use Rattle.theory.specs.Coupling.{Coupling, sized-finer}
 use Rattle.theory.specs.StepRules.{DecidedOutflows, demand-most, demand-least, room-most, room-least}
 
 -- all that leaves a place before the last enters the next cell
-abbrev pub AllOn : Road → Type 0
-AllOn r = (p : ℕ) → p < r .n → shareAt r p ≡ whole
+abbrev pub SharesWhole : Road → Type 0
+SharesWhole r = (p : ℕ) → p < r .n → shareAt r p ≡ whole
 
-pub all-on-alike : (a b : Road) → Alike a b → AllOn a → AllOn b
-all-on-alike a b h on p l = share-alike a b h p (omega (arith, h .n)) ∙ on p (omega (arith, h .n))
+pub shares-whole-alike : (a b : Road) → Alike a b → SharesWhole a → SharesWhole b
+shares-whole-alike a b h on p l = share-alike a b h p (omega (arith, h .n)) ∙ on p (omega (arith, h .n))
 
 -- its onward total is its cumulative outflow
-pub onward-all : (r : Road) → AllOn r → (u : State) (p : ℕ) → p < r .n → onwardAt r u p ≡ cumulativeAt u p
+pub onward-all : (r : Road) → SharesWhole r → (u : State) (p : ℕ) → p < r .n → onwardAt r u p ≡ cumulativeAt u p
 onward-all r on u p l = ap (λ (b : ℕ). onwardOf b (cumulativeAt u p)) (on p l) ∙ onward-whole (cumulativeAt u p)
 
-module _ (K U : ℕ) (q q′ : Road) (s t : State) (row y z : List ℕ) (k : 0 < K) (road : RoadOk q) (f : FinerRoad K q q′) (on : AllOn q)
+module _ (K U : ℕ) (q q′ : Road) (s t : State) (row y z : List ℕ) (k : 0 < K) (road : RoadOk q) (f : FinerRoad K q q′) (on : SharesWhole q)
     (own : Obeys q s row y) (fine : Obeys q′ t (timesOf K row) z) (c : Coupling K q s t) where
   abbrev S′ : State
   S′ = nextOf q s row y

@@ -27,7 +27,7 @@ pub record ReleasedSoFar (start ceiling rate : ℕ) (arrivals : List ℕ) (queue
   pub passed : PassedTests (λ j. leb (lowestQueue start rate arrivals (suc j)) ceiling) (length arrivals) k
 
 -- the start queue and k arrivals are added
-pub record AddedSoFar (start : ℕ) (arrivals : List ℕ) (total k : ℕ) : Type 0 where
+pub record InflowSoFar (start : ℕ) (arrivals : List ℕ) (total k : ℕ) : Type 0 where
   pub within : k ≤ length arrivals
   pub sum : total ≡ inflowOf start arrivals k
 
@@ -45,25 +45,25 @@ larger-is h e f = h ∙ rw (e, f) refl
 
 -- the answer of the search, and the table that it leaves
 pub record SearchOutcome (start ceiling rate : ℕ) (arrivals table : List ℕ) (a : WantedAnswer) (left : List ℕ) : Type 0 where
-  pub says : a ≡ wantedOf start ceiling rate arrivals (length table)
+  pub answer : a ≡ wantedOf start ceiling rate arrivals (length table)
   pub leaves : left ≡ tableAfter start ceiling rate arrivals table
 
 module _ {start : ℕ} {arrivals : List ℕ} where
-  pub added-none : AddedSoFar start arrivals start 0
+  pub added-none : InflowSoFar start arrivals start 0
   added-none = record { within = omega arith; sum = sym (inflow-none start arrivals) }
 
-  pub added-fits : {total k : ℕ} → ArrivalsOk start arrivals → AddedSoFar start arrivals total k → k < length arrivals
+  pub added-fits : {total k : ℕ} → ArrivalsOk start arrivals → InflowSoFar start arrivals total k → k < length arrivals
       → total + at arrivals k ≤ mostStart + length arrivals * mostRate
   added-fits {total} {k} p h l =
       omega (arith, h .sum, inflow-more start arrivals k l, inflow-most start arrivals p (suc k) l)
 
-  pub added-more : {total k : ℕ} → AddedSoFar start arrivals total k → k < length arrivals → AddedSoFar start arrivals (total + at arrivals k) (k + 1)
+  pub added-more : {total k : ℕ} → InflowSoFar start arrivals total k → k < length arrivals → InflowSoFar start arrivals (total + at arrivals k) (k + 1)
   added-more {total} {k} h l = record {
     within = omega arith;
     sum = rw add-one (omega (arith, h .sum, inflow-more start arrivals k l));
   }
 
-  pub added-end : {total k : ℕ} → AddedSoFar start arrivals total k → length arrivals ≤ k → total ≡ inflowOf start arrivals (length arrivals)
+  pub added-end : {total k : ℕ} → InflowSoFar start arrivals total k → length arrivals ≤ k → total ≡ inflowOf start arrivals (length arrivals)
   added-end {k = k} h l = let e : k ≡ length arrivals = omega (arith, h .within) in h .sum ∙ ap (inflowOf start arrivals) e
 
 module _ {start ceiling rate : ℕ} {arrivals : List ℕ} where
@@ -163,7 +163,7 @@ module _ (start ceiling rate : ℕ) (arrivals table : List ℕ) where
   refused : wantedOk start ceiling rate arrivals (length table) ≡ false
       → SearchOutcome start ceiling rate arrivals table (searchAnswer 23 false false) table
   unfolding wantedOf tableAfter
-  refused n = record { says = rw n; leaves = rw n }
+  refused n = record { answer = rw n; leaves = rw n }
 
   pub ends-frame : wantedFrameOk start ceiling rate (length arrivals) (length table) ≡ false
       → SearchOutcome start ceiling rate arrivals table (searchAnswer 23 false false) table
@@ -176,9 +176,9 @@ module _ (start ceiling rate : ℕ) (arrivals table : List ℕ) where
     module _ (w : allWithin arrivals mostRate ≡ true) where
       pub ends-none : possibleOf start ceiling rate arrivals ≡ false → SearchOutcome start ceiling rate arrivals table (searchAnswer 0 true false) table
       unfolding wantedOf tableAfter
-      ends-none n = record { says = rw (f, w, n); leaves = rw (f, w, n) }
+      ends-none n = record { answer = rw (f, w, n); leaves = rw (f, w, n) }
 
       pub ends-found : possibleOf start ceiling rate arrivals ≡ true
           → SearchOutcome start ceiling rate arrivals table (searchAnswer 0 true true) (leastTable start ceiling rate arrivals)
       unfolding wantedOf tableAfter
-      ends-found n = record { says = rw (f, w, n); leaves = rw (f, w, n) }
+      ends-found n = record { answer = rw (f, w, n); leaves = rw (f, w, n) }

@@ -18,8 +18,8 @@ use Rattle.model.specs.Record.{secondsSize, rowNumbers}
 use Rattle.model.specs.Limits.{placeOk}
 use Rattle.model.specs.Reading.{sizeOf, bothVersions, cellsAndStepsOk, secondsOk}
 use Rattle.fields.specs.HeaderLaws.{Counts, counts-facts, facts-counts}
-use Rattle.model.specs.Writing.{unwritten, written, givenOk, frameFault, frameOf, writingBy, writingOf}
-use Rattle.model.specs.Encoding.{recordSize, given}
+use Rattle.model.specs.Writing.{unwritten, writtenCount, givenOk, frameFault, frameOf, writingBy, writingOf}
+use Rattle.model.specs.Encoding.{recordSize, givenStudy}
 use Rattle.encoding.specs.Encoding.{Rows}
 
 -- a study of n cells and T steps without rows, whose other numbers are 0
@@ -86,9 +86,9 @@ module _ (a : Study) (numbers : ℕ) where
   Lets m = m ≡ 0 → FrameOk a numbers
 
   -- without a fault all five hold
-  pub framed : frameOf a numbers ≡ 0 → FrameOk a numbers
+  pub frame-ok : frameOf a numbers ≡ 0 → FrameOk a numbers
   unfolding frameFault
-  framed =
+  frame-ok =
       unless-elim Lets (oneOf bothVersions (a .road .version)) (λ _ z. absurd (omega arith)) (λ version.
       unless-elim Lets (cellsAndStepsOk (a .road .n) (a .steps)) (λ _ z. absurd (omega arith)) (λ counts.
       unless-elim Lets (secondsOk (a .road .version) (a .road .seconds)) (λ _ z. absurd (omega arith)) (λ seconds.
@@ -124,7 +124,7 @@ module _ (a : Study) (numbers room : ℕ) where
     -- the tests after the first five
     body : unlessFirst (placeOk (a .road) (a .start)) (a .road .n + 1) (unwritten 5)
         (unlessFirst (givenOk a) (a .steps) (unwritten 6)
-        (unless (leb (recordSize a) room) (unwritten 15 0) (written (recordSize a))))
+        (unless (leb (recordSize a) room) (unwritten 15 0) (writtenCount (recordSize a))))
         ≡ writingBy a numbers room
     body = rw (eq-eqb (frameOf a numbers) 0 (faultless a numbers ok)) refl
 
@@ -140,12 +140,12 @@ module _ (a : Study) (numbers room : ℕ) where
         answer-short l =
             rw (← body, ← ep, eq-eqb p (a .road .n + 1) hp, ← et, eq-eqb t (a .steps) ht, lt-leb (recordSize a) room l)
 
-        pub answer-written : recordSize a ≤ room → written (recordSize a) ≡ writingBy a numbers room
+        pub answer-written : recordSize a ≤ room → writtenCount (recordSize a) ≡ writingBy a numbers room
         answer-written l =
             rw (← body, ← ep, eq-eqb p (a .road .n + 1) hp, ← et, eq-eqb t (a .steps) ht, le-leb (recordSize a) room l)
 
 -- the answer for what was given
 pub by-given : (road : Road) (T : ℕ) (start : Start) (rows target : List ℕ)
-    → writingBy (given road T start rows) (length rows) (length target) ≡ writingOf road T start rows target
+    → writingBy (givenStudy road T start rows) (length rows) (length target) ≡ writingOf road T start rows target
 unfolding writingOf
 by-given road T start rows target = refl

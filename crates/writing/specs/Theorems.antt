@@ -17,9 +17,9 @@ use Rattle.model.specs.Record.{secondVersion, rowNumbers, recordRow}
 use Rattle.model.specs.Limits.{placeOk}
 use Rattle.limits.specs.LimitsLaws.{places-road, places-state, place-ok, row-facts, row-ok}
 use Rattle.model.specs.Reading.{sizeOf, readingOf, studyOf}
-use Rattle.model.specs.Encoding.{recordOf, given}
+use Rattle.model.specs.Encoding.{recordOf, givenStudy}
 use Rattle.encoding.specs.Encoding.{length-record}
-use Rattle.model.specs.Writing.{WriteAnswer, written, givenOk, writingOf, targetAfter, cutRoad, cutState, ReadsBack}
+use Rattle.model.specs.Writing.{WriteAnswer, writtenCount, givenOk, writingOf, targetAfter, cutRoad, cutState, ReadsBack}
 use Rattle.writing.specs.Checks.{answer-written, by-given}
 use Rattle.writing.specs.AcceptedStudy.{AcceptedStudy, given-accepted, refused-count, target-refused, target-written}
 use Rattle.writing.specs.CutLaws.{kept-second, kept-none}
@@ -33,7 +33,7 @@ savedOf road T start rows target = take (writingOf road T start rows target .cou
 
 -- what writing accepts is within the limits
 recordable : (road : Road) (T : ℕ) (start : Start) (rows : List ℕ) (room : ℕ)
-    → AcceptedStudy (given road T start rows) (length rows) room → Recordable (given road T start rows)
+    → AcceptedStudy (givenStudy road T start rows) (length rows) room → Recordable (givenStudy road T start rows)
 recordable road T start rows room ok =
     let f = ok .frame in
     let r = places-road road (startState start) (ok .places) (f .counts .someCells) (f .counts .cells) in
@@ -57,14 +57,14 @@ module _ (road : Road) (T : ℕ) (start : Start) (rows target : List ℕ) where
     -- bytes beyond the record are unchanged
     pub beyond : drop (sizeOf (road .version) (road .n) T) (targetAfter road T start rows target) ≡ drop (sizeOf (road .version) (road .n) T) target
 
-  pub saved : writingOf road T start rows target .number ≡ 0 → SavedRecord
-  saved h =
+  pub saved-record : writingOf road T start rows target .number ≡ 0 → SavedRecord
+  saved-record h =
       let ok = given-accepted road T start rows target h in
-      let a = given road T start rows in
+      let a = givenStudy road T start rows in
       let within = recordable road T start rows (length target) ok in
       let size : writingOf road T start rows target .count ≡ sizeOf (road .version) (road .n) T =
       sym (ap (λ (x : WriteAnswer). x .count) (by-given road T start rows target)) ∙ ap (λ (x : WriteAnswer). x .count) (ok .answer) in
-      let bytes : savedOf road T start rows target ≡ recordOf (given road T start rows) =
+      let bytes : savedOf road T start rows target ≡ recordOf (givenStudy road T start rows) =
       rw (target-written road T start rows target h)
       (take-at (recordOf a) (drop (sizeOf (road .version) (road .n) T) target) (writingOf road T start rows target .count) (length-record a ∙ sym size)) in
       record {
@@ -81,7 +81,7 @@ module _ (road : Road) (T : ℕ) (start : Start) (rows target : List ℕ) where
   pub reads-as-given : {a : WriteAnswer} {after : List ℕ} → a ≡ writingOf road T start rows target → after ≡ targetAfter road T start rows target
       → a .number ≡ 0 → ReadsBack road T start rows (a .count) after
   reads-as-given ea et z =
-      let k = saved (ap (λ (x : WriteAnswer). x .number) (sym ea) ∙ z) in
+      let k = saved-record (ap (λ (x : WriteAnswer). x .number) (sym ea) ∙ z) in
       rw (ea, et) (k .back)
 
   -- what writing promises: the answer, the target afterwards, and that it reads back
@@ -97,7 +97,7 @@ module _ (road : Road) (T : ℕ) (start : Start) (rows target : List ℕ) where
   pub unsaved : (writingOf road T start rows target .number ≡ 0 → ⊥)
       → (targetAfter road T start rows target ≡ target) × (writingOf road T start rows target .count ≡ 0)
   unfolding writingOf
-  unsaved h = (target-refused road T start rows target h, refused-count (given road T start rows) (length rows) (length target) h)
+  unsaved h = (target-refused road T start rows target h, refused-count (givenStudy road T start rows) (length rows) (length target) h)
 
   -- so running and judging a written record under any table of lanes is running and judging what was given: road, start, T and rows are the same
   pub saved-road : SavedRecord → (lanes : List ℕ) → studyOf (savedOf road T start rows target) lanes .road ≡ cutRoad road
@@ -137,15 +137,15 @@ module _ (s : List ℕ) (small : (i : ℕ) → at s i < 256) (reads : readingOf 
   start = startIn (readingOf s .state)
 
   -- writing isn't refused, and counts the record's bytes
-  pub again-answer : writingOf (readingOf s .road) (readingOf s .steps) (startIn (readingOf s .state)) rows target ≡ written (length s)
+  pub again-answer : writingOf (readingOf s .road) (readingOf s .steps) (startIn (readingOf s .state)) rows target ≡ writtenCount (length s)
   again-answer =
       let w = read-recordable s reads [] in
       let places : (p : ℕ) → p < road .n + 1 → placeOk road (startState start) p ≡ true = place-ok road (startState start) (w .road) (w .start) in
-      let fits : (t : ℕ) → t < T → givenOk (given road T start rows) t ≡ true =
+      let fits : (t : ℕ) → t < T → givenOk (givenStudy road T start rows) t ≡ true =
       λ t l. (rw (same t l) (row-ok road (recordRow s (road .n) t) (w .road) (w .row t l))) in
       let size = read-size s reads in
       sym (by-given road T start rows target)
-      ∙ sym (answer-written (given road T start rows) (length rows) (length target)
+      ∙ sym (answer-written (givenStudy road T start rows) (length rows) (length target)
       (record {
         version = w .version;
         counts = w .counts;
@@ -154,12 +154,12 @@ module _ (s : List ℕ) (small : (i : ℕ) → at s i < 256) (reads : readingOf 
         all = all;
       })
       (road .n + 1) (sym (first-none (placeOk road (startState start)) (road .n + 1) places)) refl
-      T (sym (first-none (givenOk (given road T start rows)) T fits)) refl (omega (arith, size)))
-      ∙ ap written size
+      T (sym (first-none (givenOk (givenStudy road T start rows)) T fits)) refl (omega (arith, size)))
+      ∙ ap writtenCount size
 
   -- the target then begins with exactly these bytes
   pub again-bytes : take (length s) (targetAfter (readingOf s .road) (readingOf s .steps) (startIn (readingOf s .state)) rows target) ≡ s
   again-bytes =
       let h : writingOf road T start rows target .number ≡ 0 = ap (λ (x : WriteAnswer). x .number) again-answer in
-      let e : recordOf (given road T start rows) ≡ s = same-bytes s small reads (rowAt rows (rowNumbers (road .n))) same in
+      let e : recordOf (givenStudy road T start rows) ≡ s = same-bytes s small reads (rowAt rows (rowNumbers (road .n))) same in
       rw (target-written road T start rows target h, e) (take-at s (drop (sizeOf (road .version) (road .n) T) target) (length s) refl)

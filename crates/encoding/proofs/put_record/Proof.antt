@@ -1,6 +1,6 @@
 -- `encoding::put_record` meets its contract: the header, the cells and the rows, one after the other. Assumes nothing.
 use Rattle.model.specs.Schedules.{Study}
-use Rattle.model.specs.Encoding.{given}
+use Rattle.model.specs.Encoding.{givenStudy}
 use Rattle.encoding.specs.Encoding.{header-ends, cells-end, record-puts}
 use Rattle.encoding.proofs.put_record.Statement.{statement}
 use Rattle.encoding.proofs.put_record.Tie as tie
@@ -18,7 +18,7 @@ abbrev Cells : tie.After-put-rows-arg → tie.After-put-cells
 Cells c = c .before .before .before
 
 abbrev Of : tie.Start → Study
-Of c = given (c .args .road) (c .args .steps) (c .args .start) (c .args .rows .now)
+Of c = givenStudy (c .args .road) (c .args .steps) (c .args .start) (c .args .rows .now)
 
 put-header-requires : tie.Need-put-header-requires
 put-header-requires c κs = search needs

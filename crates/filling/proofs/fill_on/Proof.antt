@@ -18,10 +18,10 @@ use Rattle.model.specs.GoingOn.{progressed}
 use Rattle.limits.specs.LimitsLaws.{state-facts}
 use Rattle.theory.specs.StepLaws.{number-of}
 use Rattle.theory.specs.Readable.{Readable, readable}
-use Rattle.theory.specs.StartingState.{Begins, readable-from}
+use Rattle.theory.specs.StartingState.{StartOk, readable-from}
 use Rattle.filling.specs.FillingLoop.{FillableFrom}
-use Rattle.filling.specs.Long.{Long, Started, started-fillable}
-use Rattle.filling.specs.LastStep.{last-asks, last-known}
+use Rattle.filling.specs.Long.{Long, ProgressOk, progress-fillable}
+use Rattle.filling.specs.LastStep.{last-ready, last-known}
 use Rattle.filling.specs.PromiseOn.{nothing, on-refused, on-law, on-closed, on-start, starts-found, on-short, on-all}
 use Rattle.filling.proofs.fill_on.Statement.{statement}
 use Rattle.filling.proofs.fill_on.Tie as tie
@@ -167,7 +167,7 @@ held : (c : tie.Else4) →
     let r = to-read (to-passed (to-laws (to-table (to-opened c)))) in
     let x = readAnswer (r .read .result) in
     let a = A r .args in
-    Started (a .bytes .now) (studyBy (a .bytes .now) (a .table .now) (x .road) (a .from .state) (x .steps)) (progressed (a .from))
+    ProgressOk (a .bytes .now) (studyBy (a .bytes .now) (a .table .now) (x .road) (a .from .state) (x .steps)) (progressed (a .from))
 held c =
     let g = to-start c in
     let n = to-entries g in
@@ -220,7 +220,7 @@ fillable : (c : tie.Else5) →
     let x = readAnswer (r .read .result) in
     let a = A r .args in
     FillableFrom (a .bytes .now) (studyBy (a .bytes .now) (a .table .now) (x .road) (a .from .state) (x .steps)) (progressed (a .from)) (a .out .now)
-fillable c = started-fillable (held (c .before)) (λ k. refl) (omega arith)
+fillable c = progress-fillable (held (c .before)) (λ k. refl) (omega arith)
 
 fill-rows-requires : tie.Need-fill-rows-requires
 fill-rows-requires c κs = fillable (c .before .before)
@@ -231,7 +231,7 @@ with-last-requires c κs =
     let e5 = f .before .before .before in
     let a = A (to-read (to-passed (to-laws (to-table (to-opened (e5 .before)))))) .args in
     let made = f .fill-rows .ensures in
-    last-asks (a .laws) (progressed (a .from)) (fillable e5) refl (held (e5 .before) .some) (made .0) (made .1 .0) (ap (λ (e : EndAnswer). e .state) (made .1 .1 .0))
+    last-ready (a .laws) (progressed (a .from)) (fillable e5) refl (held (e5 .before) .some) (made .0) (made .1 .0) (ap (λ (e : EndAnswer). e .state) (made .1 .1 .0))
 
 returns-6 : tie.Need-returns-6
 returns-6 c =

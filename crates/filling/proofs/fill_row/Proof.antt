@@ -4,8 +4,8 @@ use Prim.Native.Nat.{ℕ}
 use Rattle.model.specs.declared.Road.{Road}
 use Rattle.model.specs.Record.{versionOf, rowStart}
 use Rattle.passes.specs.Tables.{roadIn}
-use Rattle.passes.specs.Next.{demands-ask}
-use Rattle.filling.specs.Turn.{supplies-ask, grants-ask, gate-there, step-ready, row-filled}
+use Rattle.passes.specs.Next.{demands-ready}
+use Rattle.filling.specs.Turn.{supplies-ready, grant-ready, gate-there, step-ready, row-filled}
 use Rattle.filling.proofs.fill_row.Statement.{statement}
 use Rattle.filling.proofs.fill_row.Tie as tie
 use borrow.Author.Needs.{needs}
@@ -42,16 +42,16 @@ starts : (c : tie.After-row-start) → let a = A c .args in c .row-start .result
 starts c = let a = A c .args in c .row-start .ensures ∙ ap (λ (v : ℕ). rowStart v (a .size .n) (a .k)) (c .before .version .ensures)
 
 version-requires : tie.Need-version-requires
-version-requires c κs = omega (arith, c .before .before .before .pre .fills .held .row)
+version-requires c κs = omega (arith, c .before .before .before .pre .ready .held .row)
 
 row-start-requires : tie.Need-row-start-requires
 row-start-requires c κs =
     let s = c .before .before .before .before in
     let a = s .args in
-    omega (arith, ap (λ (v : ℕ). rowStart v (a .size .n) (a .k)) (c .version .ensures), s .pre .fills .held .row, s .good .0)
+    omega (arith, ap (λ (v : ℕ). rowStart v (a .size .n) (a .k)) (c .version .ensures), s .pre .ready .held .row, s .good .0)
 
 supplies-requires : tie.Need-supplies-requires
-supplies-requires c κs = supplies-ask (A (c .before .before .before .before .before) .pre .fills)
+supplies-requires c κs = supplies-ready (A (c .before .before .before .before .before) .pre .ready)
 
 grant-requires : tie.Need-grant-requires
 grant-requires c κs =
@@ -65,7 +65,7 @@ grant-requires c κs =
       releases = p .releases;
       entries = p .entries;
       step = s .args .k;
-      grants = grants-ask (p .fills) (b .supplies .ensures) (starts (Started b));
+      ready = grant-ready (p .ready) (b .supplies .ensures) (starts (Started b));
     }
 
 number-requires : tie.Need-number-requires
@@ -77,12 +77,12 @@ number-requires c κs =
     let p = s .pre in
     let e = b .supplies .ensures in (
       omega arith,
-      gate-there (p .fills) e t
-          (g .grant .ensures (p .laws) (On s (p .road)) (s .args .l) (p .releases) (p .entries) (s .args .k) (grants-ask (p .fills) e t)),
+      gate-there (p .ready) e t
+          (g .grant .ensures (p .laws) (On s (p .road)) (s .args .l) (p .releases) (p .entries) (s .args .k) (grant-ready (p .ready) e t)),
     )
 
 demands-requires : tie.Need-demands-requires
-demands-requires c κs = demands-ask (A (Started (Supplied (Granted (c .before .before .before .before)))) .pre .fills .step .input)
+demands-requires c κs = demands-ready (A (Started (Supplied (Granted (c .before .before .before .before)))) .pre .ready .step .input)
 
 next-requires : tie.Need-next-requires
 next-requires c κs =
@@ -97,10 +97,10 @@ next-requires c κs =
     record {
       road = On s (p .road);
       row = _;
-      ready = step-ready (p .fills) e t
-          (g .grant .ensures (p .laws) (On s (p .road)) (s .args .l) (p .releases) (p .entries) (s .args .k) (grants-ask (p .fills) e t))
+      ready = step-ready (p .ready) e t
+          (g .grant .ensures (p .laws) (On s (p .road)) (s .args .l) (p .releases) (p .entries) (s .args .k) (grant-ready (p .ready) e t))
           (d .demands .ensures) (m .number .ensures .0);
-      places = p .fills .places;
+      places = p .ready .places;
     }
 
 returns : tie.Need-returns
@@ -113,7 +113,7 @@ returns c laws r releases entries f =
     let t = starts (Started b) in
     let s = A (Started b) in
     let e = b .supplies .ensures in
-    let given = g .grant .ensures laws (On s r) (s .args .l) releases entries (s .args .k) (grants-ask f e t) in
+    let given = g .grant .ensures laws (On s r) (s .args .l) releases entries (s .args .k) (grant-ready f e t) in
     let want = d .demands .ensures in
     row-filled f e t given want (n .next .ensures (On s r) _ (step-ready f e t given want (m .number .ensures .0)))
 

@@ -14,7 +14,7 @@ use Rattle.model.specs.Schedules.{Study, places}
 use Rattle.lanes.specs.LanesLaws.{rows-within}
 use Rattle.model.specs.declared.Law.{Law}
 use Rattle.meter.specs.LawColumns.{InColumns}
-use Rattle.theory.specs.OpenRoad.{OnRoad, Turned, on-road, turned-road, turned-on}
+use Rattle.theory.specs.OpenRoad.{OnRoad, RoadTurn, on-road, turn-road, turn-on-road}
 use Rattle.outflows.specs.declared.Ledger.{Ledger}
 use Rattle.outflows.specs.Columns.{ledgerOf}
 use Rattle.passes.specs.Tables.{Table, roadIn, stateIn, cellCol, RoadTables, road-tables, store-capacities}
@@ -24,14 +24,14 @@ use Rattle.model.specs.Reading.{studyBy}
 use Rattle.model.specs.Listing.{mostOutflows}
 use Rattle.model.specs.Filling.{MeterState, meterState}
 use Rattle.model.specs.Put.{putTable}
-use Rattle.model.specs.Running.{ended, endAnswer, tableOf}
+use Rattle.model.specs.Running.{endWith, endAnswer, tableOf}
 use Rattle.counts.specs.declared.AtGate.{AtGate}
 use Rattle.model.specs.Longest.{queuesOf}
-use Rattle.counts.specs.LongestSoFar.{Raised, raised-none, raised-more, raised-end}
+use Rattle.counts.specs.LongestSoFar.{LongestSoFar, queues-none, queues-more, queues-end}
 use Rattle.model.specs.Filling.{meteredFrom, grantedFrom, filledFrom}
 use Rattle.ramps.specs.Grants.{meterIn}
 use Rattle.filling.specs.Turn.{ArraysOk}
-use Rattle.filling.specs.FillingLoop.{Fillable, FillableFrom, came-asks, kept-start, FilledSteps, filled-none, goes-by}
+use Rattle.filling.specs.FillingLoop.{Fillable, FillableFrom, came-ready, kept-start, FilledSteps, filled-none, goes-by}
 use Rattle.filling.specs.FillingLoop.{same-bytes, same-list, row-ends-by, row-fits, fills, filled-more, filled-bytes, all-filled}
 use Rattle.filling.specs.FillingLoop.{filled-list, filled-state}
 use Rattle.filling.specs.LongestFill.{longestFrom}
@@ -47,7 +47,7 @@ Inv-loop bytes₀ table r steps longs out₀ _ columns rates sizes₀ size work�
     × ((laws : List Law) → InColumns laws (columns .kinds) (columns .numbers) → (releases entries : List ℕ)
     → ArraysOk (r .n) (r .share) (r .ramp) (meterIn l₀ state₀ releases entries) (size .ramps) (cellCol sizes₀) state₀ work₀
     → FilledSteps laws bytes₀ a (meterIn l₀ state₀ releases entries) out₀ bytes out l state (size .ramps) (cellCol sizes) work k to
-    × Raised longs (r .n) (λ j. meteredFrom laws a (meterIn l₀ state₀ releases entries) j .state) (queuesOf (gate .gate) (gate .waiting) most) k)
+    × LongestSoFar longs (r .n) (λ j. meteredFrom laws a (meterIn l₀ state₀ releases entries) j .state) (queuesOf (gate .gate) (gate .waiting) most) k)
 
 abbrev μ-loop : tie.MeasureT-loop
 μ-loop bytes₀ table r steps longs out₀ _ columns rates sizes₀ size work₀ state₀ l₀ _ _ _ _ bytes out sizes work state l gate most k to = steps - k
@@ -154,7 +154,7 @@ so-far c =
 opened : (c : tie.Joined1 Inv-loop μ-loop) →
     let l = c .before .before in
     let z = Listing (L l) in
-    Turned (Of (L l)) (On z (l .loop .sizes)) (l .loop .k) (On z (c .if1 .sizes))
+    RoadTurn (Of (L l)) (On z (l .loop .sizes)) (l .loop .k) (On z (c .if1 .sizes))
     × ((length (c .if1 .sizes) ≡ 3) × (cellCol (c .if1 .sizes) ≡ cellCol (l .loop .sizes)))
 opened c =
     let l = c .before .before in
@@ -188,7 +188,7 @@ list-ramps-requires c κs =
     (b .before .before .before .pre .fillable .readable .ok .road .cells, ap (λ (t : Table). length (cellCol t)) (s .sizes .ensures))
 
 begun-requires : tie.Need-begun-requires Inv-loop μ-loop
-begun-requires c κs = let z = c .before in (listed z .0, came-asks (A z .pre))
+begun-requires c κs = let z = c .before in (listed z .0, came-ready (A z .pre))
 
 of-state-requires : tie.Need-of-state-requires Inv-loop μ-loop
 of-state-requires c κs = A (c .before .before) .pre .fillable .readable .ok .road .cells
@@ -197,7 +197,7 @@ loop-holds : tie.Need-loop-holds Inv-loop μ-loop
 loop-holds c =
     let t = tables (Listing (c .before)) in
     let g = c .no-queue .ensures in
-    ((rw (t .road) on-road, t .columns), λ laws columns releases entries k. (filled-none refl k, rw (g .0, g .1) (raised-none _ _ _)))
+    ((rw (t .road) on-road, t .columns), λ laws columns releases entries k. (filled-none refl k, rw (g .0, g .1) (queues-none _ _ _)))
 
 step-capacities-requires : tie.Need-step-capacities-requires Inv-loop μ-loop
 step-capacities-requires c κs =
@@ -236,8 +236,8 @@ fill-row-requires c κs =
       road = A (Listing b) .args .r;
       releases = meteredFrom laws (Of b) (M b) (l .loop .k) .releases;
       entries = meteredFrom laws (Of b) (M b) (l .loop .k) .entries;
-      fills = rw (opened j .1 .1)
-          (fills (fillable b) refl h (t .loop-test .taken) (turned-road (opened j .0)) (goes-by (fillable b) refl h) (Split (Listing b) .columns .ensures)
+      ready = rw (opened j .1 .1)
+          (fills (fillable b) refl h (t .loop-test .taken) (turn-road (opened j .0)) (goes-by (fillable b) refl h) (Split (Listing b) .columns .ensures)
           (part-length (l .loop .out) (l .loop .to) (places (Of b)) (part t)));
     }
 
@@ -262,8 +262,8 @@ loop-again c =
     let b = L l in
     let a = A (Listing b) .args in
     let p = fillable b in
-    let road = turned-road (opened j .0) in (
-      (turned-on (opened j .0), opened j .1 .0),
+    let road = turn-road (opened j .0) in (
+      (turn-on-road (opened j .0), opened j .1 .0),
       λ laws columns releases entries k.
           let m = meterState (S b) releases entries in
           let h = l .loop .inv .1 laws columns releases entries k in
@@ -273,16 +273,16 @@ loop-again c =
           (Listing b .list-ramps .result .ramps) cell (l .loop .work) (l .loop .k) (l .loop .to))
           (sym (opened j .1 .1)) (h .0) in
           let by = goes-by p refl f in
-          let asks = fills p refl f (t .loop-test .taken) road by columns (part-length (l .loop .out) (l .loop .to) (places (Of b)) (part t)) in
+          let ready = fills p refl f (t .loop-test .taken) road by columns (part-length (l .loop .out) (l .loop .to) (places (Of b)) (part t)) in
           let made = filled-more p refl f (t .loop-test .taken) road by
           (to-filled (c .before) .fill-row .ensures laws (a .r) (meteredFrom laws (Of b) m (l .loop .k) .releases)
-          (meteredFrom laws (Of b) m (l .loop .k) .entries) asks) in (
+          (meteredFrom laws (Of b) m (l .loop .k) .entries) ready) in (
             made,
-            raised-more _ _ _ (h .1) (p .readable .ok .road .cells) (h .0 .state) (made .state) (λ asked. elim (c .if2 .came) [
+            queues-more _ _ _ (h .1) (p .readable .ok .road .cells) (h .0 .state) (made .state) (λ wanted. elim (c .if2 .came) [
               | inl q ↦ ap (λ (g : AtGate). queuesOf (g .gate) (g .waiting) (c .if2 .most)) (q .4)
                   ∙ ap (queuesOf (q .3 .result .gate) (q .3 .result .waiting)) (q .5)
                   ∙ q .3 .ensures
-              | inr q ↦ absurd (true≢false (sym asked ∙ q .0 .left))
+              | inr q ↦ absurd (true≢false (sym wanted ∙ q .0 .left))
             ]),
           ),
     )
@@ -309,11 +309,11 @@ returns c =
         filled-list p refl h end ∙ ap (λ (x : State). tableOf (filledFrom (a .laws) (By s x) (From s x)) (a .out .now) (a .steps)) e,
         (
           ap endAnswer (c .longest .ensures .0 ∙ c .before .complete .ensures)
-              ∙ ap (ended 0 0 0 (a .r))
+              ∙ ap (endWith 0 0 0 (a .r))
               (filled-state p refl h end (c .before .before .to-state .ensures) ∙ ap (λ (x : State). meteredFrom (a .laws) (By s x) (From s x) (a .steps) .state) e),
-          λ asked.
+          λ wanted.
               c .longest .ensures .1
-              ∙ raised-end _ _ _ (l .loop .inv .1 (a .laws) (Split (Listing b) .columns .ensures) (a .from .releases) (a .from .entries) (kept b) .1) all asked
+              ∙ queues-end _ _ _ (l .loop .inv .1 (a .laws) (Split (Listing b) .columns .ensures) (a .from .releases) (a .from .entries) (kept b) .1) all wanted
               ∙ ap (λ (x : State). longestFrom (a .laws) (By s x) (From s x)) e,
         ),
       ),

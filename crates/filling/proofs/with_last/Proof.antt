@@ -6,7 +6,7 @@ use lib.ListN.{take, drop}
 use native.Mathlib.Omega.{arith}
 use Rattle.model.specs.Numbers.{fillOf, rowAt}
 use Rattle.numbers.specs.TablesLaws.{part-row}
-use Rattle.filling.specs.LastStep.{enteredIn, EntriesAsk, last-row}
+use Rattle.filling.specs.LastStep.{enteredIn, EntriesRequire, last-row}
 use Rattle.filling.proofs.with_last.Statement.{statement}
 use Rattle.filling.proofs.with_last.Tie as tie
 use borrow.Author.Needs.{needs}
@@ -31,7 +31,7 @@ part-put-entries-end c = let s = A (Put c) in omega (arith, last-row (s .pre), s
 put-entries-requires : tie.Need-put-entries-requires
 put-entries-requires c κs =
     let s = A (Put (c .before .before)) in
-    subst⁻¹ (EntriesAsk (s .args .t2 .n) (s .args .t2 .share) (s .args .longest .ended .state .cumulative)) (part s) (s .pre .asks)
+    subst⁻¹ (EntriesRequire (s .args .t2 .n) (s .args .t2 .share) (s .args .longest .ended .state .cumulative)) (part s) (s .pre .ready)
 
 returns : tie.Need-returns
 returns c =

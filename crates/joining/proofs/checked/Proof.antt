@@ -9,7 +9,7 @@ use Rattle.model.specs.declared.State.{State}
 use Rattle.model.specs.Road.{mostBytes}
 use Rattle.model.specs.Schedules.{Study, study}
 use Rattle.model.specs.Reading.{sizeOf, studyBy}
-use Rattle.model.specs.Writing.{written}
+use Rattle.model.specs.Writing.{writtenCount}
 use Rattle.model.specs.Joining.{alike, gateIdle, joinedFits, joinedStudy}
 use Rattle.joining.specs.JoiningLaws.{within-bytes, answer-share, answer-differ, answer-gate, answer-size, answer-short, answer-written}
 use Rattle.joining.proofs.checked.Statement.{statement}
@@ -138,7 +138,7 @@ returns-6 c =
     let g = Idle (f .before) in
     let e = Same (g .before) in
     let s = D f in
-    λ start rows. ap written (z .row-start .ensures)
+    λ start rows. ap writtenCount (z .row-start .ensures)
     ∙ answer-written (Up s start rows) (Down s) (s .args .share) (s .args .room) (Shared (e .before) .if1 .left) (same e start rows) (idle g)
     (small f start rows) (omega (arith, z .row-start .ensures, c .if5 .left))
 

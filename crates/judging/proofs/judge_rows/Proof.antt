@@ -15,15 +15,15 @@ use Rattle.model.specs.Schedules.{Study, places, withCapacity}
 use Rattle.model.specs.Record.{rowNumbers}
 use Rattle.fields.specs.FieldsLaws.{length-row}
 use Rattle.lanes.specs.LanesLaws.{rows-within}
-use Rattle.theory.specs.OpenRoad.{OnRoad, Turned, on-road, turned-road, turned-on}
+use Rattle.theory.specs.OpenRoad.{OnRoad, RoadTurn, on-road, turn-road, turn-on-road}
 use Rattle.outflows.specs.declared.Ledger.{Ledger}
 use Rattle.outflows.specs.Columns.{stateOf}
 use Rattle.model.specs.Reading.{studyBy}
 use Rattle.model.specs.Listing.{mostOutflows}
-use Rattle.model.specs.Running.{EndAnswer, ended, endAnswer}
-use Rattle.judging.specs.JudgedStep.{JudgedStep}
-use Rattle.judging.specs.JudgingLoop.{JudgeTurn, judges}
-use Rattle.judging.specs.WrittenStates.{Judgeable, JudgedTo, Ends, judged-none, judged-more, judged-fault, judged-end, row-ends-by}
+use Rattle.model.specs.Running.{EndAnswer, endWith, endAnswer}
+use Rattle.judging.specs.JudgedStep.{JudgeStepGives}
+use Rattle.judging.specs.JudgingLoop.{JudgeTurn, judge-step-ready}
+use Rattle.judging.specs.WrittenStates.{Judgeable, JudgedSoFar, Ends, judged-none, judged-more, judged-fault, judged-end, row-ends-by}
 use Rattle.judging.proofs.judge_rows.Statement.{statement}
 use Rattle.judging.proofs.judge_rows.Tie as tie
 use borrow.Author.Needs.{needs}
@@ -32,7 +32,7 @@ use native.Mathlib.Omega.{arith}
 abbrev Inv-loop : tie.InvT-loop
 Inv-loop bytes table steps schedule writes held₀ queue₀ r _ _ cells₀ ramps₀ cumulative₀ l₀ _ _ held queue capacity cells ramps cumulative l row k =
     let a = studyBy bytes table r (stateOf l₀ cells₀ ramps₀ cumulative₀) steps in
-    JudgedTo a schedule writes held₀ queue₀ held queue (stateOf l cells ramps cumulative) k
+    JudgedSoFar a schedule writes held₀ queue₀ held queue (stateOf l cells ramps cumulative) k
     × (OnRoad a (withCapacity r capacity) × (rowNumbers (r .n) ≤ length row))
 
 abbrev μ-loop : tie.MeasureT-loop
@@ -153,10 +153,10 @@ holds c =
     omega (arith, numbers c, length-take (rowNumbers n) (c .read-row .last .1 .1 .1 .0))
 
 -- the road of the turn: with the capacities of its step, or unchanged with an empty table
-turned : (c : tie.Joined1 Inv-loop μ-loop) →
+road-turn : (c : tie.Joined1 Inv-loop μ-loop) →
     let l = c .before .before in
-    Turned (Of (l .before)) (withCapacity (A (l .before) .args .t3) (l .loop .capacity)) (l .loop .k) (On c)
-turned c =
+    RoadTurn (Of (l .before)) (withCapacity (A (l .before) .args .t3) (l .loop .capacity)) (l .loop .k) (On c)
+road-turn c =
     let l = c .before .before in
     let r = A (l .before) .args .t3 in
     record {
@@ -179,7 +179,7 @@ turn c =
       ok = begun (l .before) .readable .ok;
       obeyed = l .loop .inv .0 .obeyed;
       left = In c .loop-test .taken;
-      road = turned-road (turned (Joined c));
+      road = turn-road (road-turn (Joined c));
       numbers = c .read-row .ensures;
       outflows = part-row zs w (l .loop .k) (l .loop .k * w) refl;
       size = part-length zs (l .loop .k * w) w (fits (In c));
@@ -189,7 +189,7 @@ turn c =
 judged : (c : tie.After-judge-step Inv-loop μ-loop) →
     let r = Read c in
     let j = c .judge-step .result in
-    JudgedStep (On (Joined r)) (Now (In r .before)) (Row r) (Outflows (In r)) (fault (refusalNumber (j .refusal)) (j .place)) (Moved c)
+    JudgeStepGives (On (Joined r)) (Now (In r .before)) (Row r) (Outflows (In r)) (fault (refusalNumber (j .refusal)) (j .place)) (Moved c)
 judged c = c .judge-step .ensures (On (Joined (Read c)))
 
 passes : (c : tie.Else2 Inv-loop μ-loop) → refusalNumber (Step (c .before) .judge-step .result .refusal) ≡ 0
@@ -240,7 +240,7 @@ part-judge-step-end : tie.Need-part-judge-step-end Inv-loop μ-loop
 part-judge-step-end c = omega (arith, fits (In (to-row (c .before))))
 
 judge-step-requires : tie.Need-judge-step-requires Inv-loop μ-loop
-judge-step-requires c κs = judges (turn (to-row (c .before .before)))
+judge-step-requires c κs = judge-step-ready (turn (to-row (c .before .before)))
 
 same-length : tie.Need-same-length Inv-loop μ-loop
 same-length c = let r = Read (Step (c .before .before .before)) in In r .before .loop .inv .0 .helds .same
@@ -254,7 +254,7 @@ returns c =
     let j = s .judge-step .result in
     let l = In (Read s) .before in
     let e = ap endAnswer (c .at-step .ensures)
-    ∙ ap (λ (u : State). ended (refusalNumber (j .refusal)) (l .loop .k) (j .place) (A (l .before) .args .t3) u) (c .before .state .ensures) in
+    ∙ ap (λ (u : State). endWith (refusalNumber (j .refusal)) (l .loop .k) (j .place) (A (l .before) .args .t3) u) (c .before .state .ensures) in
     given (l .before) (judged-fault (l .loop .inv .0) (turn (Read s)) (judged s) (search needs) e)
 
 put-places-requires : tie.Need-put-places-requires Inv-loop μ-loop
@@ -279,7 +279,7 @@ loop-again c =
     let r = Read s in
     let l = In r .before in (
       judged-more (l .loop .inv .0) (turn r) (judged s) (passes p) (begun (l .before) .long) (Held (w .before) .put-places .ensures) (w .put-places2 .ensures),
-      (turned-on (turned (Joined r)), omega (arith, holds r)),
+      (turn-on-road (road-turn (Joined r)), omega (arith, holds r)),
     )
 
 same-length-3 : tie.Need-same-length-3 Inv-loop μ-loop
@@ -291,7 +291,7 @@ same-length-4 c = c .before .before .before .loop .inv .0 .queues .same
 returns-2 : tie.Need-returns-2 Inv-loop μ-loop
 returns-2 c =
     let l = c .before .before .before in
-    let e = ap endAnswer (c .complete .ensures) ∙ ap (λ (u : State). ended 0 0 0 (A (l .before) .args .t3) u) (c .before .state2 .ensures) in
+    let e = ap endAnswer (c .complete .ensures) ∙ ap (λ (u : State). endWith 0 0 0 (A (l .before) .args .t3) u) (c .before .state2 .ensures) in
     given (l .before) (judged-end (l .loop .inv .0) (search needs) e)
 
 pub judge-rows-spec : {M : Type 1} → statement M

@@ -7,7 +7,7 @@ use Rattle.model.specs.declared.State.{State}
 use Rattle.model.specs.Refusals.{refusalNumber, faultAnswer}
 use Rattle.model.specs.Judging.{verdictOf}
 use Rattle.outflows.specs.Columns.{roadOf, stateOf}
-use Rattle.judging.specs.JudgedStep.{proposed, movable}
+use Rattle.judging.specs.JudgedStep.{row-lengths, movable}
 use Rattle.judging.proofs.judge_step.Statement.{statement}
 use Rattle.judging.proofs.judge_step.Tie as tie
 use borrow.Author.Needs.{needs}
@@ -38,7 +38,7 @@ passes : (c : tie.Else1) → refusalNumber (c .before .before .verdict .result .
 passes c = sym (c .before .number .ensures) ∙ c .if1 .left
 
 verdict-requires : tie.Need-verdict-requires
-verdict-requires c κs = (proposed (A c .pre), length-replicate {A = ℕ} 64 0)
+verdict-requires c κs = (row-lengths (A c .pre), length-replicate {A = ℕ} 64 0)
 
 returns : tie.Need-returns
 returns c r =

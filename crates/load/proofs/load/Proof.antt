@@ -1,8 +1,8 @@
 -- `load::load` meets its contract. Each return follows from the test before it. Assumes nothing.
 use mathlib.Core.Path.{sym, ap, _∙_}
-use Rattle.model.specs.Load.{loaded}
+use Rattle.model.specs.Load.{loadWith}
 use Rattle.load.specs.LoadLaws.{refused-answer, refused-list, loaded-answer, loaded-list}
-use Rattle.load.specs.Theorems.{ended}
+use Rattle.load.specs.Theorems.{meets-contract}
 use Rattle.load.proofs.load.Statement.{statement}
 use Rattle.load.proofs.load.Tie as tie
 use borrow.Author.Needs.{needs}
@@ -17,7 +17,7 @@ A c = c .before .before
 returns : tie.Need-returns
 returns c =
     let a = Refused c .args in
-    ended (a .seed) (a .peak) (a .list .now)
+    meets-contract (a .seed) (a .peak) (a .list .now)
     (sym (refused-answer (a .seed) (a .peak) (c .if1 .taken) _)) (sym (refused-list (a .seed) (a .peak) (c .if1 .taken) (a .list .now)))
 
 returns-2 : tie.Need-returns-2
@@ -25,8 +25,8 @@ returns-2 c =
     let e = c .before .before .before .before in
     let a = A e .args in
     let filled = c .before .before .fill .ensures in
-    ended (a .seed) (a .peak) (a .list .now)
-    (ap (loaded 0) (filled .0) ∙ sym (loaded-answer (a .seed) (a .peak) (e .if1 .left) _))
+    meets-contract (a .seed) (a .peak) (a .list .now)
+    (ap (loadWith 0) (filled .0) ∙ sym (loaded-answer (a .seed) (a .peak) (e .if1 .left) _))
     (filled .1 ∙ sym (loaded-list (a .seed) (a .peak) (e .if1 .left) (a .list .now)))
 
 pub load-spec : {M : Type 1} → statement M

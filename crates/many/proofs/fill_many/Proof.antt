@@ -38,7 +38,7 @@ returns c =
     (λ z. c .if1 .taken (c .before .number .ensures ∙ z))
 
 fill-studies-requires : tie.Need-fill-studies-requires
-fill-studies-requires c κs = let p = c .before .before .before in to-studies p .studies .ensures .asked (passes p)
+fill-studies-requires c κs = let p = c .before .before .before in to-studies p .studies .ensures .ready (passes p)
 
 returns-2 : tie.Need-returns-2
 returns-2 c =
@@ -47,7 +47,7 @@ returns-2 c =
     let w = to-studies p in
     let a = A w .args in
     filled-all (a .bytes .now) (a .table .now) (a .arrivals .now) (a .out .now) (a .answers .now) (w .studies .ensures .refusal) (a .laws) (passes p)
-    (w .studies .ensures .asked (passes p) .counted) (e .0) (e .1 .0) (e .1 .1)
+    (w .studies .ensures .ready (passes p) .counted) (e .0) (e .1 .0) (e .1 .1)
 
 pub fill-many-spec : {M : Type 1} → statement M
 fill-many-spec =

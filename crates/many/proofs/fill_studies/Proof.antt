@@ -5,7 +5,7 @@ use native.Mathlib.Omega.{arith}
 use lib.ListN.{length}
 use Rattle.numbers.specs.TablesLaws.{part-length}
 use Rattle.model.specs.Many.{arrivalsSize, withStudyArrivals, entrySize, fillEntry, listAfterFillings, recordAfterFillings}
-use Rattle.many.specs.Studies.{Studies, table-small, DoneSoFar, done-none, answers-size, entry-fits, table-fits, table-is, table-into-record, done-more, done-end}
+use Rattle.many.specs.Studies.{Studies, table-small, StudiesSoFar, done-none, answers-size, entry-fits, table-fits, table-is, table-into-record, done-more, done-end}
 use Rattle.many.specs.FillStudies.{fill-numbers, left-size, left-version, left-arrived, fill-entry, left-more, lists-more, filled-none, lists-none}
 use Rattle.many.proofs.fill_studies.Statement.{statement}
 use Rattle.many.proofs.fill_studies.Tie as tie
@@ -13,7 +13,7 @@ use borrow.Author.Needs.{needs}
 
 abbrev Inv-loop : tie.InvT-loop
 Inv-loop bytes₀ laws table arrivals n steps count out₀ answers₀ size from₀ to₀ k₀ bytes out answers from to k =
-    (DoneSoFar (fillEntry laws bytes₀ table arrivals out₀) (recordAfterFillings laws bytes₀ table arrivals out₀) (listAfterFillings laws bytes₀ table arrivals out₀)
+    (StudiesSoFar (fillEntry laws bytes₀ table arrivals out₀) (recordAfterFillings laws bytes₀ table arrivals out₀) (listAfterFillings laws bytes₀ table arrivals out₀)
     (arrivalsSize n steps) count answers₀ bytes out answers from to k) × (length out ≡ length out₀)
 
 abbrev μ-loop : tie.MeasureT-loop
@@ -54,7 +54,7 @@ numbers c = let a = Args c .args in fill-numbers (a .laws) (a .bytes .now) (a .t
 done : (c : tie.At-loop Inv-loop μ-loop) →
     let a = Args c .args in
     let l = c .loop in
-    DoneSoFar (fillEntry (a .laws) (a .bytes .now) (a .table .now) (a .arrivals .now) (a .out .now))
+    StudiesSoFar (fillEntry (a .laws) (a .bytes .now) (a .table .now) (a .arrivals .now) (a .out .now))
     (recordAfterFillings (a .laws) (a .bytes .now) (a .table .now) (a .arrivals .now) (a .out .now))
     (listAfterFillings (a .laws) (a .bytes .now) (a .table .now) (a .arrivals .now) (a .out .now)) (arrivalsSize (a .n) (a .steps)) (a .count) (a .answers .now)
     (l .bytes) (l .out) (l .answers) (l .from) (l .to) (l .k)

@@ -5,7 +5,7 @@ use native.Mathlib.Omega.{arith}
 use lib.ListN.{length}
 use Rattle.numbers.specs.TablesLaws.{part-length}
 use Rattle.model.specs.Many.{arrivalsSize, entrySize, studyRecord, runEntry, listAfterRuns, recordAfterRuns}
-use Rattle.many.specs.Studies.{Studies, table-small, DoneSoFar, done-none, answers-size, entry-fits, table-fits, table-is, table-into-record, done-more, done-end}
+use Rattle.many.specs.Studies.{Studies, table-small, StudiesSoFar, done-none, answers-size, entry-fits, table-fits, table-is, table-into-record, done-more, done-end}
 use Rattle.many.specs.RunStudies.{run-numbers, run-entry, ran-size, ran-version, ran-study, ran-more, list-none, record-none, list-more}
 use Rattle.many.proofs.run_studies.Statement.{statement}
 use Rattle.many.proofs.run_studies.Tie as tie
@@ -13,7 +13,8 @@ use borrow.Author.Needs.{needs}
 
 abbrev Inv-loop : tie.InvT-loop
 Inv-loop bytes₀ table arrivals n steps count out₀ answers₀ size from₀ to₀ k₀ bytes out answers from to k =
-    (DoneSoFar (runEntry bytes₀ table arrivals out₀) (recordAfterRuns bytes₀ arrivals) (listAfterRuns bytes₀ table arrivals out₀) (arrivalsSize n steps) count answers₀
+    (StudiesSoFar (runEntry bytes₀ table arrivals out₀) (recordAfterRuns bytes₀ arrivals) (listAfterRuns bytes₀ table arrivals out₀)
+    (arrivalsSize n steps) count answers₀
     bytes out answers from to k) × (length out ≡ length out₀)
 
 abbrev μ-loop : tie.MeasureT-loop
@@ -54,7 +55,7 @@ numbers c = let a = Args c .args in run-numbers (a .bytes .now) (a .table .now) 
 done : (c : tie.At-loop Inv-loop μ-loop) →
     let a = Args c .args in
     let l = c .loop in
-    DoneSoFar (runEntry (a .bytes .now) (a .table .now) (a .arrivals .now) (a .out .now)) (recordAfterRuns (a .bytes .now) (a .arrivals .now))
+    StudiesSoFar (runEntry (a .bytes .now) (a .table .now) (a .arrivals .now) (a .out .now)) (recordAfterRuns (a .bytes .now) (a .arrivals .now))
     (listAfterRuns (a .bytes .now) (a .table .now) (a .arrivals .now) (a .out .now)) (arrivalsSize (a .n) (a .steps)) (a .count) (a .answers .now)
     (l .bytes) (l .out) (l .answers) (l .from) (l .to) (l .k)
 done c = c .loop .inv .0

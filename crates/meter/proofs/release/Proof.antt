@@ -10,8 +10,8 @@ use Rattle.meter.proofs.release.Tie as tie
 returns : tie.Need-returns
 returns c = whole-all _ _ (omega arith) (c .if1 .taken)
 
-asked : tie.Need-truncating-f64-to-u64-requires
-asked c = λ _. (above-minus-one _ (c .if2 .taken), below-cast _ _ (omega arith) (c .before .if1 .left) (c .if2 .taken))
+cast-required : tie.Need-truncating-f64-to-u64-requires
+cast-required c = λ _. (above-minus-one _ (c .if2 .taken), below-cast _ _ (omega arith) (c .before .if1 .left) (c .if2 .taken))
 
 -- the wish without its fraction is the release
 is : (c : tie.After-truncating-f64-to-u64) →
@@ -29,4 +29,4 @@ returns-3 : tie.Need-returns-3
 returns-3 c = whole-none _ _ (c .if2 .left)
 
 pub release-spec : {M : Type 1} → statement M
-release-spec = tie.close (tie.spec (λ c. search needs) returns asked cast-result returns-2 returns-3)
+release-spec = tie.close (tie.spec (λ c. search needs) returns cast-required cast-result returns-2 returns-3)

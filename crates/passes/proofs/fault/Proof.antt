@@ -3,7 +3,7 @@ use mathlib.Core.Path.{_≡_, sym, ap, _∙_}
 use Prim.Native.Nat.{_+_, _*_}
 use lib.ListN.{length, take, length-replicate}
 use Prim.Native.Nat.{ℕ}
-use Rattle.outflows.specs.Columns.{supplying}
+use Rattle.outflows.specs.Columns.{withSupplies}
 use Rattle.passes.specs.Tables.{stateIn, jamCol, capacityCol}
 use Rattle.fields.specs.FieldsLaws.{length-row}
 use Rattle.model.specs.Stepping.{releasesOf}
@@ -35,7 +35,7 @@ returns c r l =
     let a = A w .args in
     let state = stateIn l (a .state .now) in
     c .releases .ensures .0 r l (state .cumulative)
-    ∙ ap (releasesOf (supplying r (a .n) (a .wave .now) (jamCol (a .sizes .now)) (capacityCol (a .sizes .now))) state) (w .row .ensures)
+    ∙ ap (releasesOf (withSupplies r (a .n) (a .wave .now) (jamCol (a .sizes .now)) (capacityCol (a .sizes .now))) state) (w .row .ensures)
 
 pub fault-spec : {M : Type 1} → statement M
 fault-spec =

@@ -6,9 +6,9 @@ use Rattle.model.specs.Flow.{gateDemandOf}
 use Rattle.model.specs.declared.Road.{Road}
 use Rattle.model.specs.declared.State.{State}
 use Rattle.model.specs.Numbers.{at}
-use Rattle.outflows.specs.Columns.{sending}
+use Rattle.outflows.specs.Columns.{withDemands}
 use Rattle.passes.specs.Tables.{stateIn, roomCol}
-use Rattle.passes.specs.Next.{sends-ask, adds, addable, row-sent, next-is, rests-are, NextTurn, next-turn}
+use Rattle.passes.specs.Next.{send-ready, add-ready, add-lent, row-sent, next-is, rests-are, NextTurn, next-turn}
 use Rattle.passes.proofs.next.Statement.{statement}
 use Rattle.passes.proofs.next.Tie as tie
 use borrow.Author.Needs.{needs}
@@ -30,7 +30,7 @@ to-count c = c .before .before .before .before .before
 abbrev On : tie.Start → Road → Road
 On c r =
     let a = c .args in
-    sending r (a .size .n) (a .size .«gate_capacity») (r .speed) (a .share .now) (r .capacity)
+    withDemands r (a .size .n) (a .size .«gate_capacity») (r .speed) (a .share .now) (r .capacity)
 
 abbrev From : tie.Start → State
 From c = let a = c .args in stateIn (a .l) (a .state .now)
@@ -49,13 +49,13 @@ send-requires : tie.Need-send-requires
 send-requires c κs =
     let g = c .before .before .before in
     let p = A g .pre in
-    (sends-ask (p .ready) (first g), (p .ready .columns, p .places))
+    (send-ready (p .ready) (first g), (p .ready .columns, p .places))
 
 add-releases-requires : tie.Need-add-releases-requires
 add-releases-requires c κs =
     let t = c .before .before .before .before .before in
     let e = t .send .ensures in
-    (addable (A (Gate t) .pre .ready) (first (Gate t)) (e .0) (e .1), e .1 .columns)
+    (add-lent (A (Gate t) .pre .ready) (first (Gate t)) (e .0) (e .1), e .1 .columns)
 
 -- the facts about the numbers of the count: those of the ledger, and the sums
 turn : (c : tie.After-struct-known) → NextTurn (From (A (Gate (Sent (c .before))))) (Gate (Sent (c .before)) .least .result)
@@ -102,7 +102,7 @@ returns c r row k =
     let h = t .send .ensures .0 in
     let same = t .send .ensures .1 in
     let e = a .add-releases .ensures in
-    let g = e .0 _ _ (adds k b h same) in
+    let g = e .0 _ _ (add-ready k b h same) in
     record {
       columns = e .1 .0 .columns;
       next = next-is k b h same g (e .1 .0) refl refl;

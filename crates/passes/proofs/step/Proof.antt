@@ -7,9 +7,9 @@ use Rattle.model.specs.declared.State.{State}
 use Rattle.passes.specs.Tables.{roadIn, stateIn, cellCol}
 use Rattle.model.specs.Record.{versionOf, rowStart, recordRow}
 use Rattle.model.specs.Flow.{gateArrivals}
-use Rattle.passes.specs.ReleasesFit.{FitFound, supplies-ask, takes-ask, fit-found}
-use Rattle.passes.specs.Next.{demands-ask}
-use Rattle.passes.specs.Step.{StepAsks, gate-row, fittable, ready, gives-fault, gives-step}
+use Rattle.passes.specs.ReleasesFit.{FitAnswer, supplies-ready, take-ready, fit-answer}
+use Rattle.passes.specs.Next.{demands-ready}
+use Rattle.passes.specs.Step.{StepRequires, gate-row, fit-ready, ready, gives-fault, gives-step}
 use Rattle.passes.proofs.step.Statement.{statement}
 use Rattle.passes.proofs.step.Tie as tie
 use borrow.Author.Needs.{needs}
@@ -38,23 +38,23 @@ On c r = let a = c .args in roadIn r (a .size) (a .rates .now) (a .sizes .now)
 abbrev From : tie.Start → State
 From c = let a = c .args in stateIn (a .l) (a .state .now)
 
-abbrev Asked : tie.Start → Road → Type 0
-Asked c r =
+abbrev Required : tie.Start → Road → Type 0
+Required c r =
     let a = c .args in
-    StepAsks (a .bytes .now) (a .k) (On c r) (a .size .ramps) (cellCol (a .sizes .now)) (a .l) (a .state .now) (a .work .now) (a .y .now)
+    StepRequires (a .bytes .now) (a .k) (On c r) (a .size .ramps) (cellCol (a .sizes .now)) (a .l) (a .state .now) (a .work .now) (a .y .now)
 
 start : (c : tie.After-row-start) → let a = A c .args in c .row-start .result ≡ rowStart (versionOf (a .bytes .now)) (a .size .n) (a .k)
 start c = let a = A c .args in c .row-start .ensures ∙ ap (λ (v : ℕ). rowStart v (a .size .n) (a .k)) (c .before .version .ensures)
 
 -- the results of the test of the releases
-found : (c : tie.After-take-releases) (r : Road) → Asked (A (Start (Supplied c))) r →
+found : (c : tie.After-take-releases) (r : Road) → Required (A (Start (Supplied c))) r →
     let s = A (Start (Supplied c)) in
     let a = s .args in
-    FitFound (c .take-releases .result) (On s r) (From s) (recordRow (a .bytes .now) (a .size .n) (a .k)) (a .size .ramps) (cellCol (a .sizes .now))
+    FitAnswer (c .take-releases .result) (On s r) (From s) (recordRow (a .bytes .now) (a .size .n) (a .k)) (a .size .ramps) (cellCol (a .sizes .now))
     (c .take-releases .last .1 .1 .1 .1 .1 .1 .0)
 found c r h =
     let s = Supplied c in
-    fit-found (fittable h (start (Start s))) (s .supplies .ensures) (c .take-releases .ensures)
+    fit-answer (fit-ready h (start (Start s))) (s .supplies .ensures) (c .take-releases .ensures)
 
 arrives : (c : tie.After-number) →
     let a = A (Start (Supplied (c .before .before))) .args in
@@ -65,7 +65,7 @@ arrives c =
     c .number .ensures .0 ∙ gate-row (a .bytes .now) (a .size .n) (a .k) (s .row-start .result) (start s)
 
 version-requires : tie.Need-version-requires
-version-requires c κs = let v = c .before .before .before in omega (arith, v .before .before .before .pre .asks .holds .row)
+version-requires c κs = let v = c .before .before .before in omega (arith, v .before .before .before .pre .ready .holds .row)
 
 row-start-requires : tie.Need-row-start-requires
 row-start-requires c κs =
@@ -74,18 +74,18 @@ row-start-requires c κs =
     let a = s .args in
     let e : rowStart (c .version .result) (a .size .n) (a .k) ≡ rowStart (versionOf (a .bytes .now)) (a .size .n) (a .k) =
     ap (λ (v : ℕ). rowStart v (a .size .n) (a .k)) (c .version .ensures) in
-    omega (arith, e, s .pre .asks .holds .row, s .good .0)
+    omega (arith, e, s .pre .ready .holds .row, s .good .0)
 
 supplies-requires : tie.Need-supplies-requires
-supplies-requires c κs = let w = c .before .before in supplies-ask (fittable (A w .pre .asks) (start w))
+supplies-requires c κs = let w = c .before .before in supplies-ready (fit-ready (A w .pre .ready) (start w))
 
 take-releases-requires : tie.Need-take-releases-requires
 take-releases-requires c κs =
     let s = c .before .before in
-    takes-ask (fittable (A (Start s) .pre .asks) (start (Start s))) (s .supplies .ensures)
+    take-ready (fit-ready (A (Start s) .pre .ready) (start (Start s))) (s .supplies .ensures)
 
 fault-requires : tie.Need-fault-requires
-fault-requires c κs = A (Start (Supplied (c .before .before))) .pre .asks .holds
+fault-requires c κs = A (Start (Supplied (c .before .before))) .pre .ready .holds
 
 returns : tie.Need-returns
 returns c r h =
@@ -96,12 +96,12 @@ returns c r h =
 number-requires : tie.Need-number-requires
 number-requires c κs =
     let w = Start (Supplied (c .before)) in
-    (omega arith, omega (arith, start w, A w .pre .asks .holds .row))
+    (omega arith, omega (arith, start w, A w .pre .ready .holds .row))
 
 demands-requires : tie.Need-demands-requires
 demands-requires c κs =
     let m = c .before .before .before in
-    demands-ask (A (Start (Supplied (m .before .before))) .pre .asks .input)
+    demands-ready (A (Start (Supplied (m .before .before))) .pre .ready .input)
 
 next-requires : tie.Need-next-requires
 next-requires c κs =
@@ -113,8 +113,8 @@ next-requires c κs =
     record {
       road = On s (k .road);
       row = _;
-      ready = ready (k .asks) (found p (k .road) (k .asks)) (d .demands .ensures) (not-false _ (m .before .if1 .left)) (arrives m);
-      places = k .asks .places;
+      ready = ready (k .ready) (found p (k .road) (k .ready)) (d .demands .ensures) (not-false _ (m .before .if1 .left)) (arrives m);
+      places = k .ready .places;
     }
 
 returns-2 : tie.Need-returns-2

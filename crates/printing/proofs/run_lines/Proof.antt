@@ -13,10 +13,10 @@ use Rattle.model.specs.Record.{recordRow}
 use Rattle.theory.specs.OpenRoad.{same-road}
 use Rattle.model.specs.Reading.{studyBy}
 use Rattle.passes.specs.Tables.{Table, roadIn, stateIn, cellCol, RoadTables, road-tables}
-use Rattle.passes.specs.Step.{Arrays, StepAsks}
-use Rattle.running.specs.Steps.{RanTurn, passes-ask, ends-fault}
+use Rattle.passes.specs.Step.{Arrays, StepRequires}
+use Rattle.running.specs.Steps.{RunTurn, step-ready, ends-fault}
 use Rattle.listing.specs.ListingLaws.{header-room}
-use Rattle.model.specs.Listing.{printedRun, Printed}
+use Rattle.model.specs.Listing.{printedRun, HoldsPrinted}
 use Rattle.printing.specs.Lines.{Printable, study-is, arrays-first, LinesInBuffer, lined-same, lined-none, lined-more}
 use Rattle.printing.specs.Lines.{lines-fit, line-fits, lines-end, holds-fault, holds-run}
 use Rattle.printing.proofs.run_lines.Statement.{statement}
@@ -84,16 +84,16 @@ printable c = let a = A c .args in subst (λ (b : Study). Printable (a .bytes .n
 
 ends : (c : tie.After-of Inv-loop μ-loop) {after : List ℕ} {m : ℕ} →
     let a = A c .args in
-    Printed (a .buffer .now) (printedRun (Of c)) after m
-    → Printed (a .buffer .now) (printedRun (studyBy (a .bytes .now) [] (a .r) (a .s) (a .steps))) after m
-ends c {after} {m} h = subst (λ (b : Study). Printed (A c .args .buffer .now) (printedRun b) after m) (begins c) h
+    HoldsPrinted (a .buffer .now) (printedRun (Of c)) after m
+    → HoldsPrinted (a .buffer .now) (printedRun (studyBy (a .bytes .now) [] (a .r) (a .s) (a .steps))) after m
+ends c {after} {m} h = subst (λ (b : Study). HoldsPrinted (A c .args .buffer .now) (printedRun b) after m) (begins c) h
 
 -- the facts about a turn
 turn : (c : tie.In-loop Inv-loop μ-loop) →
     let l = c .before in
     let p = l .loop in
     let o = Opened l in
-    RanTurn (Of o) (stateIn (p .l) (p .state)) (p .k) (On o) (recordRow (A o .args .bytes .now) (On o .n) (p .k))
+    RunTurn (Of o) (stateIn (p .l) (p .state)) (p .k) (On o) (recordRow (A o .args .bytes .now) (On o .n) (p .k))
 turn c =
     let l = c .before in
     let o = Opened l in
@@ -106,15 +106,15 @@ turn c =
     }
 
 -- what the step requires with a row of zeros
-asked : (c : tie.In-loop Inv-loop μ-loop) →
+step-required : (c : tie.In-loop Inv-loop μ-loop) →
     let p = c .before .loop in
     let o = Opened (c .before) in
     let z = Listing o .list-ramps .result in
-    StepAsks (A o .args .bytes .now) (p .k) (On o) (z .ramps) (cellCol (Sizes o)) (p .l) (p .state) (p .work) (take (z .n + 1) (replicate 65 0))
-asked c =
+    StepRequires (A o .args .bytes .now) (p .k) (On o) (z .ramps) (cellCol (Sizes o)) (p .l) (p .state) (p .work) (take (z .n + 1) (replicate 65 0))
+step-required c =
     let l = c .before in
     let h = printable (Opened l) .readable in
-    passes-ask (turn c) (h .row (l .loop .k) (c .loop-test .taken)) (l .loop .inv .1) (length-take-le _ _ (omega (arith, h .ok .road .cells)))
+    step-ready (turn c) (h .row (l .loop .k) (c .loop-test .taken)) (l .loop .inv .1) (length-take-le _ _ (omega (arith, h .ok .road .cells)))
 
 -- the result of the test of its fault
 faulty : (c : tie.Then1 Inv-loop μ-loop) → refusalNumber (Made (c .before) .step-lines .result .fault .refusal) ≡ 0 → ⊥
@@ -156,7 +156,7 @@ step-lines-requires c κs =
     let l = i .before in
     let o = Opened l in
     let h = printable o .readable in (
-      record { road = A o .args .r; asks = asked i },
+      record { road = A o .args .r; ready = step-required i },
       lines-fit (l .loop .inv .0) (h .outflows) (i .loop-test .taken),
     )
 
@@ -165,7 +165,7 @@ refused-requires c κs =
     let d = c .before in
     let m = Made (d .before) in
     let i = Step m in
-    let put = m .step-lines .ensures (A (Opened (i .before)) .args .r) (asked i) in
+    let put = m .step-lines .ensures (A (Opened (i .before)) .args .r) (step-required i) in
     line-fits (lined-same (put .same (faulty d)) (i .before .loop .inv .0))
 
 returns : tie.Need-returns Inv-loop μ-loop
@@ -176,11 +176,11 @@ returns c =
     let i = Step m in
     let l = i .before in
     let o = Opened l in
-    let put = m .step-lines .ensures (A o .args .r) (asked i) in
+    let put = m .step-lines .ensures (A o .args .r) (step-required i) in
     let n = faulty d in
     ends o
     (holds-fault (Header l .header .ensures) (lined-same (put .same n) (l .loop .inv .0)) (printable o .readable .outflows) (i .loop-test .taken)
-    (ends-fault (turn i) (put .says) n refl) n
+    (ends-fault (turn i) (put .found) n refl) n
     (rw (d .before .number .ensures) at (x .refused .ensures)))
 
 same-length : tie.Need-same-length Inv-loop μ-loop
@@ -199,9 +199,9 @@ loop-again c =
     let d = c .before in
     let m = Made (d .before) in
     let i = Step m in
-    let put = m .step-lines .ensures (A (Opened (i .before)) .args .r) (asked i) in
+    let put = m .step-lines .ensures (A (Opened (i .before)) .args .r) (step-required i) in
     let z = faultless d in
-    (lined-more (i .before .loop .inv .0) (turn i) (put .says) z (put .next z) refl (put .lines z), put .arrays z)
+    (lined-more (i .before .loop .inv .0) (turn i) (put .found) z (put .next z) refl (put .lines z), put .arrays z)
 
 last-lines-requires : tie.Need-last-lines-requires Inv-loop μ-loop
 last-lines-requires c κs =

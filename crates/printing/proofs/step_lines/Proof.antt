@@ -37,8 +37,8 @@ table-lines-requires c κs =
     let d = Tested c in
     let m = Made (d .before) in
     let p = A m .pre .0 in
-    let e = m .step .ensures (p .road) (p .asks) .outflows (faultless d) in
-    (p .asks .input .road .cells, (omega (arith, ap length e ∙ length-outflows _ _ _), A m .pre .1))
+    let e = m .step .ensures (p .road) (p .ready) .outflows (faultless d) in
+    (p .ready .input .road .cells, (omega (arith, ap length e ∙ length-outflows _ _ _), A m .pre .1))
 
 returns-2 : tie.Need-returns-2
 returns-2 c r h =

@@ -6,7 +6,7 @@ use Rattle.model.specs.Refusals.{refusalNumber}
 use Rattle.reading.specs.Within.{read-within, read-row}
 use Rattle.model.specs.Put.{rampOk, stepAndRateOk}
 use Rattle.put.specs.PutLaws.{ramp-facts, rates-facts, ends-unread, ends-ramp, ends-rates, ends-put}
-use Rattle.put.specs.Theorems.{ended}
+use Rattle.put.specs.Theorems.{meets-contract}
 use Rattle.put.proofs.put.Statement.{statement}
 use Rattle.put.proofs.put.Tie as tie
 use borrow.Author.Needs.{needs}
@@ -43,7 +43,7 @@ returns c =
     let r = c .before .before in
     let a = A r .args in
     let e = ends-unread (a .bytes .now) (a .step) (a .cell) (a .release) (r .read .ensures) (λ z. c .if1 .taken (c .before .number .ensures ∙ z)) in
-    ended (a .bytes .now) (a .step) (a .cell) (a .release) e
+    meets-contract (a .bytes .now) (a .step) (a .cell) (a .release) e
 
 has-ramp-requires : tie.Need-has-ramp-requires
 has-ramp-requires c κs =
@@ -58,7 +58,7 @@ returns-2 c =
     let a = A r .args in
     let n = sym (c .before .has-ramp .ensures) ∙ not-true _ (c .if2 .taken) in
     let e = ends-ramp (a .bytes .now) (a .step) (a .cell) (a .release) (r .read .ensures) (read-well p) n in
-    ended (a .bytes .now) (a .step) (a .cell) (a .release) e
+    meets-contract (a .bytes .now) (a .step) (a .cell) (a .release) e
 
 returns-3 : tie.Need-returns-3
 returns-3 c =
@@ -68,7 +68,7 @@ returns-3 c =
     let a = A r .args in
     let n = sym (c .before .rates-within .ensures) ∙ not-true _ (c .if3 .taken) in
     let e = ends-rates (a .bytes .now) (a .step) (a .cell) (a .release) (r .read .ensures) (read-well p) (ramped q) n in
-    ended (a .bytes .now) (a .step) (a .cell) (a .release) e
+    meets-contract (a .bytes .now) (a .step) (a .cell) (a .release) e
 
 put-release-requires : tie.Need-put-release-requires
 put-release-requires c κs =
@@ -93,7 +93,7 @@ returns-4 c =
     let r = to-read p in
     let a = A r .args in
     let e = ends-put (a .bytes .now) (a .step) (a .cell) (a .release) (r .read .ensures) (read-well p) (ramped q) (rated f) in
-    ended (a .bytes .now) (a .step) (a .cell) (a .release) (record { says = e .says; leaves = w .put-release .ensures ∙ e .leaves })
+    meets-contract (a .bytes .now) (a .step) (a .cell) (a .release) (record { answer = e .answer; leaves = w .put-release .ensures ∙ e .leaves })
 
 pub put-spec : {M : Type 1} → statement M
 put-spec =

@@ -12,7 +12,8 @@ use Rattle.model.specs.Flow.{arrivalsAt}
 use Rattle.outflows.specs.declared.Ledger.{Ledger}
 use Rattle.passes.specs.Tables.{heldCol, queueCol, cumulativeCol, roomCol, cameCol}
 use Rattle.model.specs.Filling.{MeterState, grantedAt}
-use Rattle.ramps.specs.Grants.{meterIn, GrantAsks, Granting, GrantTurn, Given, granting-none, grant-turn, arrives-here, given-known, granting-more, granting-end, same-size}
+use Rattle.ramps.specs.Grants.{meterIn, GrantRequires, GrantSoFar, GrantTurn, TurnRelease, grant-none, grant-turn, arrives-here, turn-release, grant-more, grant-end}
+use Rattle.ramps.specs.Grants.{same-size}
 use Rattle.ramps.proofs.grant.Statement.{statement}
 use Rattle.ramps.proofs.grant.Tie as tie
 use borrow.Author.Needs.{needs}
@@ -20,8 +21,8 @@ use borrow.Author.Needs.{needs}
 abbrev Inv-loop : tie.InvT-loop
 Inv-loop bytes₀ start ramps cell kinds numbers state work₀ j₀ bytes work j =
     ((j ≤ ramps) × (length work ≡ 5)) × ((laws : List Law) (r : Road) (l : Ledger) (releases entries : List ℕ) (k : ℕ)
-    → GrantAsks laws r (meterIn l state releases entries) bytes₀ k start ramps cell kinds numbers work₀
-    → Granting (grantedAt laws r (meterIn l state releases entries) (recordRow bytes₀ (r .n) k)) r (meterIn l state releases entries) bytes₀ k ramps cell
+    → GrantRequires laws r (meterIn l state releases entries) bytes₀ k start ramps cell kinds numbers work₀
+    → GrantSoFar (grantedAt laws r (meterIn l state releases entries) (recordRow bytes₀ (r .n) k)) r (meterIn l state releases entries) bytes₀ k ramps cell
     work₀ bytes work j)
 
 abbrev μ-loop : tie.MeasureT-loop
@@ -55,9 +56,9 @@ so-far : (c : tie.At-loop Inv-loop μ-loop) →
     let a = s .args in
     let p = s .pre in
     let l = c .loop in
-    Granting (grantedAt (p .laws) (p .road) (By s) (recordRow (a .bytes .now) (p .road .n) (p .step))) (p .road) (By s)
+    GrantSoFar (grantedAt (p .laws) (p .road) (By s) (recordRow (a .bytes .now) (p .road .n) (p .step))) (p .road) (By s)
     (a .bytes .now) (p .step) (a .ramps) (a .cell .now) (a .work .now) (l .bytes) (l .work) (l .j)
-so-far c = let p = A c .pre in c .loop .inv .1 (p .laws) (p .road) (p .ledger) (p .releases) (p .entries) (p .step) (p .grants)
+so-far c = let p = A c .pre in c .loop .inv .1 (p .laws) (p .road) (p .ledger) (p .releases) (p .entries) (p .step) (p .ready)
 
 -- the listed cell of a turn
 abbrev I : tie.In-loop Inv-loop μ-loop → ℕ
@@ -71,7 +72,7 @@ known : (c : tie.In-loop Inv-loop μ-loop) →
     let l = c .before .loop in
     GrantTurn (a .start) (I c) (length (l .bytes)) (at (queueCol (a .state .now)) (I c)) (arrivalsAt (recordRow (a .bytes .now) (p .road .n) (p .step)) (I c))
     (at (heldCol (a .state .now)) (I c)) (at (cumulativeCol (a .state .now)) (I c)) (at (cameCol (l .work)) (I c)) (p .road .n)
-known c = grant-turn (A (c .before) .pre .grants) (so-far (c .before)) (c .loop-test .taken)
+known c = grant-turn (A (c .before) .pre .ready) (so-far (c .before)) (c .loop-test .taken)
 
 arrives : (c : tie.After-number Inv-loop μ-loop) →
     let t = Number c in
@@ -79,27 +80,27 @@ arrives : (c : tie.After-number Inv-loop μ-loop) →
     c .number .result ≡ arrivalsAt (recordRow (s .args .bytes .now) (s .pre .road .n) (s .pre .step)) (I t)
 arrives c =
     let t = Number c in
-    c .number .ensures .0 ∙ arrives-here (A (t .before) .pre .grants) (so-far (t .before)) (t .loop-test .taken)
+    c .number .ensures .0 ∙ arrives-here (A (t .before) .pre .ready) (so-far (t .before)) (t .loop-test .taken)
 
 given : (c : tie.After-granted Inv-loop μ-loop) →
     let n = Law-in (Grant c) in
     let t = Number n in
-    Given (c .granted .result) (at (queueCol (A (t .before) .args .state .now)) (I t) + n .number .result) (at (roomCol (t .before .loop .work)) (I t))
+    TurnRelease (c .granted .result) (at (queueCol (A (t .before) .args .state .now)) (I t) + n .number .result) (at (roomCol (t .before .loop .work)) (I t))
 given c =
     let w = Grant c in
     let n = Law-in w in
     let t = Number n in
-    given-known (A (t .before) .pre .grants) (so-far (t .before)) (t .loop-test .taken) (w .law-in .ensures) (n .number .ensures .0) refl
+    turn-release (A (t .before) .pre .ready) (so-far (t .before)) (t .loop-test .taken) (w .law-in .ensures) (n .number .ensures .0) refl
     (c .before .cap .ensures) (c .granted .ensures)
 
 loop-holds : tie.Need-loop-holds Inv-loop μ-loop
-loop-holds c = ((omega arith, c .before .pre .grants .long .columns), λ laws r l releases entries k g. granting-none g)
+loop-holds c = ((omega arith, c .before .pre .ready .long .columns), λ laws r l releases entries k g. grant-none g)
 
 mul-i : tie.Need-mul-i Inv-loop μ-loop
-mul-i c = omega (arith, A (c .before) .pre .grants .listed .most, known c)
+mul-i c = omega (arith, A (c .before) .pre .ready .listed .most, known c)
 
 element-copy-out-i : tie.Need-element-copy-out-i Inv-loop μ-loop
-element-copy-out-i c = omega (arith, c .loop-test .taken, A (c .before) .pre .grants .listed .most, known c)
+element-copy-out-i c = omega (arith, c .loop-test .taken, A (c .before) .pre .ready .listed .most, known c)
 
 cast-i : tie.Need-cast-i Inv-loop μ-loop
 cast-i c = omega (arith, known (c .before))
@@ -159,10 +160,10 @@ law-in-requires : tie.Need-law-in-requires Inv-loop μ-loop
 law-in-requires c κs = omega (arith, known (Number (c .before .before .before .before .before)))
 
 mul-granted : tie.Need-mul-granted Inv-loop μ-loop
-mul-granted c = let t = Number (Law-in c) in omega (arith, t .loop-test .taken, A (t .before) .pre .grants .listed .most, known t)
+mul-granted c = let t = Number (Law-in c) in omega (arith, t .loop-test .taken, A (t .before) .pre .ready .listed .most, known t)
 
 index-2-granted : tie.Need-index-2-granted Inv-loop μ-loop
-index-2-granted c = let t = Number (Law-in c) in omega (arith, t .loop-test .taken, A (t .before) .pre .grants .listed .most, known t)
+index-2-granted c = let t = Number (Law-in c) in omega (arith, t .loop-test .taken, A (t .before) .pre .ready .listed .most, known t)
 
 add-put-number : tie.Need-add-put-number Inv-loop μ-loop
 add-put-number c = omega (arith, known (Number (Law-in (Grant (c .before)))))
@@ -187,22 +188,22 @@ loop-again c =
     let t = Number n in (
       (omega (arith, t .loop-test .taken), simp length-set (t .before .loop .inv .0 .1)),
       λ laws r l releases entries k g.
-          granting-more g (t .before .loop .inv .1 laws r l releases entries k g) (t .loop-test .taken) (w .law-in .ensures) (n .number .ensures .0) refl
+          grant-more g (t .before .loop .inv .1 laws r l releases entries k g) (t .loop-test .taken) (w .law-in .ensures) (n .number .ensures .0) refl
           (d .before .cap .ensures) (d .granted .ensures) (c .before .before .put-number .ensures),
     )
 
 same-length : tie.Need-same-length Inv-loop μ-loop
-same-length c = let l = c .before in same-size (A l .pre .grants) (so-far l)
+same-length c = let l = c .before in same-size (A l .pre .ready) (so-far l)
 
 returns : tie.Need-returns Inv-loop μ-loop
-returns c laws r l releases entries k g = let p = c .before .loop in granting-end g (p .inv .1 laws r l releases entries k g) (c .loop-test .left)
+returns c laws r l releases entries k g = let p = c .before .loop in grant-end g (p .inv .1 laws r l releases entries k g) (c .loop-test .left)
 
 -- the cell's index, and its index in the list
 cell-in : (c : tie.After-slice-known2 Inv-loop μ-loop) → I (Number (Law-in (Grant (Put c)))) ≤ 63
 cell-in c = omega (arith, known (Number (Law-in (Grant (Put c)))))
 
 place-in : (c : tie.After-slice-known2 Inv-loop μ-loop) → Number (Law-in (Grant (Put c))) .before .loop .j ≤ 63
-place-in c = let t = Number (Law-in (Grant (Put c))) in omega (arith, t .loop-test .taken, A (t .before) .pre .grants .listed .most, known t)
+place-in c = let t = Number (Law-in (Grant (Put c))) in omega (arith, t .loop-test .taken, A (t .before) .pre .ready .listed .most, known t)
 
 pub grant-spec : {M : Type 1} → statement M
 grant-spec =

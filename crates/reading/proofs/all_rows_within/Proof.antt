@@ -3,7 +3,7 @@ use mathlib.Core.Path.{_≡_, sym, ap, _∙_}
 use Prim.Native.Nat.{ℕ, _*_, _/_, _≤_}
 use lib.ListN.{length}
 use Rattle.model.specs.Record.{versionOf, rowSize, rowStart}
-use Rattle.reading.specs.Greatest.{mostRow, Blocks, in-blocks, blocks-there, blocks-raisable, block-raisable, rest-raisable, rows-within}
+use Rattle.reading.specs.Greatest.{mostRow, Blocks, in-blocks, blocks-there, blocks-ready, block-ready, rest-ready, rows-within}
 use Rattle.reading.proofs.all_rows_within.Statement.{statement}
 use Rattle.reading.proofs.all_rows_within.Tie as tie
 use borrow.Author.Needs.{needs}
@@ -70,13 +70,13 @@ mul-raise-to-parts : tie.Need-mul-raise-to-parts
 mul-raise-to-parts c = omega (arith, plan (Args c) .span)
 
 raise-to-parts-requires : tie.Need-raise-to-parts-requires
-raise-to-parts-requires c κs = let s = Args (c .before) in blocks-raisable (s .pre) (plan s) (start (c .before)) (search needs)
+raise-to-parts-requires c κs = let s = Args (c .before) in blocks-ready (s .pre) (plan s) (start (c .before)) (search needs)
 
 raise-to-parts-requires-2 : tie.Need-raise-to-parts-requires-2
 raise-to-parts-requires-2 c κs =
     let r = c .before .before in
     let s = Args (Starts r) in
-    block-raisable (s .pre) (plan s) (omega (arith, r .raise-to-parts .ensures .same)) (search needs)
+    block-ready (s .pre) (plan s) (omega (arith, r .raise-to-parts .ensures .same)) (search needs)
 
 sub-raise-to-parts : tie.Need-sub-raise-to-parts
 sub-raise-to-parts c = omega (arith, plan (Args (Starts (Raised c))) .rows)
@@ -85,7 +85,7 @@ raise-to-parts-requires-3 : tie.Need-raise-to-parts-requires-3
 raise-to-parts-requires-3 c κs =
     let r = c .before in
     let f = Starts (Raised r) in
-    rest-raisable (Args f .pre) (plan (Args f)) (left f) (omega (arith, plan (Args f) .rows))
+    rest-ready (Args f .pre) (plan (Args f)) (left f) (omega (arith, plan (Args f) .rows))
     (omega (arith, r .raise-to-parts2 .ensures .same))
 
 returns : tie.Need-returns

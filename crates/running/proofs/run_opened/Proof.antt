@@ -36,7 +36,7 @@ returns c =
     let t = c .before in
     let a = A (t .before) .args in
     let u = c .unbegun .ensures in
-    ran-unopened (a .weighs) (a .longs) (at (a .weights .places)) (at (a .weights .ramps)) (a .out .now) (a .bytes .now) (a .table .now) (readAnswer (a .a))
+    ran-unopened (a .sums) (a .longs) (at (a .weights .places)) (at (a .weights .ramps)) (a .out .now) (a .bytes .now) (a .table .now) (readAnswer (a .a))
     (λ z. t .if1 .taken (t .before .number .ensures ∙ z)) (ap endAnswer (u .0)) (u .1)
 
 add-if2 : tie.Need-add-if2
@@ -50,7 +50,7 @@ returns-2 c =
     let k = to-passed (c .before .before) in
     let a = A (to-number k) .args in
     let u = c .unbegun2 .ensures in
-    ran-short (a .weighs) (a .longs) (at (a .weights .places)) (at (a .weights .ramps)) (a .out .now) (a .bytes .now) (a .table .now) (readAnswer (a .a)) (opens k)
+    ran-short (a .sums) (a .longs) (at (a .weights .places)) (at (a .weights .ramps)) (a .out .now) (a .bytes .now) (a .table .now) (readAnswer (a .a)) (opens k)
     (omega arith) (ap endAnswer (u .0)) (u .1)
 
 run-rows-requires : tie.Need-run-rows-requires
@@ -61,7 +61,7 @@ returns-3 c =
     let r = c .before .before in
     let k = to-passed (r .before .before .before) in
     let a = A (to-number k) .args in
-    ran-long (a .weighs) (a .longs) (at (a .weights .places)) (at (a .weights .ramps)) (a .out .now) (a .bytes .now) (a .table .now) (readAnswer (a .a)) (opens k)
+    ran-long (a .sums) (a .longs) (at (a .weights .places)) (at (a .weights .ramps)) (a .out .now) (a .bytes .now) (a .table .now) (readAnswer (a .a)) (opens k)
     (search needs) (r .run-rows .ensures)
 
 pub run-opened-spec : {M : Type 1} → statement M

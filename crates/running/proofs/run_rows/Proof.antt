@@ -16,23 +16,23 @@ use Rattle.model.specs.Record.{recordRow}
 use Rattle.fields.specs.FieldsLaws.{HoldsRow}
 use Rattle.lanes.specs.LanesLaws.{rows-within}
 use Rattle.model.specs.Road.{zeros}
-use Rattle.theory.specs.OpenRoad.{stepRoad, OnRoad, Turned, on-road, turned-road, turned-on}
+use Rattle.theory.specs.OpenRoad.{stepRoad, OnRoad, RoadTurn, on-road, turn-road, turn-on-road}
 use Rattle.outflows.specs.declared.Ledger.{Ledger}
 use Rattle.outflows.specs.Columns.{stateOf, ledgerOf}
 use Rattle.passes.specs.Tables.{Table, roadIn, stateIn, cellCol, road-tables, store-capacities}
 use Rattle.model.specs.Reading.{studyBy}
 use Rattle.model.specs.Listing.{mostOutflows}
-use Rattle.model.specs.Running.{EndAnswer, ended, endAnswer, runEnd}
+use Rattle.model.specs.Running.{EndAnswer, endWith, endAnswer, runEnd}
 use Rattle.theory.specs.SchedulesLaws.{runTable}
 use Rattle.model.specs.Numbers.{at}
 use Rattle.counts.specs.declared.AtGate.{AtGate}
 use Rattle.model.specs.Longest.{Queues, queuesOf}
 use Rattle.counts.specs.LongestRun.{longestEnd}
-use Rattle.counts.specs.LongestSoFar.{Raised, raised-none, raised-more, raised-end}
-use Rattle.passes.specs.Step.{Arrays, StepAsks}
-use Rattle.running.specs.Steps.{RanTurn, same-places, passes-ask, steps-all, ends-ran, ends-fault, steps-fault}
+use Rattle.counts.specs.LongestSoFar.{LongestSoFar, queues-none, queues-more, queues-end}
+use Rattle.passes.specs.Step.{Arrays, StepRequires}
+use Rattle.running.specs.Steps.{RunTurn, same-places, step-ready, steps-all, ends-ran, ends-fault, steps-fault}
 use Rattle.running.specs.Arrays.{arrays-start, arrays-on, arrays-off}
-use Rattle.running.specs.WeightedTotal.{weightedTotalEnd, Totalled, totalled-none, totalled-fits, totalled-more, totalled-end}
+use Rattle.running.specs.WeightedTotal.{weightedTotalEnd, WeightedSoFar, weighted-none, weighted-fits, weighted-more, weighted-end}
 use Rattle.running.specs.LentList.{Runnable, part-back, RowsInList, made-none, made-more, same-length, row-fits, row-ends-by, table-end, table-fault}
 use Rattle.running.proofs.run_rows.Statement.{statement}
 use Rattle.running.proofs.run_rows.Tie as tie
@@ -40,15 +40,15 @@ use borrow.Author.Needs.{needs}
 use native.Mathlib.Omega.{arith}
 
 abbrev Inv-loop : tie.InvT-loop
-Inv-loop bytes table r steps weighs longs out₀ weights _ _ _ rates _ size state₀ _ l₀ _ _ _ _ _ out sizes state work l gate most total k to =
+Inv-loop bytes table r steps sums longs out₀ weights _ _ _ rates _ size state₀ _ l₀ _ _ _ _ _ out sizes state work l gate most total k to =
     let a = studyBy bytes table r (stateIn l₀ state₀) steps in
     RowsInList a out₀ out (stateIn l state) k to
-    × ((OnRoad a (roadIn r size rates sizes) × (length sizes ≡ 3)) × (Totalled weighs (at (weights .places)) (at (weights .ramps)) a total k
+    × ((OnRoad a (roadIn r size rates sizes) × (length sizes ≡ 3)) × (WeightedSoFar sums (at (weights .places)) (at (weights .ramps)) a total k
     × (Arrays r (size .ramps) (cellCol sizes) state work
-    × Raised longs (r .n) (engineAfter a) (queuesOf (gate .gate) (gate .waiting) most) k)))
+    × LongestSoFar longs (r .n) (engineAfter a) (queuesOf (gate .gate) (gate .waiting) most) k)))
 
 abbrev μ-loop : tie.MeasureT-loop
-μ-loop bytes table r steps weighs longs out₀ weights _ _ _ rates _ size state₀ _ l₀ _ _ _ _ _ out sizes state work l gate most total k to = steps - k
+μ-loop bytes table r steps sums longs out₀ weights _ _ _ rates _ size state₀ _ l₀ _ _ _ _ _ out sizes state work l gate most total k to = steps - k
 
 -- places of the code: the arguments and the ledger from the loop, a turn's start from its step, and the step from the places after it
 abbrev Listing : tie.After-of Inv-loop μ-loop → tie.After-list-ramps Inv-loop μ-loop
@@ -107,7 +107,7 @@ On c sizes = let z = Listing (L c) in roadIn (A c .args .r) (z .list-ramps .resu
 -- the tables of the turn: with the capacities of its step, or unchanged with an empty table of lanes
 opened : (c : tie.Joined1 Inv-loop μ-loop) →
     let l = c .before .before in
-    Turned (Of (L l)) (On l (l .loop .sizes)) (l .loop .k) (On l (c .if1 .sizes))
+    RoadTurn (Of (L l)) (On l (l .loop .sizes)) (l .loop .k) (On l (c .if1 .sizes))
     × ((length (c .if1 .sizes) ≡ 3) × (cellCol (c .if1 .sizes) ≡ cellCol (l .loop .sizes)))
 opened c =
     let l = c .before .before in
@@ -125,28 +125,28 @@ opened c =
           (record { before = before .0; came = inr (p .0 .left, ap (On l) (p .1)) }, (ap length (p .1) ∙ before .1, ap cellCol (p .1)))
     ]
 
-turned : (c : tie.Joined1 Inv-loop μ-loop) → let l = c .before .before in Turned (Of (L l)) (On l (l .loop .sizes)) (l .loop .k) (On l (c .if1 .sizes))
-turned c = opened c .0
+road-turn : (c : tie.Joined1 Inv-loop μ-loop) → let l = c .before .before in RoadTurn (Of (L l)) (On l (l .loop .sizes)) (l .loop .k) (On l (c .if1 .sizes))
+road-turn c = opened c .0
 
 holds : (c : tie.In-loop Inv-loop μ-loop) → HoldsRow (A (c .before) .args .bytes .now) (A (c .before) .args .r .n) (c .before .loop .k)
 holds c = A (c .before) .pre .readable .row (c .before .loop .k) (c .loop-test .taken)
 
 -- the road's cells are the record's
 same-cells : (c : tie.Joined1 Inv-loop μ-loop) → let l = c .before .before in On l (c .if1 .sizes) .n ≡ A l .args .r .n
-same-cells c = ap (λ (x : Road). x .n) (turned-on (turned c) .other)
+same-cells c = ap (λ (x : Road). x .n) (turn-on-road (road-turn c) .other)
 
 -- the facts about a turn
 turn : (c : tie.Joined1 Inv-loop μ-loop) →
     let l = c .before .before in
     let q = On l (c .if1 .sizes) in
-    RanTurn (Of (L l)) (Now l) (l .loop .k) q (recordRow (A l .args .bytes .now) (q .n) (l .loop .k))
+    RunTurn (Of (L l)) (Now l) (l .loop .k) q (recordRow (A l .args .bytes .now) (q .n) (l .loop .k))
 turn c =
     let l = c .before .before in
     record {
       ok = runnable (L l) .readable .ok;
       ran = l .loop .inv .0 .ran;
       left = c .before .loop-test .taken;
-      road = turned-road (turned c);
+      road = turn-road (road-turn c);
       numbers = ap (λ (n : ℕ). recordRow (A l .args .bytes .now) n (l .loop .k)) (same-cells c);
     }
 
@@ -165,16 +165,16 @@ ends : (c : tie.After-of Inv-loop μ-loop) {x : EndAnswer} {out : List ℕ} {t :
     let a = Begun (Listing c) .args in
     let w = at (a .t6 .places) in
     let u = at (a .t6 .ramps) in
-    x ≡ runEnd (Of c) → out ≡ runTable (Of c) (a .out .now) → t ≡ weightedTotalEnd (a .weighs) w u (Of c) → (a .longs ≡ true → q ≡ longestEnd (Of c)) →
+    x ≡ runEnd (Of c) → out ≡ runTable (Of c) (a .out .now) → t ≡ weightedTotalEnd (a .sums) w u (Of c) → (a .longs ≡ true → q ≡ longestEnd (Of c)) →
     let b = studyBy (a .bytes .now) (a .table .now) (a .r) (a .s) (a .steps) in
-    (x ≡ runEnd b) × ((out ≡ runTable b (a .out .now)) × ((t ≡ weightedTotalEnd (a .weighs) w u b) × (a .longs ≡ true → q ≡ longestEnd b)))
+    (x ≡ runEnd b) × ((out ≡ runTable b (a .out .now)) × ((t ≡ weightedTotalEnd (a .sums) w u b) × (a .longs ≡ true → q ≡ longestEnd b)))
 ends c e o t q =
     let a = Begun (Listing c) .args in
     let k = begins c in (
       e ∙ ap runEnd k,
       (
         o ∙ ap (λ (b : Study). runTable b (a .out .now)) k,
-        (t ∙ ap (weightedTotalEnd (a .weighs) (at (a .t6 .places)) (at (a .t6 .ramps))) k, λ asked. q asked ∙ ap longestEnd k),
+        (t ∙ ap (weightedTotalEnd (a .sums) (at (a .t6 .places)) (at (a .t6 .ramps))) k, λ wanted. q wanted ∙ ap longestEnd k),
       ),
     )
 
@@ -189,16 +189,16 @@ faultless c = sym (c .before .number .ensures) ∙ c .if2 .left
 abbrev Part : tie.Joined1 Inv-loop μ-loop → List ℕ
 Part c = let p = c .before .before .loop in take (p .to + places (Of (L (c .before .before))) - p .to) (drop (p .to) (p .out))
 
-asked : (c : tie.Joined1 Inv-loop μ-loop) →
+step-required : (c : tie.Joined1 Inv-loop μ-loop) →
     let l = c .before .before in
     let p = l .loop in
-    StepAsks (A l .args .bytes .now) (p .k) (On l (c .if1 .sizes)) (Listing (L l) .list-ramps .result .ramps) (cellCol (c .if1 .sizes))
+    StepRequires (A l .args .bytes .now) (p .k) (On l (c .if1 .sizes)) (Listing (L l) .list-ramps .result .ramps) (cellCol (c .if1 .sizes))
     (p .l) (p .state) (p .work) (Part c)
-asked c =
+step-required c =
     let l = c .before .before in
     let p = l .loop in
-    passes-ask (turn c) (subst (λ (n : ℕ). HoldsRow (A l .args .bytes .now) n (p .k)) (sym (same-cells c)) (holds (c .before)))
-    (rw (opened c .1 .1) (arrays-on (turned-on (turned c)) (p .inv .1 .1 .1 .0)))
+    step-ready (turn c) (subst (λ (n : ℕ). HoldsRow (A l .args .bytes .now) n (p .k)) (sym (same-cells c)) (holds (c .before)))
+    (rw (opened c .1 .1) (arrays-on (turn-on-road (road-turn c)) (p .inv .1 .1 .1 .0)))
     (same-places (turn c) (part-length (p .out) (p .to) (places (Of (L l))) (fits (c .before))))
 
 list-ramps-requires : tie.Need-list-ramps-requires Inv-loop μ-loop
@@ -222,8 +222,8 @@ loop-holds c =
       (
         (rw (t .road) on-road, t .columns),
         (
-          totalled-none _ _ _ _,
-          (rw (t .cells) (arrays-start (Begun z .args .s) (runnable o .readable .ok) (e .1 .0) (o .before .of-state .ensures)), rw (g .0, g .1) (raised-none _ _ _)),
+          weighted-none _ _ _ _,
+          (rw (t .cells) (arrays-start (Begun z .args .s) (runnable o .readable .ok) (e .1 .0) (o .before .of-state .ensures)), rw (g .0, g .1) (queues-none _ _ _)),
         ),
       ),
     )
@@ -250,14 +250,14 @@ part-y-end : tie.Need-part-y-end Inv-loop μ-loop
 part-y-end c = omega (arith, fits (c .before))
 
 step-requires : tie.Need-step-requires Inv-loop μ-loop
-step-requires c κs = let j = Lent c in record { road = A (j .before .before) .args .r; asks = asked j }
+step-requires c κs = let j = Lent c in record { road = A (j .before .before) .args .r; ready = step-required j }
 
 same-length-fault : tie.Need-same-length Inv-loop μ-loop
 same-length-fault c =
     let m = Made-step (c .before .before .before .before) in
     let j = Step m in
     let p = j .before .before .loop in
-    let gave = m .step .ensures (A (j .before .before) .args .r) (asked j) in
+    let gave = m .step .ensures (A (j .before .before) .args .r) (step-required j) in
     ap length (part-back (p .out) (p .to) (places (Of (L (j .before .before)))) (gave .same (faulty (c .before .before .before)) .1)) ∙ list-kept (j .before .before)
 
 returns : tie.Need-returns Inv-loop μ-loop
@@ -269,21 +269,21 @@ returns c =
     let l = j .before .before in
     let p = l .loop in
     let q = m .step .result .fault in
-    let gave = m .step .ensures (A (j .before .before) .args .r) (asked j) in
+    let gave = m .step .ensures (A (j .before .before) .args .r) (step-required j) in
     let n = faulty d in
     let same = gave .same n in
     let e = ap endAnswer (t .0 ∙ c .before .at-step .ensures)
-    ∙ ap (λ (u : State). ended (refusalNumber (q .refusal)) (p .k) (q .place) (A l .args .r) u)
+    ∙ ap (λ (u : State). endWith (refusalNumber (q .refusal)) (p .k) (q .place) (A l .args .r) u)
     (c .before .before .to-state .ensures ∙ ap (λ (u : State). stateOf (p .l) (u .held) (u .queue) (u .cumulative)) (same .0)) in
-    ends (L l) (ends-fault (turn j) (gave .says) n e) (part-back (p .out) (p .to) (places (Of (L l))) (same .1) ∙ table-fault (p .inv .0) (turn j) (gave .says) n)
-    (t .1 .1 ∙ totalled-end _ _ _ _ (p .inv .1 .1 .0) (steps-fault (turn j) (gave .says) n))
-    (λ asked. t .1 .0 ∙ raised-end _ _ _ (p .inv .1 .1 .1 .1) (steps-fault (turn j) (gave .says) n) asked)
+    ends (L l) (ends-fault (turn j) (gave .found) n e) (part-back (p .out) (p .to) (places (Of (L l))) (same .1) ∙ table-fault (p .inv .0) (turn j) (gave .found) n)
+    (t .1 .1 ∙ weighted-end _ _ _ _ (p .inv .1 .1 .0) (steps-fault (turn j) (gave .found) n))
+    (λ wanted. t .1 .0 ∙ queues-end _ _ _ (p .inv .1 .1 .1 .1) (steps-fault (turn j) (gave .found) n) wanted)
 
 added-requires : tie.Need-added-requires Inv-loop μ-loop
 added-requires c κs =
     let i = Step (Made-step (to-passed c .before)) .before in
     let ok = A (i .before) .pre .readable .ok in
-    (totalled-fits _ _ _ _ (i .before .loop .inv .1 .1 .0) (omega (arith, i .loop-test .taken, ok .steps)), ok .road .cells)
+    (weighted-fits _ _ _ _ (i .before .loop .inv .1 .1 .0) (omega (arith, i .loop-test .taken, ok .steps)), ok .road .cells)
 
 raised-requires : tie.Need-raised-requires Inv-loop μ-loop
 raised-requires c κs =
@@ -305,23 +305,23 @@ loop-again c =
     let m = Made-step (d .before) in
     let j = Step m in
     let p = j .before .before .loop in
-    let gave = m .step .ensures (A (j .before .before) .args .r) (asked j) in
+    let gave = m .step .ensures (A (j .before .before) .args .r) (step-required j) in
     let z = faultless d in
-    let made = made-more (p .inv .0) (turn j) (gave .says) z (gave .next z) (gave .outflows z) in
+    let made = made-more (p .inv .0) (turn j) (gave .found) z (gave .next z) (gave .outflows z) in
     let e = joined .before .added .ensures in
-    let on = turned-on (turned j) in (
+    let on = turn-on-road (road-turn j) in (
       made,
       (
         (on, opened j .1 .0),
         (
-          totalled-more _ _ _ _ (p .inv .1 .1 .0) (made .ran) (e .0 _ (record { atGate = refl; onRoad = refl; atRamps = refl })) (e .1),
+          weighted-more _ _ _ _ (p .inv .1 .1 .0) (made .ran) (e .0 _ (record { atGate = refl; onRoad = refl; atRamps = refl })) (e .1),
           (
             arrays-off on (gave .arrays z),
-            raised-more _ _ _ (p .inv .1 .1 .1 .1) (turn j .ok .road .cells) (p .inv .0 .ran .state) (made .ran .state) (λ asked. elim (joined .if3 .came) [
+            queues-more _ _ _ (p .inv .1 .1 .1 .1) (turn j .ok .road .cells) (p .inv .0 .ran .state) (made .ran .state) (λ wanted. elim (joined .if3 .came) [
               | inl q ↦ ap (λ (g : AtGate). queuesOf (g .gate) (g .waiting) (joined .if3 .most)) (q .4)
                   ∙ ap (queuesOf (q .3 .result .gate) (q .3 .result .waiting)) (q .5)
                   ∙ q .3 .ensures
-              | inr q ↦ absurd (true≢false (sym asked ∙ q .0 .left))
+              | inr q ↦ absurd (true≢false (sym wanted ∙ q .0 .left))
             ]),
           ),
         ),
@@ -335,11 +335,11 @@ returns-2 : tie.Need-returns-2 Inv-loop μ-loop
 returns-2 c =
     let t = c .tallied2 .ensures in
     let l = c .before .before .before .before in
-    let e = ap endAnswer (t .0 ∙ c .before .complete .ensures) ∙ ap (λ (u : State). ended 0 0 0 (A l .args .r) u) (c .before .before .to-state2 .ensures) in
+    let e = ap endAnswer (t .0 ∙ c .before .complete .ensures) ∙ ap (λ (u : State). endWith 0 0 0 (A l .args .r) u) (c .before .before .to-state2 .ensures) in
     let ran = l .loop .inv .0 .ran in
     ends (L l) (ends-ran ran (search needs) e) (table-end (l .loop .inv .0) (search needs))
-    (t .1 .1 ∙ totalled-end _ _ _ _ (l .loop .inv .1 .1 .0) (steps-all ran (search needs)))
-    (λ asked. t .1 .0 ∙ raised-end _ _ _ (l .loop .inv .1 .1 .1 .1) (steps-all ran (search needs)) asked)
+    (t .1 .1 ∙ weighted-end _ _ _ _ (l .loop .inv .1 .1 .0) (steps-all ran (search needs)))
+    (λ wanted. t .1 .0 ∙ queues-end _ _ _ (l .loop .inv .1 .1 .1 .1) (steps-all ran (search needs)) wanted)
 
 pub run-rows-spec : {M : Type 1} → statement M
 run-rows-spec =

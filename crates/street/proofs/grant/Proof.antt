@@ -5,7 +5,7 @@ use lib.ListN.{length}
 use borrow.Author.Tests.{not-true, not-false}
 use Rattle.model.specs.Street.{streetOk}
 use Rattle.street.specs.StreetLaws.{ok-request, refused-answer, refused-grants, granted-answer, granted-grants}
-use Rattle.street.specs.Theorems.{ended}
+use Rattle.street.specs.Theorems.{meets-contract}
 use Rattle.street.proofs.grant.Statement.{statement}
 use Rattle.street.proofs.grant.Tie as tie
 use borrow.Author.Needs.{needs}
@@ -24,7 +24,7 @@ returns c =
     let a = A (c .before) .args in
     let n = sym (c .before .request-within .ensures) ∙ not-true _ (c .if1 .taken) in
     let e = refused-answer (a .limit) (a .guarantees .now) (a .wishes .now) (a .grants .now) n in
-    ended (a .limit) (a .guarantees .now) (a .wishes .now) (a .grants .now) (sym e)
+    meets-contract (a .limit) (a .guarantees .now) (a .wishes .now) (a .grants .now) (sym e)
     (sym (refused-grants (a .limit) (a .guarantees .now) (a .wishes .now) (a .grants .now) n))
 
 share-requires : tie.Need-share-requires
@@ -37,7 +37,7 @@ returns-2 : tie.Need-returns-2
 returns-2 c =
     let e = c .before .before .before .before in
     let a = A (e .before) .args in
-    ended (a .limit) (a .guarantees .now) (a .wishes .now) (a .grants .now)
+    meets-contract (a .limit) (a .guarantees .now) (a .wishes .now) (a .grants .now)
     (sym (granted-answer (a .limit) (a .guarantees .now) (a .wishes .now) (a .grants .now) (accepted e)))
     (c .before .before .share .ensures ∙ sym (granted-grants (a .limit) (a .guarantees .now) (a .wishes .now) (a .grants .now) (accepted e)))
 

@@ -1,6 +1,6 @@
 -- `taking::entry` meets its contract. Each return follows from the tests before it. Assumes nothing.
 use native.Mathlib.Omega.{arith}
-use Rattle.taking.specs.PickingLaws.{entry-there, entry-none}
+use Rattle.taking.specs.RowLaws.{entry-there, entry-none}
 use Rattle.taking.proofs.entry.Statement.{statement}
 use Rattle.taking.proofs.entry.Tie as tie
 use borrow.Author.Needs.{needs}

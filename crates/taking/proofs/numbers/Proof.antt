@@ -5,13 +5,13 @@ use native.Mathlib.Omega.{arith}
 use Rattle.model.specs.Record.{numberSize, versionOf, rowStart, rowNumbers}
 use Rattle.fields.specs.FieldsLaws.{mostSize, start-small}
 use Rattle.model.specs.RowNumbers.{entryOr}
-use Rattle.taking.specs.PickingLaws.{RowTaken, taken-none, taken-more, taken-end}
+use Rattle.taking.specs.RowLaws.{RowSoFar, row-none, row-more, row-end}
 use Rattle.taking.proofs.numbers.Statement.{statement}
 use Rattle.taking.proofs.numbers.Tie as tie
 use borrow.Author.Needs.{needs}
 
 abbrev Inv-loop : tie.InvT-loop
-Inv-loop bytes n t start r₀ k₀ r k = RowTaken bytes n t r k
+Inv-loop bytes n t start r₀ k₀ r k = RowSoFar bytes n t r k
 
 abbrev μ-loop : tie.MeasureT-loop
 μ-loop bytes n t start r₀ k₀ r k = rowNumbers n - k
@@ -41,7 +41,7 @@ row-start-requires : tie.Need-row-start-requires Inv-loop μ-loop
 row-start-requires c κs = omega (arith, small c)
 
 loop-holds : tie.Need-loop-holds Inv-loop μ-loop
-loop-holds c = taken-none
+loop-holds c = row-none
 
 add-entry : tie.Need-add-entry Inv-loop μ-loop
 add-entry c = let s = Began (c .before) in omega (arith, small (Version s), s .row-start .ensures)
@@ -51,11 +51,11 @@ loop-again c =
     let i = c .before in
     let l = i .before .loop in
     let s = Began (i .before) in
-    taken-more (l .inv) (i .loop-test .taken)
+    row-more (l .inv) (i .loop-test .taken)
     (c .entry .ensures ∙ ap (λ (x : ℕ). entryOr (A (Version s) .args .bytes .now) (x + numberSize * l .k)) (start s))
 
 returns : tie.Need-returns Inv-loop μ-loop
-returns c = taken-end (c .before .loop .inv) (search needs)
+returns c = row-end (c .before .loop .inv) (search needs)
 
 pub numbers-spec : {M : Type 1} → statement M
 numbers-spec =

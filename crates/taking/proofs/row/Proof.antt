@@ -1,6 +1,6 @@
 -- `taking::row` meets its contract. Each return follows from the tests before it. Assumes nothing.
 use native.Mathlib.Omega.{arith}
-use Rattle.taking.specs.PickingLaws.{array-cells, array-steps, array-numbers}
+use Rattle.taking.specs.RowLaws.{array-cells, array-steps, array-numbers}
 use Rattle.taking.proofs.row.Statement.{statement}
 use Rattle.taking.proofs.row.Tie as tie
 

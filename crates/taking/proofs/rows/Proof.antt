@@ -3,7 +3,8 @@ use Prim.Native.Nat.{_+_, _-_, _≤_}
 use lib.ListN.{length}
 use Rattle.numbers.specs.TablesLaws.{part-length}
 use Rattle.model.specs.Record.{rowNumbers}
-use Rattle.taking.specs.TakingLaws.{Roomy, mostNumbers, over-cells, over-steps, too-short, count-small, untaken, RowsSoFar, listed-none, listed-length, row-fits, row-small}
+use Rattle.taking.specs.TakingLaws.{RoomForRows, mostNumbers, over-cells, over-steps, too-short, count-small, untaken, RowsSoFar, listed-none, listed-length, row-fits}
+use Rattle.taking.specs.TakingLaws.{row-small}
 use Rattle.taking.specs.TakingLaws.{listed-more, listed-end}
 use Rattle.taking.proofs.rows.Statement.{statement}
 use Rattle.taking.proofs.rows.Tie as tie
@@ -35,7 +36,7 @@ to-put c = c .before .before
 -- there is room for the rows
 room : (c : tie.Else3 Inv-loop μ-loop) →
     let a = Tested (c .before) .args in
-    Roomy (a .n) (a .steps) (length (a .list .now))
+    RoomForRows (a .n) (a .steps) (length (a .list .now))
 room c = record { cells = c .before .before .if1 .left; steps = c .before .if2 .left; long = c .if3 .left }
 
 -- the next row is within the list

@@ -1,5 +1,5 @@
 -- `taking::version` meets its contract. Each return follows from the test before it. Assumes nothing.
-use Rattle.taking.specs.PickingLaws.{version-none}
+use Rattle.taking.specs.RowLaws.{version-none}
 use Rattle.taking.proofs.version.Statement.{statement}
 use Rattle.taking.proofs.version.Tie as tie
 use borrow.Author.Needs.{needs}

@@ -8,7 +8,7 @@ use Rattle.numbers.specs.Tests.{both-true}
 use Rattle.model.specs.Limits.{allWithin}
 use Rattle.model.specs.Wanted.{WantedRequest, wantedFrameOk}
 use Rattle.wanted.specs.WantedLaws.{ok-request}
-use Rattle.wanted.specs.Theorems.{ended}
+use Rattle.wanted.specs.Theorems.{meets-contract}
 use Rattle.wanted.specs.Loops.{ends-frame, ends-arrivals, ends-none, ends-found}
 use Rattle.wanted.proofs.wanted.Statement.{statement}
 use Rattle.wanted.proofs.wanted.Tie as tie
@@ -46,7 +46,7 @@ returns c =
     let a = A (c .before) .args in
     let n = sym (c .before .frame-within .ensures) ∙ not-true _ (c .if1 .taken) in
     let e = ends-frame (a .start) (a .ceiling) (a .rate) (a .arrivals .now) (a .table .now) n in
-    ended (a .start) (a .ceiling) (a .rate) (a .arrivals .now) (a .table .now) (e .says) (e .leaves)
+    meets-contract (a .start) (a .ceiling) (a .rate) (a .arrivals .now) (a .table .now) (e .answer) (e .leaves)
 
 returns-2 : tie.Need-returns-2
 returns-2 c =
@@ -54,7 +54,7 @@ returns-2 c =
     let a = A (f .before) .args in
     let n = sym (c .before .all-within .ensures) ∙ not-true _ (c .if2 .taken) in
     let e = ends-arrivals (a .start) (a .ceiling) (a .rate) (a .arrivals .now) (a .table .now) (framed f) n in
-    ended (a .start) (a .ceiling) (a .rate) (a .arrivals .now) (a .table .now) (e .says) (e .leaves)
+    meets-contract (a .start) (a .ceiling) (a .rate) (a .arrivals .now) (a .table .now) (e .answer) (e .leaves)
 
 possible-requires : tie.Need-possible-requires
 possible-requires c κs = request c .limits
@@ -66,7 +66,7 @@ returns-3 c =
     let a = A (f .before) .args in
     let n = sym (c .before .possible .ensures) ∙ not-true _ (c .if3 .taken) in
     let e = ends-none (a .start) (a .ceiling) (a .rate) (a .arrivals .now) (a .table .now) (framed f) (arrive w) n in
-    ended (a .start) (a .ceiling) (a .rate) (a .arrivals .now) (a .table .now) (e .says) (e .leaves)
+    meets-contract (a .start) (a .ceiling) (a .rate) (a .arrivals .now) (a .table .now) (e .answer) (e .leaves)
 
 fill-requires : tie.Need-fill-requires
 fill-requires c κs = let q = request (arrived-at (c .before .before)) in (q .limits, q .same)
@@ -79,7 +79,7 @@ returns-4 c =
     let a = A (f .before) .args in
     let n = sym (p .before .possible .ensures) ∙ not-false _ (p .if3 .left) in
     let e = ends-found (a .start) (a .ceiling) (a .rate) (a .arrivals .now) (a .table .now) (framed f) (arrive w) n in
-    ended (a .start) (a .ceiling) (a .rate) (a .arrivals .now) (a .table .now) (e .says) (c .before .before .fill .ensures ∙ e .leaves)
+    meets-contract (a .start) (a .ceiling) (a .rate) (a .arrivals .now) (a .table .now) (e .answer) (c .before .before .fill .ensures ∙ e .leaves)
 
 pub wanted-spec : {M : Type 1} → statement M
 wanted-spec =

@@ -8,9 +8,9 @@ use Rattle.model.specs.Refusals.{refusalNumber}
 use Rattle.model.specs.Schedules.{Study}
 use Rattle.model.specs.Limits.{placeOk}
 use Rattle.fields.specs.HeaderLaws.{size-small}
-use Rattle.model.specs.Writing.{unwritten, written, frameOf, writingBy, writingOf}
-use Rattle.model.specs.Encoding.{given}
-use Rattle.writing.specs.Checks.{FrameOk, framed, answer-frame, answer-place, answer-step, answer-short, answer-written, by-given}
+use Rattle.model.specs.Writing.{unwritten, writtenCount, frameOf, writingBy, writingOf}
+use Rattle.model.specs.Encoding.{givenStudy}
+use Rattle.writing.specs.Checks.{FrameOk, frame-ok, answer-frame, answer-place, answer-step, answer-short, answer-written, by-given}
 use Rattle.writing.proofs.checked.Statement.{statement}
 use Rattle.writing.proofs.checked.Tie as tie
 use native.Mathlib.Omega.{arith}
@@ -34,7 +34,7 @@ Size c = c .before
 
 -- the study given
 abbrev Of : tie.Start → Study
-Of c = given (c .args .road) (c .args .steps) (c .args .start) (c .args .rows .now)
+Of c = givenStudy (c .args .road) (c .args .steps) (c .args .start) (c .args .rows .now)
 
 abbrev numbers : tie.Start → ℕ
 numbers c = length (c .args .rows .now)
@@ -46,7 +46,7 @@ room c = length (c .args .target .now)
 ok : (c : tie.Else1) → FrameOk (Of (A (Frame c))) (numbers (A (Frame c)))
 ok c =
     let z : refusalNumber (Frame c .frame-refusal .result) ≡ 0 = search needs in
-    framed (Of (A (Frame c))) (numbers (A (Frame c))) (sym (Frame c .frame-refusal .ensures) ∙ z)
+    frame-ok (Of (A (Frame c))) (numbers (A (Frame c))) (sym (Frame c .frame-refusal .ensures) ∙ z)
 
 -- the lowest place out of its limits
 place : (c : tie.After-first-place) →
@@ -139,7 +139,7 @@ returns-5 c =
     let s = Size z .before in
     let p = Step s .before in
     let a = A (Frame (Place p)) in
-    ap written (z .row-start .ensures)
+    ap writtenCount (z .row-start .ensures)
     ∙ answer-written (Of a) (numbers a) (room a) (ok (Place p)) (p .first-place .result) (place p) (Step s .if2 .left)
     (s .first-row .result) (s .first-row .ensures) (Size z .if3 .left) (omega (arith, z .row-start .ensures, c .if4 .left))
     ∙ whole a

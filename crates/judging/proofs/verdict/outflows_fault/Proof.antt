@@ -9,7 +9,7 @@ use Rattle.numbers.specs.FirstLaws.{Faultless, faultless-none, faultless-more}
 use Rattle.theory.specs.StepLaws.{lowest-stop}
 use Rattle.model.specs.Judging.{outflowFaultAt}
 use Rattle.outflows.specs.declared.Ledger.{Ledger}
-use Rattle.outflows.specs.Columns.{sending, gated, stateOf}
+use Rattle.outflows.specs.Columns.{withDemands, withGate, stateOf}
 use Rattle.outflows.specs.Rooms.{Rooms}
 use Rattle.outflows.specs.CarriedValues.{CarriedValues, carried-gate, carried-cell}
 use Rattle.judging.specs.ProposedRow.{outflow-found, last-fault, last-end}
@@ -21,8 +21,8 @@ use native.Mathlib.Omega.{arith}
 abbrev Inv-loop : tie.InvT-loop
 Inv-loop n gate-capacity speed share capacity gate-queue gate-cumulative held cumulative room y part₀ before₀ demand₀ i₀ part before demand i =
     (r : Road) (l : Ledger) (queue row : List ℕ) →
-    let q = sending r n gate-capacity speed share capacity in
-    let s = stateOf (gated l gate-queue gate-cumulative) held queue cumulative in
+    let q = withDemands r n gate-capacity speed share capacity in
+    let s = stateOf (withGate l gate-queue gate-cumulative) held queue cumulative in
     Rooms q s row room → CarriedValues q s part before demand i × Faultless (outflowFaultAt q s row y) (n + 1) i
 
 abbrev μ-loop : tie.MeasureT-loop
@@ -49,10 +49,10 @@ Refusal c = Else c .before .before
 abbrev On : tie.Start Inv-loop μ-loop → Road → Road
 On c r =
     let a = c .args in
-    sending r (a .n) (a .gate-capacity) (a .speed .now) (a .share .now) (a .capacity .now)
+    withDemands r (a .n) (a .gate-capacity) (a .speed .now) (a .share .now) (a .capacity .now)
 
 abbrev From : tie.Start Inv-loop μ-loop → Ledger → List ℕ → State
-From c l queue = let a = c .args in stateOf (gated l (a .gate-queue) (a .gate-cumulative)) (a .held .now) queue (a .cumulative .now)
+From c l queue = let a = c .args in stateOf (withGate l (a .gate-queue) (a .gate-cumulative)) (a .held .now) queue (a .cumulative .now)
 
 -- the results of a turn on them, from its rooms
 found : (c : tie.After-outflow-refusal Inv-loop μ-loop) (r : Road) (l : Ledger) (queue row : List ℕ) →

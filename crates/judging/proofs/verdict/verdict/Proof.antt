@@ -3,7 +3,7 @@ use mathlib.Core.Path.{sym, _∙_}
 use Rattle.model.specs.declared.Road.{Road}
 use Rattle.model.specs.declared.State.{State}
 use Rattle.outflows.specs.declared.Ledger.{Ledger}
-use Rattle.outflows.specs.Columns.{roadOf, gated, stateOf}
+use Rattle.outflows.specs.Columns.{roadOf, withGate, stateOf}
 use Rattle.model.specs.Refusals.{faultAnswer}
 use Rattle.judging.specs.ProposedRow.{ReleaseFinding, verdict-fault, verdict-end}
 use Rattle.judging.proofs.verdict.verdict.Statement.{statement}
@@ -21,14 +21,14 @@ On c r =
     roadOf r (a .n) (a .gate-capacity) (a .speed .now) (a .wave .now) (a .share .now) (a .jam .now) (a .capacity .now)
 
 abbrev From : tie.Start → Ledger → State
-From c l = let a = c .args in stateOf (gated l (a .gate-queue) (a .gate-cumulative)) (a .held .now) (a .queue .now) (a .cumulative .now)
+From c l = let a = c .args in stateOf (withGate l (a .gate-queue) (a .gate-cumulative)) (a .held .now) (a .queue .now) (a .cumulative .now)
 
 looked : (c : tie.After-number) (r : Road) (l : Ledger) →
     let s = A c in
     ReleaseFinding (On s r) (From s l) (s .args .row .now) (faultAnswer (c .before .releases .result)) (c .number .result)
 looked c r l =
     let a = A c .args in
-    record { found = c .before .releases .ensures .0 (On (A c) r) (gated l (a .gate-queue) (a .gate-cumulative)) (a .cumulative .now); number = c .number .ensures }
+    record { found = c .before .releases .ensures .0 (On (A c) r) (withGate l (a .gate-queue) (a .gate-cumulative)) (a .cumulative .now); number = c .number .ensures }
 
 returns : tie.Need-returns
 returns c =
@@ -43,7 +43,7 @@ returns-2 c =
     let e = m .before .releases .ensures .1 in (
       λ r l.
           let on = On (A m) r in
-          let gate = gated l (a .gate-queue) (a .gate-cumulative) in
+          let gate = withGate l (a .gate-queue) (a .gate-cumulative) in
           let rooms = e .0 on gate (a .cumulative .now) (sym (m .number .ensures) ∙ p .if1 .left) in
           verdict-end (a .y .now) (looked m r l) (p .if1 .left) (c .outflows-fault .ensures on gate (a .queue .now) (a .row .now) rooms),
       e .1,

@@ -5,7 +5,7 @@ use Prim.Native.Nat.{ℕ, _+_, _-_}
 use lib.ListN.{length, length-set}
 use Rattle.model.specs.declared.Road.{Road}
 use Rattle.outflows.specs.declared.Ledger.{Ledger}
-use Rattle.outflows.specs.Columns.{sending, gated, stateOf}
+use Rattle.outflows.specs.Columns.{withDemands, withGate, stateOf}
 use Rattle.outflows.specs.Outflows.{FilledOutflows, filled-none, filled-more, filled-end}
 use Rattle.outflows.specs.Rooms.{Rooms}
 use Rattle.outflows.proofs.lent.outflows.Statement.{statement}
@@ -15,8 +15,8 @@ use borrow.Author.Needs.{needs}
 abbrev Inv-loop : tie.InvT-loop
 Inv-loop n gate-capacity speed share capacity gate-queue gate-cumulative held cumulative room y₀ part₀ before₀ demand₀ i₀ y part before demand i =
     (length y ≡ n + 1) × ((r : Road) (l : Ledger) (queue row : List ℕ) →
-    let q = sending r n gate-capacity speed share capacity in
-    let s = stateOf (gated l gate-queue gate-cumulative) held queue cumulative in
+    let q = withDemands r n gate-capacity speed share capacity in
+    let s = stateOf (withGate l gate-queue gate-cumulative) held queue cumulative in
     Rooms q s row room → FilledOutflows q s row y₀ y part before demand i)
 
 abbrev μ-loop : tie.MeasureT-loop

@@ -11,7 +11,7 @@ use Rattle.model.specs.Refusals.{refusalNumber}
 use Rattle.model.specs.Stepping.{releaseFaultAt}
 use Rattle.theory.specs.StepLaws.{lowest-stop, lowest-end}
 use Rattle.outflows.specs.declared.Ledger.{Ledger}
-use Rattle.outflows.specs.Columns.{supplying, stateOf}
+use Rattle.outflows.specs.Columns.{withSupplies, stateOf}
 use Rattle.outflows.specs.Rooms.{RoomsSoFar, roomed-none, roomed-more, roomed-end}
 use Rattle.outflows.specs.Faults.{release-found}
 use Rattle.outflows.proofs.lent.releases.Statement.{statement}
@@ -21,7 +21,7 @@ use borrow.Author.Needs.{needs}
 abbrev Inv-loop : tie.InvT-loop
 Inv-loop n wave jam capacity held queue row room₀ i₀ room i =
     (length room ≡ 64) × ((r : Road) (l : Ledger) (cumulative : List ℕ) →
-    let q = supplying r n wave jam capacity in
+    let q = withSupplies r n wave jam capacity in
     let s = stateOf l held queue cumulative in
     Faultless (releaseFaultAt q s row) n i × RoomsSoFar q s row room₀ room i)
 
@@ -43,7 +43,7 @@ Most c = c .before
 
 -- any road and any state with the columns that were lent, and the results of a turn on them
 abbrev On : tie.Start Inv-loop μ-loop → Road → Road
-On c r = let a = c .args in supplying r (a .n) (a .wave .now) (a .jam .now) (a .capacity .now)
+On c r = let a = c .args in withSupplies r (a .n) (a .wave .now) (a .jam .now) (a .capacity .now)
 
 abbrev From : tie.Start Inv-loop μ-loop → Ledger → List ℕ → State
 From c l cumulative = stateOf l (c .args .held .now) (c .args .queue .now) cumulative

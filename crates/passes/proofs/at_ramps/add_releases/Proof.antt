@@ -4,7 +4,7 @@ use Prim.Native.Nat.{ℕ, _-_}
 use native.Mathlib.Omega.{arith}
 use Rattle.model.specs.Numbers.{at}
 use Rattle.passes.specs.Tables.{heldCol, queueCol, SumsKept, store-added}
-use Rattle.passes.specs.AddReleases.{Adds, Adding, AddTurn, adding-none, adding-more, adding-end, add-turn}
+use Rattle.passes.specs.AddReleases.{AddRequires, AddSoFar, AddTurn, add-none, add-more, add-end, add-turn}
 use Rattle.passes.specs.RampList.{Upto, upto-none, upto-more}
 use Rattle.passes.proofs.at_ramps.add_releases.Statement.{statement}
 use Rattle.passes.proofs.at_ramps.add_releases.Tie as tie
@@ -13,8 +13,8 @@ use borrow.Author.Needs.{needs}
 abbrev Inv-loop : tie.InvT-loop
 Inv-loop n ramps cell release waiting sent state₀ on-road₀ at-ramps₀ j₀ state on-road at-ramps j =
     (Upto ramps j × SumsKept state₀ state)
-    × ((give wait : ℕ → ℕ) → Adds give wait n ramps cell release waiting (heldCol state₀) (queueCol state₀)
-    → Adding give wait n cell (heldCol state₀) (queueCol state₀) (heldCol state) (queueCol state) sent on-road at-ramps j)
+    × ((give wait : ℕ → ℕ) → AddRequires give wait n ramps cell release waiting (heldCol state₀) (queueCol state₀)
+    → AddSoFar give wait n cell (heldCol state₀) (queueCol state₀) (heldCol state) (queueCol state) sent on-road at-ramps j)
 
 abbrev μ-loop : tie.MeasureT-loop
 μ-loop n ramps cell release waiting sent state₀ on-road₀ at-ramps₀ j₀ state on-road at-ramps j = ramps - j
@@ -26,20 +26,20 @@ In c = c .before .before .before
 so-far : (c : tie.At-loop Inv-loop μ-loop) →
     let a = c .before .args in
     let l = c .loop in
-    Adding (c .before .pre .0 .give) (c .before .pre .0 .wait) (a .n) (a .cell .now) (heldCol (a .state .now)) (queueCol (a .state .now))
+    AddSoFar (c .before .pre .0 .give) (c .before .pre .0 .wait) (a .n) (a .cell .now) (heldCol (a .state .now)) (queueCol (a .state .now))
     (heldCol (l .state)) (queueCol (l .state)) (a .sent) (l .on-road) (l .at-ramps) (l .j)
-so-far c = let p = c .before .pre .0 in c .loop .inv .1 (p .give) (p .wait) (p .adds)
+so-far c = let p = c .before .pre .0 in c .loop .inv .1 (p .give) (p .wait) (p .ready)
 
 known : (c : tie.In-loop Inv-loop μ-loop) →
     let a = c .before .before .args in
     let l = c .before .loop in
     AddTurn (at (heldCol (l .state)) (at (a .cell .now) (l .j))) (at (a .release .now) (l .j)) (at (a .waiting .now) (l .j)) (at (a .cell .now) (l .j)) (a .n)
-known c = add-turn (c .before .before .pre .0 .adds) (so-far (c .before)) (c .loop-test .taken)
+known c = add-turn (c .before .before .pre .0 .ready) (so-far (c .before)) (c .loop-test .taken)
 
 loop-holds : tie.Need-loop-holds Inv-loop μ-loop
 loop-holds c =
-    let k = c .pre .0 .adds in
-    ((upto-none (k .listed) (k .cells), record { columns = c .pre .1; cumulatives = refl; rests = refl }), λ give wait m. adding-none)
+    let k = c .pre .0 .ready in
+    ((upto-none (k .listed) (k .cells), record { columns = c .pre .1; cumulatives = refl; rests = refl }), λ give wait m. add-none)
 
 cast-i : tie.Need-cast-i Inv-loop μ-loop
 cast-i c = omega (arith, known (c .before))
@@ -88,7 +88,7 @@ loop-again c =
         upto-more (v .0 .0) (t .loop-test .taken),
         record { columns = st .columns; cumulatives = st .cumulatives ∙ v .0 .1 .cumulatives; rests = st .rests ∙ v .0 .1 .rests },
       ),
-      λ give wait m. rw (st .helds, st .queues) (adding-more m (v .1 give wait m) (t .loop-test .taken)),
+      λ give wait m. rw (st .helds, st .queues) (add-more m (v .1 give wait m) (t .loop-test .taken)),
     )
 
 returns : tie.Need-returns Inv-loop μ-loop
@@ -97,8 +97,8 @@ returns c =
     let b = p .loop .inv .0 .0 in
     let h = so-far p in
     let z = p .before .pre .0 in (
-      λ give wait m. adding-end m (p .loop .inv .1 give wait m) (c .loop-test .left) b,
-      (p .loop .inv .0 .1, (omega (arith, h .bound, z .small, z .adds .cells, b), omega (arith, h .small, b))),
+      λ give wait m. add-end m (p .loop .inv .1 give wait m) (c .loop-test .left) b,
+      (p .loop .inv .0 .1, (omega (arith, h .bound, z .small, z .ready .cells, b), omega (arith, h .small, b))),
     )
 
 pub add-releases-spec : {M : Type 1} → statement M

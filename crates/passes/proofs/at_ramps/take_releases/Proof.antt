@@ -5,7 +5,7 @@ use Prim.Native.Nat.{ℕ, _-_}
 use native.Mathlib.Omega.{arith}
 use lib.ListN.{length}
 use Rattle.model.specs.Numbers.{at}
-use Rattle.passes.specs.TakeReleases.{arriveIn, giveIn, Taking, TakeTurn, taking-none, take-turn, room-here, taking-stop, taking-more, taking-end}
+use Rattle.passes.specs.TakeReleases.{arriveIn, giveIn, TakeSoFar, TakeTurn, take-none, take-turn, room-here, take-stop, take-more, take-end}
 use Rattle.passes.specs.RampList.{Upto, upto-none, upto-more}
 use Rattle.passes.proofs.at_ramps.take_releases.Statement.{statement}
 use Rattle.passes.proofs.at_ramps.take_releases.Tie as tie
@@ -13,7 +13,7 @@ use borrow.Author.Needs.{needs}
 
 abbrev Inv-loop : tie.InvT-loop
 Inv-loop bytes start n ramps cell queue work₀ k₀ work k =
-    Upto ramps k × Taking bytes start ramps cell queue work₀ work k
+    Upto ramps k × TakeSoFar bytes start ramps cell queue work₀ work k
 
 abbrev μ-loop : tie.MeasureT-loop
 μ-loop bytes start n ramps cell queue work₀ k₀ work k = ramps - k
@@ -55,11 +55,11 @@ gives : (c : tie.After-number2 Inv-loop μ-loop) →
 unfolding giveIn
 gives c = c .number2 .ensures .0
 
-never : true ≡ false → ⊥
-never e = let z : _≡_ {A = ℕ} 0 1 = cc in omega arith
+true-not-false : true ≡ false → ⊥
+true-not-false e = let z : _≡_ {A = ℕ} 0 1 = cc in omega arith
 
 loop-holds : tie.Need-loop-holds Inv-loop μ-loop
-loop-holds c = (upto-none (c .before .pre .listed) (c .before .pre .cells), taking-none (c .before .pre))
+loop-holds c = (upto-none (c .before .pre .listed) (c .before .pre .cells), take-none (c .before .pre))
 
 cast-i : tie.Need-cast-i Inv-loop μ-loop
 cast-i c = omega (arith, known (c .before))
@@ -102,8 +102,8 @@ returns c =
     let s = c .before in
     let t = In (Cell s) in
     record {
-      yes = λ e. absurd (never (sym e));
-      no = λ _. taking-stop (A (t .before) .pre) (t .before .loop .inv .1) (t .loop-test .taken)
+      yes = λ e. absurd (true-not-false (sym e));
+      no = λ _. take-stop (A (t .before) .pre) (t .before .loop .inv .1) (t .loop-test .taken)
           (λ f. omega (arith, f .ramp, gives (s .before), arrives (Number s), c .if1 .taken));
     }
 
@@ -112,8 +112,8 @@ returns-2 c =
     let s = c .before .before in
     let t = In (Cell s) in
     record {
-      yes = λ e. absurd (never (sym e));
-      no = λ _. taking-stop (A (t .before) .pre) (t .before .loop .inv .1) (t .loop-test .taken)
+      yes = λ e. absurd (true-not-false (sym e));
+      no = λ _. take-stop (A (t .before) .pre) (t .before .loop .inv .1) (t .loop-test .taken)
           (λ f. omega (arith, f .supply, gives (s .before), room-here (A (t .before) .pre) (t .before .loop .inv .1) (t .loop-test .taken), c .if2 .taken));
     }
 
@@ -128,7 +128,7 @@ loop-again c =
     let s = c .before .before in
     let t = In (Cell s) in (
       upto-more (t .before .loop .inv .0) (t .loop-test .taken),
-      taking-more (A (t .before) .pre) (t .before .loop .inv .1) (t .loop-test .taken) (omega (arith, arrives (Number s))) (gives (s .before))
+      take-more (A (t .before) .pre) (t .before .loop .inv .1) (t .loop-test .taken) (omega (arith, arrives (Number s))) (gives (s .before))
           (omega (arith, c .before .if1 .left)) (omega (arith, c .if2 .left)),
     )
 
@@ -136,8 +136,8 @@ returns-3 : tie.Need-returns-3 Inv-loop μ-loop
 returns-3 c =
     let p = c .before in
     record {
-      yes = λ _. taking-end (A p .pre) (p .loop .inv .1) (p .loop .inv .0) (c .loop-test .left);
-      no = λ e. absurd (never e);
+      yes = λ _. take-end (A p .pre) (p .loop .inv .1) (p .loop .inv .0) (c .loop-test .left);
+      no = λ e. absurd (true-not-false e);
     }
 
 pub take-releases-spec : {M : Type 1} → statement M

@@ -2,7 +2,7 @@
 use mathlib.Core.Path.{refl, sym, subst}
 use Prim.Native.Nat.{ℕ, _+_, _-_, _*_, _/_, _≤_, _<_}
 use native.Mathlib.Omega.{arith}
-use Rattle.passes.specs.Rest.{Sent, sent-whole, sent-all, sent-room, product-most, some-share, RoomFilled, filled}
+use Rattle.passes.specs.Rest.{OutflowByRest, sends-whole, sends-all, sends-room, product-most, some-share, RoomFilled, room-filled}
 use Rattle.passes.proofs.sending.outflow_by_rest.Statement.{statement}
 use Rattle.passes.proofs.sending.outflow_by_rest.Tie as tie
 use borrow.Author.Needs.{needs}
@@ -22,12 +22,12 @@ known : (c : tie.Then2) →
     RoomFilled (a .share) (a .rest) (a .room) ((1000 * a .room + 999 - a .rest) / a .share)
 known c =
     let s = c .before .before in
-    filled {demand = s .args .demand} (s .pre .0) (s .pre .1 .0) (s .pre .1 .1) (c .if2 .taken) refl
+    room-filled {demand = s .args .demand} (s .pre .0) (s .pre .1 .0) (s .pre .1 .1) (c .if2 .taken) refl
 
 returns : tie.Need-returns
 returns c F e =
     let a = c .before .before .args in
-    subst (λ (b : ℕ). Sent b F (a .room) (a .demand) (c .least .result) (c .least .result) 0) (sym (c .before .if1 .taken)) (sent-whole (c .least .ensures))
+    subst (λ (b : ℕ). OutflowByRest b F (a .room) (a .demand) (c .least .result) (c .least .result) 0) (sym (c .before .if1 .taken)) (sends-whole (c .least .ensures))
 
 mul-all : tie.Need-mul-all
 mul-all c = omega (arith, product (c .before))
@@ -59,13 +59,13 @@ sub-t15 c = omega (arith, known c)
 returns-2 : tie.Need-returns-2
 returns-2 c F e =
     let s = c .before .before in
-    sent-room e (s .pre .0) (some c) refl refl (c .if2 .taken) refl
+    sends-room e (s .pre .0) (some c) refl refl (c .if2 .taken) refl
 
 mul-t11 : tie.Need-mul-t11
 mul-t11 c = omega (arith, product (c .before .before))
 
 returns-3 : tie.Need-returns-3
-returns-3 c F e = sent-all e refl refl (omega (arith, c .if2 .left))
+returns-3 c F e = sends-all e refl refl (omega (arith, c .if2 .left))
 
 pub outflow-by-rest-spec : {M : Type 1} → statement M
 outflow-by-rest-spec =

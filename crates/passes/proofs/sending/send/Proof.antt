@@ -6,7 +6,7 @@ use native.Mathlib.Omega.{arith}
 use lib.ListN.{length, set, length-set}
 use Rattle.model.specs.Numbers.{at}
 use Rattle.passes.specs.Tables.{heldCol, cumulativeCol, restCol, QueuesKept, store-sent}
-use Rattle.passes.specs.Outflows.{Pass, passOf, Sending, Turn, sending-none, turn-asks, turn, sending-more, sending-end}
+use Rattle.passes.specs.Outflows.{Pass, passOf, SendSoFar, Turn, send-none, turn-ready, turn, send-more, send-end}
 use Rattle.passes.proofs.sending.send.Statement.{statement}
 use Rattle.passes.proofs.sending.send.Tie as tie
 use borrow.Author.Needs.{needs}
@@ -17,7 +17,7 @@ Inv-loop n share demand room first state₀ y₀ entering₀ on-road₀ i₀ sta
     QueuesKept state₀ state
     × ((length y ≡ n + 1)
     × ((l : List ℕ) → y₀ ≡ set l 0 first
-    → Sending n (passOf first share demand room (heldCol state₀) (cumulativeCol state₀)) (restCol state₀) l
+    → SendSoFar n (passOf first share demand room (heldCol state₀) (cumulativeCol state₀)) (restCol state₀) l
     (heldCol state) (restCol state) (cumulativeCol state) y entering on-road i))
 
 abbrev μ-loop : tie.MeasureT-loop
@@ -41,7 +41,7 @@ On c = let a = c .args in passOf (a .first) (a .share .now) (a .demand .now) (a 
 so-far : (c : tie.At-loop Inv-loop μ-loop) →
     let a = A c .args in
     let l = c .loop in
-    Sending (a .n) (On (A c)) (restCol (a .state .now)) (a .y .now) (heldCol (l .state)) (restCol (l .state)) (cumulativeCol (l .state)) (l .y)
+    SendSoFar (a .n) (On (A c)) (restCol (a .state .now)) (a .y .now) (heldCol (l .state)) (restCol (l .state)) (cumulativeCol (l .state)) (l .y)
     (l .entering) (l .on-road) (l .i)
 so-far c = c .loop .inv .1 .1 (A c .args .y .now) refl
 
@@ -60,11 +60,11 @@ loop-holds : tie.Need-loop-holds Inv-loop μ-loop
 loop-holds c =
     let s = c .before in (
       record { columns = s .pre .1 .0; queues = refl },
-      (simp length-set (s .pre .1 .1), λ l e. sending-none (s .pre .0) e),
+      (simp length-set (s .pre .1 .1), λ l e. send-none (s .pre .0) e),
     )
 
 outflow-by-rest-requires : tie.Need-outflow-by-rest-requires Inv-loop μ-loop
-outflow-by-rest-requires c κs = let t = In c in turn-asks (A (t .before) .pre .0) (so-far (t .before)) (t .loop-test .taken)
+outflow-by-rest-requires c κs = let t = In c in turn-ready (A (t .before) .pre .0) (so-far (t .before)) (t .loop-test .taken)
 
 add-left : tie.Need-add-left Inv-loop μ-loop
 add-left c = omega (arith, known (c .before))
@@ -88,7 +88,7 @@ loop-again c =
       record { columns = st .columns; queues = st .queues ∙ v .0 .queues },
       (
         simp length-set (v .1 .0),
-        λ l e. rw (st .helds, st .cumulatives, st .rests) (sending-more (A p .pre .0) (v .1 .1 l e) (t .loop-test .taken) (s .outflow-by-rest .ensures)),
+        λ l e. rw (st .helds, st .cumulatives, st .rests) (send-more (A p .pre .0) (v .1 .1 l e) (t .loop-test .taken) (s .outflow-by-rest .ensures)),
       ),
     )
 
@@ -96,7 +96,7 @@ same-length : tie.Need-same-length Inv-loop μ-loop
 same-length c = omega (arith, c .before .loop .inv .1 .0, A (c .before) .pre .1 .1)
 
 returns : tie.Need-returns Inv-loop μ-loop
-returns c = (sending-end (so-far (c .before)) (c .loop-test .left), c .before .loop .inv .0)
+returns c = (send-end (so-far (c .before)) (c .loop-test .left), c .before .loop .inv .0)
 
 pub send-spec : {M : Type 1} → statement M
 send-spec =

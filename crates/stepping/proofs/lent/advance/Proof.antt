@@ -8,7 +8,7 @@ use Rattle.model.specs.declared.Road.{Road}
 use Rattle.model.specs.Road.{mostCells}
 use Rattle.model.specs.Numbers.{at}
 use Rattle.stepping.specs.StepNeeds.{MovedCells, moved-none, moved-end, Gate, gate, Turn, turn, Countable}
-use Rattle.outflows.specs.Columns.{sharing, gated, stateOf}
+use Rattle.outflows.specs.Columns.{withShareColumn, withGate, stateOf}
 use Rattle.stepping.specs.LentColumns.{held-there, queue-there, cumulative-there, long-there, moved-there, counted-there, countable}
 use Rattle.stepping.proofs.lent.advance.Statement.{statement}
 use Rattle.stepping.proofs.lent.advance.Tie as tie
@@ -17,8 +17,8 @@ use native.Mathlib.Omega.{arith}
 
 abbrev Inv-loop : tie.InvT-loop
 Inv-loop n share l held₀ queue₀ cumulative₀ row y first waiting entering₀ on-road₀ at-ramps₀ i₀ held queue cumulative entering on-road at-ramps i =
-    ((r : Road) → MovedCells (sharing r n share) (stateOf l held₀ queue₀ cumulative₀) row y
-    (stateOf (gated l waiting (l .«gate_cumulative» + first)) held queue cumulative) entering i)
+    ((r : Road) → MovedCells (withShareColumn r n share) (stateOf l held₀ queue₀ cumulative₀) row y
+    (stateOf (withGate l waiting (l .«gate_cumulative» + first)) held queue cumulative) entering i)
     × (SummedRow held on-road i × SummedRow queue at-ramps i)
 
 abbrev μ-loop : tie.MeasureT-loop
@@ -62,7 +62,7 @@ known-gate c = gate (A-gate c .pre .movable)
 known : (c : tie.In-loop Inv-loop μ-loop) →
     let p = c .before in
     let a = A p .args in
-    Turn (sharing (A p .pre .road) (a .n) (a .share .now)) (stateOf (a .l) (a .held .now) (a .queue .now) (a .cumulative .now)) (a .row .now) (a .y .now)
+    Turn (withShareColumn (A p .pre .road) (a .n) (a .share .now)) (stateOf (a .l) (a .held .now) (a .queue .now) (a .cumulative .now)) (a .row .now) (a .y .now)
     (p .loop .i) (p .loop .entering)
 known c = let p = c .before in turn (A p .pre .movable) (p .loop .inv .0 (A p .pre .road)) (c .loop-test .taken)
 
@@ -83,8 +83,8 @@ counts : (c : tie.After-loop Inv-loop μ-loop) →
     let p = c .before in
     let a = A p .args in
     let l = p .loop in
-    Countable (sharing (A p .pre .road) (a .n) (a .share .now))
-    (stateOf (gated (a .l) (a .l .«gate_queue» + at (a .row .now) 0 - at (a .y .now) 0) (a .l .«gate_cumulative» + at (a .y .now) 0)) (l .held) (l .queue) (l .cumulative))
+    Countable (withShareColumn (A p .pre .road) (a .n) (a .share .now))
+    (stateOf (withGate (a .l) (a .l .«gate_queue» + at (a .row .now) 0 - at (a .y .now) 0) (a .l .«gate_cumulative» + at (a .y .now) 0)) (l .held) (l .queue) (l .cumulative))
 counts c =
     let p = c .before in
     let k = A p .pre in

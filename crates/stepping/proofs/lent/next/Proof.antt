@@ -4,7 +4,7 @@ use Rattle.model.specs.declared.Road.{Road}
 use Rattle.model.specs.declared.State.{State}
 use Rattle.model.specs.Move.{nextOf}
 use Rattle.stepping.specs.Findings.{movable}
-use Rattle.outflows.specs.Columns.{sending, stateOf}
+use Rattle.outflows.specs.Columns.{withDemands, stateOf}
 use Rattle.stepping.proofs.lent.next.Statement.{statement}
 use Rattle.stepping.proofs.lent.next.Tie as tie
 use borrow.Author.Needs.{needs}
@@ -20,7 +20,7 @@ A c = c .before .before .before .before .before .before
 abbrev On : tie.Start → Road → Road
 On c r =
     let a = c .args in
-    sending r (a .n) (a .gate-capacity) (a .speed .now) (a .share .now) (a .capacity .now)
+    withDemands r (a .n) (a .gate-capacity) (a .speed .now) (a .share .now) (a .capacity .now)
 
 abbrev From : tie.Start → State
 From c = let a = c .args in stateOf (a .l) (a .held .now) (a .queue .now) (a .cumulative .now)

@@ -59,21 +59,21 @@ module _ (s : List ℕ) (n t : ℕ) where
       go false = length-replicate {A = ℕ} (rowNumbers mostCells) 0
 
 -- the loop over a row's numbers: l holds the first k
-pub record RowTaken (s : List ℕ) (n t : ℕ) (l : List ℕ) (k : ℕ) : Type 0 where
+pub record RowSoFar (s : List ℕ) (n t : ℕ) (l : List ℕ) (k : ℕ) : Type 0 where
   pub within : k ≤ rowNumbers n
   pub numbers : l ≡ fillOf (numberAt s n t) k noNumbers
 
 module _ {s : List ℕ} {n t : ℕ} where
-  pub taken-none : RowTaken s n t noNumbers 0
+  pub row-none : RowSoFar s n t noNumbers 0
   unfolding fillOf
-  taken-none = record { within = omega arith; numbers = refl }
+  row-none = record { within = omega arith; numbers = refl }
 
-  module _ {l : List ℕ} {k : ℕ} (h : RowTaken s n t l k) where
-    pub taken-more : {x : ℕ} → k < rowNumbers n → x ≡ numberAt s n t k → RowTaken s n t (set l k x) (k + 1)
-    taken-more m e = record { within = omega arith; numbers = cc (fill-more (numberAt s n t) k noNumbers, e, h .numbers) }
+  module _ {l : List ℕ} {k : ℕ} (h : RowSoFar s n t l k) where
+    pub row-more : {x : ℕ} → k < rowNumbers n → x ≡ numberAt s n t k → RowSoFar s n t (set l k x) (k + 1)
+    row-more m e = record { within = omega arith; numbers = cc (fill-more (numberAt s n t) k noNumbers, e, h .numbers) }
 
-    pub taken-end : rowNumbers n ≤ k → l ≡ numbersAt s n t
-    taken-end m =
+    pub row-end : rowNumbers n ≤ k → l ≡ numbersAt s n t
+    row-end m =
         let e : k ≡ rowNumbers n = omega (arith, h .within) in
         h .numbers ∙ ap (λ (j : ℕ). fillOf (numberAt s n t) j noNumbers) e
 

@@ -5,13 +5,13 @@ use Prim.Native.Nat.{ℕ, _+_}
 use lib.ListN.{length}
 use Rattle.model.specs.declared.Road.{Road}
 use Rattle.model.specs.declared.State.{State}
-use Rattle.outflows.specs.Columns.{sending}
+use Rattle.outflows.specs.Columns.{withDemands}
 use Rattle.outflows.specs.Rooms.{Rooms}
 use Rattle.stepping.specs.StepNeeds.{Steppable}
 
 -- the step may be made on some road with these columns, and the rooms are given
-pub record Nexts (n gate : ℕ) (speed share capacity : List ℕ) (s : State) (row room y : List ℕ) : Type 0 where
+pub record EngineStepLent (n gate : ℕ) (speed share capacity : List ℕ) (s : State) (row room y : List ℕ) : Type 0 where
   pub road : Road
-  pub steppable : Steppable (sending road n gate speed share capacity) s row
-  pub rooms : Rooms (sending road n gate speed share capacity) s row room
+  pub steppable : Steppable (withDemands road n gate speed share capacity) s row
+  pub rooms : Rooms (withDemands road n gate speed share capacity) s row room
   pub places : length y ≡ n + 1
