@@ -31,7 +31,7 @@ module _ (laws : List Law) (bytes lanes list : List ℕ) where
     pub list-is : filledList laws bytes lanes list ≡ list-left
 
   -- a refusal leaves both unchanged
-  refusal : (number place : ℕ) → (number ≡ 0 → ⊥) → fillingOf laws bytes lanes list ≡ noState number place → Leaves (noState number place) bytes list
+  pub refusal : (number place : ℕ) → (number ≡ 0 → ⊥) → fillingOf laws bytes lanes list ≡ noState number place → Leaves (noState number place) bytes list
   unfolding recordAfter filledList
   refusal number place d e = record { answers = e; bytes-are = rw (e, ne-eqb number 0 d) refl; list-is = rw (e, ne-eqb number 0 d) refl }
 

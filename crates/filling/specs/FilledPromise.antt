@@ -3,18 +3,16 @@ use mathlib.Core.Path.{_≡_, refl, sym, ap, _∙_}
 use mathlib.Core.List.{List}
 use Prim.Native.Nat.{ℕ, _≤_, _<_}
 use lib.ListN.{length}
-use Rattle.model.specs.Refusals.{FaultAnswer}
 use Rattle.model.specs.declared.State.{State}
-use Rattle.model.specs.Schedules.{Study, tableSize}
+use Rattle.model.specs.Schedules.{tableSize}
 use Rattle.model.specs.declared.Law.{Law}
-use Rattle.model.specs.Meter.{lawFaultOf}
-use Rattle.model.specs.Stepping.{tableFault}
-use Rattle.model.specs.Reading.{ReadAnswer, readingOf, studyBy, studyOf}
+use Rattle.model.specs.Reading.{ReadAnswer, studyBy}
 use Rattle.model.specs.Put.{putTable}
-use Rattle.model.specs.Running.{EndAnswer, endWith, noState, lanesFault, tableOf}
+use Rattle.model.specs.Running.{EndAnswer, endWith, noState, tableOf}
 use Rattle.model.specs.Demand.{Openable, DemandAndGrounds}
-use Rattle.model.specs.Filling.{meteredAfter, grantedIn, filledStudy, filledBytes, lawPlace, fillingOf, recordAfter, filledList, OnlyReleases}
-use Rattle.filling.specs.Cases.{Leaves, fills-refused, fills-law, fills-closed, fills-short, fills-all}
+use Rattle.model.specs.Filling.{meteredAfter, grantedIn, filledStudy, filledBytes, fillingOf, recordAfter, filledList, OnlyReleases}
+use Rattle.filling.specs.Cases.{Leaves, refusal, fills-short, fills-all}
+use Rattle.filling.specs.FillReading.{NoRefusal, FillReading}
 use Rattle.model.specs.Longest.{Queues, longestFill}
 use Rattle.counts.specs.Longest.{noQueues}
 use Rattle.filling.specs.LongestFill.{longestFromStart, longest-refused, longest-all}
@@ -51,60 +49,30 @@ promise {laws} {bytes} {lanes} {list} {after = after} h ee ea eo =
     let releases : OnlyReleases bytes after = rw record-left (only-releases laws bytes lanes list) in
     (answer, (record-left, (list-left, (λ openable. rw (answer, record-left, list-left) (filled-promised laws bytes lanes list openable), releases))))
 
-module _ (laws : List Law) (bytes lanes list : List ℕ) {x : ReadAnswer} (ex : x ≡ readingOf bytes) where
-  abbrev a : Study
-  a = studyBy bytes lanes (x .road) (x .state) (x .steps)
-
-  same : a ≡ studyOf bytes lanes
-  same = ap (λ (y : ReadAnswer). studyBy bytes lanes (y .road) (y .state) (y .steps)) ex
-
+module _ (laws : List Law) (bytes lanes list : List ℕ) {x : ReadAnswer} (h : FillReading laws bytes lanes x) where
   pub promise-refused : {e : EndAnswer} → (x .number ≡ 0 → ⊥) → e ≡ noState (x .number) (x .place) → Promise laws bytes lanes list e bytes list
-  promise-refused h ee =
-      let n : readingOf bytes .number ≡ 0 → ⊥ = rw ex at h in
-      promise (fills-refused laws bytes lanes list n) (rw ex at ee) refl refl
+  unfolding fillingOf
+  promise-refused n ee = promise (refusal laws bytes lanes list (x .number) (x .place) n (h .refused n _)) ee refl refl
 
-  module _ (h : x .number ≡ 0) where
-    reads : readingOf bytes .number ≡ 0
-    reads = rw ex at h
+  module _ (z : x .number ≡ 0) where
+    p : NoRefusal laws bytes lanes x
+    p = h .passed z
 
-    pub promise-law : {place : ℕ} {e : EndAnswer} → place ≡ lawFaultOf laws (x .road .ramp) (x .road .n) → (place ≡ 0 → ⊥) → e ≡ noState 16 place
+    pub promise-short : {e : EndAnswer} → length list < tableSize (studyBy bytes lanes (x .road) (x .state) (x .steps)) → e ≡ noState 11 0
         → Promise laws bytes lanes list e bytes list
-    promise-law {place} ep d ee =
-        let q : place ≡ lawPlace laws (studyOf bytes lanes) = ep ∙ ap (lawPlace laws) same in
-        promise (fills-law laws bytes lanes list reads (λ z. d (q ∙ z))) (ee ∙ ap (noState 16) q) refl refl
+    promise-short l ee = promise (fills-short laws bytes lanes list (p .reads) (p .finite) (p .opens) (rw (p .same) at l)) ee refl refl
 
-    -- no law has a fault, and f is the code's fault of the table
-    module _ {place : ℕ} (ep : place ≡ lawFaultOf laws (x .road .ramp) (x .road .n)) (none : place ≡ 0) {f : FaultAnswer}
-        (ef : f ≡ tableFault lanes (x .road .n) (x .steps)) where
-      finite : lawPlace laws (studyOf bytes lanes) ≡ 0
-      finite = ap (lawPlace laws) (sym same) ∙ sym ep ∙ none
+    pub promise-all : {e : EndAnswer} {t : State} {after out : List ℕ} → tableSize (studyBy bytes lanes (x .road) (x .state) (x .steps)) ≤ length list
+        → e ≡ endWith 0 0 0 (x .road) t
+        → after ≡ putTable bytes (x .road .n) (grantedIn laws (studyBy bytes lanes (x .road) (x .state) (x .steps))) (x .steps)
+        → out ≡ tableOf (filledStudy laws (studyBy bytes lanes (x .road) (x .state) (x .steps))) list (x .steps)
+        → t ≡ meteredAfter laws (studyBy bytes lanes (x .road) (x .state) (x .steps)) (x .steps) .state
+        → Promise laws bytes lanes list e after out
+    unfolding filledBytes
+    promise-all l ee ea eo et =
+        promise (fills-all laws bytes lanes list (p .reads) (p .finite) (p .opens) (rw (p .same) at l)) (ee ∙ ap (endWith 0 0 0 (x .road)) et ∙ rw (p .same))
+        (rw (p .same) at ea) (rw (p .same) at eo)
 
-      found : f ≡ lanesFault (studyOf bytes lanes)
-      found = rw ex at ef
-
-      pub promise-closed : {e : EndAnswer} → (f .number ≡ 0 → ⊥) → e ≡ noState (f .number) (f .place) → Promise laws bytes lanes list e bytes list
-      promise-closed n ee =
-          let m : lanesFault (studyOf bytes lanes) .number ≡ 0 → ⊥ = rw found at n in
-          promise (fills-closed laws bytes lanes list reads finite m) (rw found at ee) refl refl
-
-      module _ (z : f .number ≡ 0) where
-        opens : lanesFault (studyOf bytes lanes) .number ≡ 0
-        opens = rw found at z
-
-        pub promise-short : {e : EndAnswer} → length list < tableSize (studyBy bytes lanes (x .road) (x .state) (x .steps)) → e ≡ noState 11 0
-            → Promise laws bytes lanes list e bytes list
-        promise-short l ee = promise (fills-short laws bytes lanes list reads finite opens (rw ex at l)) ee refl refl
-
-        pub promise-all : {e : EndAnswer} {t : State} {after out : List ℕ} → tableSize (studyBy bytes lanes (x .road) (x .state) (x .steps)) ≤ length list
-            → e ≡ endWith 0 0 0 (x .road) t
-            → after ≡ putTable bytes (x .road .n) (grantedIn laws (studyBy bytes lanes (x .road) (x .state) (x .steps))) (x .steps)
-            → out ≡ tableOf (filledStudy laws (studyBy bytes lanes (x .road) (x .state) (x .steps))) list (x .steps)
-            → t ≡ meteredAfter laws (studyBy bytes lanes (x .road) (x .state) (x .steps)) (x .steps) .state
-            → Promise laws bytes lanes list e after out
-        unfolding filledBytes
-        promise-all l ee ea eo et =
-            promise (fills-all laws bytes lanes list reads finite opens (rw ex at l)) (ee ∙ ap (endWith 0 0 0 (x .road)) et ∙ rw ex) (rw ex at ea) (rw ex at eo)
-
-        pub longs-all : {A : Type 0} {q : Queues} → tableSize (studyBy bytes lanes (x .road) (x .state) (x .steps)) ≤ length list
-            → (A → q ≡ longestFromStart laws (studyBy bytes lanes (x .road) (x .state) (x .steps))) → A → q ≡ longestFill laws bytes lanes list
-        longs-all l e wanted = rw ex at (e wanted) ∙ sym (longest-all laws bytes lanes list reads finite opens (rw ex at l))
+    pub longs-all : {A : Type 0} {q : Queues} → tableSize (studyBy bytes lanes (x .road) (x .state) (x .steps)) ≤ length list
+        → (A → q ≡ longestFromStart laws (studyBy bytes lanes (x .road) (x .state) (x .steps))) → A → q ≡ longestFill laws bytes lanes list
+    longs-all l e wanted = rw (p .same) at (e wanted) ∙ sym (longest-all laws bytes lanes list (p .reads) (p .finite) (p .opens) (rw (p .same) at l))

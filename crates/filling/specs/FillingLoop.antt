@@ -5,17 +5,17 @@ use Prim.Native.Nat.{ℕ, _+_, _-_, _*_, _≤_, _<_}
 use native.Mathlib.Numerals.{add-one}
 use native.Mathlib.Omega.{arith}
 use lib.Ieee.{Float}
-use lib.ListN.{length, take, drop, set, replicate, length-replicate}
+use lib.ListN.{length, take, drop, replicate, length-replicate}
 use Rattle.model.specs.Numbers.{at, fillOf}
 use Rattle.numbers.specs.RowsLaws.{fill-at, length-fill}
 use Rattle.numbers.specs.Zeros.{length-zeros}
-use Rattle.model.specs.Road.{mostCells, zeros}
+use Rattle.model.specs.Road.{zeros}
 use Rattle.outflows.specs.declared.Ledger.{Ledger}
-use Rattle.passes.specs.Tables.{Table, stateIn, LongColumns}
+use Rattle.passes.specs.Tables.{Table, stateIn}
 use Rattle.passes.specs.Rest.{restIn}
 use Rattle.passes.specs.Supplies.{NoRamp}
 use Rattle.passes.specs.RampList.{Listed, AtRamps}
-use Rattle.ramps.specs.Grants.{meterIn, Lasts}
+use Rattle.ramps.specs.Grants.{meterIn}
 use Rattle.ramps.specs.LastStep.{cameIn, CameRequires, lasts-known}
 use Rattle.numbers.specs.TablesLaws.{row-ends, mul-more}
 use Rattle.model.specs.declared.Road.{Road}
@@ -70,45 +70,41 @@ came-ready h =
       entered = h .entered;
     }
 
--- what the passes fill, before the first step: the last releases and what had come into each cell, stored in empty columns
+-- what the passes fill, before the first step: the last releases, and what had come into each cell
 abbrev emptyColumn : List ℕ
 emptyColumn = replicate 65 0
 
-pub work-begun : {m : MeterState} {P : ℕ → Type 0} {n ramps : ℕ} {cell release came : List ℕ} → Listed P n ramps cell
-    → CameRequires n (m .state .held) (m .state .cumulative) (m .entries) → release ≡ fillOf (λ j. at (m .releases) (at cell j)) ramps emptyColumn
-    → came ≡ fillOf (cameIn (m .state .held) (m .state .cumulative) (m .entries)) n emptyColumn →
-    let work : Table = set (set (replicate 5 emptyColumn) 1 release) 4 came in
-    Lasts m ramps cell work × LongColumns n work
-work-begun {m} {n = n} {ramps} {cell} listed ready er ec =
-    let long : n ≤ length emptyColumn = omega (arith, length-replicate {A = ℕ} 65 0, ready .cells) in (
-      lasts-known emptyColumn emptyColumn listed ready er long ec long,
-      record {
-        columns = refl;
-        room = long;
-        release = omega (arith, ap length er, length-fill (λ j. at (m .releases) (at cell j)) ramps emptyColumn, long);
-        waiting = long;
-        demand = long;
-        came = omega (arith, ap length ec, length-fill (cameIn (m .state .held) (m .state .cumulative) (m .entries)) n emptyColumn, long);
-      },
-    )
+abbrev pub workFrom : ℕ → ℕ → List ℕ → MeterState → Table
+workFrom n ramps cell m =
+    emptyColumn ∷ fillOf (λ j. at (m .releases) (at cell j)) ramps emptyColumn ∷ emptyColumn ∷ emptyColumn
+    ∷ fillOf (cameIn (m .state .held) (m .state .cumulative) (m .entries)) n emptyColumn ∷ []
 
 -- the tables before the first step
-pub kept-start : (r : Road) {m : MeterState} {ramps : ℕ} {cell : List ℕ} {state work : Table} → r .n ≤ mostCells → r .n ≤ length (m .releases)
-    → r .n ≤ length (m .entries) → Listed (NoRamp (r .ramp)) (r .n) ramps cell → AtRamps (r .ramp) ramps cell
+pub kept-start : (r : Road) {m : MeterState} {ramps : ℕ} {cell : List ℕ} {state work : Table} → CameRequires (r .n) (m .state .held) (m .state .cumulative) (m .entries)
+    → r .n ≤ length (m .releases) → r .n ≤ length (m .entries) → Listed (NoRamp (r .ramp)) (r .n) ramps cell × AtRamps (r .ramp) ramps cell
     → state ≡ m .state .held ∷ m .state .queue ∷ m .state .cumulative ∷ fillOf (restIn (r .share) (m .state .cumulative)) (r .n) zeros ∷ []
-    → Lasts m ramps cell work × LongColumns (r .n) work → ArraysOk (r .n) (r .share) (r .ramp) m ramps cell state work
-kept-start r {m} cells longR longE listed ramped e b =
-    let long : r .n ≤ length zeros = omega (arith, length-zeros) in
+    → work ≡ workFrom (r .n) ramps cell m → ArraysOk (r .n) (r .share) (r .ramp) m ramps cell state work
+kept-start r {m} {ramps} {cell} ready longR longE at-ramps es ew =
+    let short : r .n ≤ length zeros = omega (arith, length-zeros, ready .cells) in
+    let long : r .n ≤ length emptyColumn = omega (arith, length-replicate {A = ℕ} 65 0, ready .cells) in
     let f = restIn (r .share) (m .state .cumulative) in
-    rw e (record {
-      listed = listed;
-      ramped = ramped;
-      lasts = b .0;
+    let came = cameIn (m .state .held) (m .state .cumulative) (m .entries) in
+    rw (es, ew) (record {
+      listed = at-ramps .0;
+      ramped = at-ramps .1;
+      lasts = lasts-known emptyColumn emptyColumn (at-ramps .0) ready refl long refl long;
       columns = refl;
-      rests = record { are = λ i l. fill-at f (r .n) zeros i l long; long = omega (arith, length-fill f (r .n) zeros, long) };
+      rests = record { are = λ i l. fill-at f (r .n) zeros i l short; long = omega (arith, length-fill f (r .n) zeros, short) };
       longReleases = longR;
       longEntries = longE;
-      long = b .1;
+      long = record {
+        columns = refl;
+        room = long;
+        release = omega (arith, length-fill (λ j. at (m .releases) (at cell j)) ramps emptyColumn, long);
+        waiting = long;
+        demand = long;
+        came = omega (arith, length-fill came (r .n) emptyColumn, long);
+      };
     })
 
 module _ {laws : List Law} {bytes : List ℕ} {a : Study} {m₀ : MeterState} {list : List ℕ} where

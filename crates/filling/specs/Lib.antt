@@ -4,6 +4,7 @@ pub mod Turn
 pub mod FillingLoop
 pub mod Rerun
 pub mod Cases
+pub mod FillReading
 pub mod LongestFill
 pub mod ByLaw
 pub mod Theorems

@@ -11,24 +11,22 @@ use Rattle.numbers.specs.Tests.{and-true, unless-elim}
 use Rattle.numbers.specs.FirstLaws.{all-at}
 use Rattle.model.specs.Numbers.{at, unless, allOf}
 use Rattle.model.specs.Road.{mostSteps, zeros, emptyState}
-use Rattle.model.specs.Refusals.{FaultAnswer}
 use Rattle.model.specs.declared.State.{State}
 use Rattle.model.specs.declared.Law.{Law}
 use Rattle.model.specs.Limits.{stateOk}
 use Rattle.limits.specs.LimitsLaws.{state-facts}
-use Rattle.model.specs.Meter.{lawFaultOf}
-use Rattle.model.specs.Stepping.{tableFault}
 use Rattle.model.specs.Schedules.{Study, tableSize}
 use Rattle.model.specs.Reading.{ReadAnswer, readingOf, studyBy}
-use Rattle.model.specs.Running.{EndAnswer, endWith, noState, lanesFault, stepsMade, tableOf}
+use Rattle.model.specs.Running.{EndAnswer, endWith, noState, stepsMade, tableOf}
 use Rattle.model.specs.Filling.{MeterState, meterState, meterStart}
 use Rattle.model.specs.Put.{putTable}
-use Rattle.model.specs.Filling.{lawPlace, meteredFrom, grantedFrom, filledFrom}
+use Rattle.model.specs.Filling.{meteredFrom, grantedFrom, filledFrom}
 use Rattle.model.specs.Longest.{Queues, longestOf}
 use Rattle.model.specs.GoingOn.{studyAfter, entriesOk, progressFault, fillingOn, progressOn, recordOn, filledListOn, longestFillOn}
 use Rattle.theory.specs.StartingState.{StartOk}
 use Rattle.counts.specs.Longest.{noQueues}
 use Rattle.counts.specs.LongestLaws.{longest-none}
+use Rattle.filling.specs.FillReading.{NoRefusal, FillReading}
 use Rattle.filling.specs.LongestFill.{longestFrom}
 
 -- after a refusal the progress is all zero
@@ -69,127 +67,87 @@ module _ (laws : List Law) (bytes lanes : List ℕ) (m : MeterState) (list : Lis
         ),
       )
 
-  -- x is reading's answer
-  module _ {x : ReadAnswer} (ex : x ≡ readingOf bytes) where
+  module _ {x : ReadAnswer} (h : FillReading laws bytes lanes x) where
     pub on-refused : {e : EndAnswer} {q : Queues} {p : MeterState} → (x .number ≡ 0 → ⊥) → e ≡ noState (x .number) (x .place) → q ≡ noQueues
         → p ≡ meterStart emptyState → PromiseOn e bytes list q p
     unfolding fillingOn
-    on-refused h ee eq ep =
-        let n : readingOf bytes .number ≡ 0 → ⊥ = rw ex at h in
-        refusal (readingOf bytes .number) (readingOf bytes .place) n (rw (ne-eqb (readingOf bytes .number) 0 n) refl) (rw ex at ee) eq ep
+    on-refused n ee eq ep = refusal (x .number) (x .place) n (h .refused n _) ee eq ep
 
-    module _ (h : x .number ≡ 0) {place : ℕ} (el : place ≡ lawFaultOf laws (x .road .ramp) (x .road .n)) where
-      reads : readingOf bytes .number ≡ 0
-      reads = rw ex at h
+    -- nothing is refused so far, and g is the code's refusal of the start
+    module _ (well : x .number ≡ 0) {t u : Bool} {g : ℕ} (et : t ≡ stateOk (x .road) (m .state))
+        (eu : u ≡ allOf (λ i. leb (at (m .entries) i) (at (m .state .held) i)) (x .road .n))
+        (eg : g ≡ unless (t && u) 7 (unless (leb (m .state .done + x .steps) mostSteps) 8 0)) where
+      w : NoRefusal laws bytes lanes x
+      w = h .passed well
 
-      law-is : place ≡ lawPlace laws (studyAfter bytes lanes m)
-      law-is = rw ex at el
+      start-is : g ≡ progressFault (studyAfter bytes lanes m) m
+      unfolding progressFault entriesOk
+      start-is =
+          eg ∙ ap (λ (b : Bool). unless (b && u) 7 (unless (leb (m .state .done + x .steps) mostSteps) 8 0)) et
+          ∙ ap (λ (b : Bool). unless (stateOk (x .road) (m .state) && b) 7 (unless (leb (m .state .done + x .steps) mostSteps) 8 0)) eu
+          ∙ ap (λ (y : ReadAnswer). unless (stateOk (y .road) (m .state) && allOf (λ i. leb (at (m .entries) i) (at (m .state .held) i)) (y .road .n)) 7
+          (unless (leb (m .state .done + y .steps) mostSteps) 8 0)) (w .same)
 
-      pub on-law : {e : EndAnswer} {q : Queues} {p : MeterState} → (place ≡ 0 → ⊥) → e ≡ noState 16 place → q ≡ noQueues
+      pub on-start : {e : EndAnswer} {q : Queues} {p : MeterState} → (g ≡ 0 → ⊥) → e ≡ noState g 0 → q ≡ noQueues
           → p ≡ meterStart emptyState → PromiseOn e bytes list q p
       unfolding fillingOn
-      on-law d ee eq ep =
-          let n : lawPlace laws a ≡ 0 → ⊥ = λ z. d (law-is ∙ z) in
-          refusal 16 (lawPlace laws a) (λ z. omega arith) (rw (eq-eqb (readingOf bytes .number) 0 reads, ne-eqb (lawPlace laws a) 0 n) refl)
-          (ee ∙ ap (noState 16) law-is) eq ep
+      on-start d ee eq ep =
+          let n : progressFault a m ≡ 0 → ⊥ = λ z. d (start-is ∙ z) in
+          refusal (progressFault a m) 0 n
+          (w .none _ ∙ rw (ne-eqb (progressFault a m) 0 n) refl)
+          (ee ∙ ap (λ (k : ℕ). noState k 0) start-is) eq ep
 
-      -- no law has a fault, and f is the code's fault of the table
-      module _ (none : place ≡ 0) {f : FaultAnswer} (ef : f ≡ tableFault lanes (x .road .n) (x .steps)) where
-        finite : lawPlace laws (studyAfter bytes lanes m) ≡ 0
-        finite = sym law-is ∙ none
+      module _ (z : g ≡ 0) where
+        starts : progressFault (studyAfter bytes lanes m) m ≡ 0
+        starts = sym start-is ∙ z
 
-        found : f ≡ lanesFault (studyAfter bytes lanes m)
-        found = rw ex at ef
+        -- the start is within its limits, and so are the last entries
+        begins-on : StartOk (studyAfter bytes lanes m) × ((i : ℕ) → i < readingOf bytes .road .n → at (m .entries) i ≤ at (m .state .held) i)
+        unfolding progressFault entriesOk
+        begins-on =
+            let P = StartOk a × ((i : ℕ) → i < readingOf bytes .road .n → at (m .entries) i ≤ at (m .state .held) i) in
+            let test = stateOk (a .road) (m .state) && allOf (λ i. leb (at (m .entries) i) (at (m .state .held) i)) (a .road .n) in
+            unless-elim (λ (k : ℕ). k ≡ 0 → P) test (λ _ e. absurd (omega arith)) (λ y.
+            unless-elim (λ (k : ℕ). k ≡ 0 → P) (leb (a .start .done + a .steps) mostSteps) (λ _ e. absurd (omega arith)) (λ l e.
+            let b = and-true _ _ y in (
+              record { state = state-facts (a .road) (m .state) (b .0); steps = leb-true _ _ l },
+              λ i less. leb-true _ _ (all-at (λ j. leb (at (m .entries) j) (at (m .state .held) j)) (a .road .n) (b .1) i less),
+            ))) starts
 
-        pub on-closed : {e : EndAnswer} {q : Queues} {p : MeterState} → (f .number ≡ 0 → ⊥) → e ≡ noState (f .number) (f .place) → q ≡ noQueues
-            → p ≡ meterStart emptyState → PromiseOn e bytes list q p
+        pub starts-found : StartOk (studyBy bytes lanes (x .road) (m .state) (x .steps))
+            × ((i : ℕ) → i < x .road .n → at (m .entries) i ≤ at (m .state .held) i)
+        starts-found = rw (w .same) begins-on
+
+        pub on-short : {e : EndAnswer} {q : Queues} {p : MeterState} → length list < tableSize (studyBy bytes lanes (x .road) (m .state) (x .steps))
+            → e ≡ noState 11 0 → q ≡ noQueues → p ≡ meterStart emptyState → PromiseOn e bytes list q p
         unfolding fillingOn
-        on-closed d ee eq ep =
-            let n : lanesFault a .number ≡ 0 → ⊥ = rw found at d in
-            refusal (lanesFault a .number) (lanesFault a .place) n
-            (rw (eq-eqb (readingOf bytes .number) 0 reads, eq-eqb (lawPlace laws a) 0 finite, ne-eqb (lanesFault a .number) 0 n) refl) (rw found at ee) eq ep
+        on-short l ee eq ep =
+            let n : length list < tableSize a = rw (w .same) at l in
+            refusal 11 0 (λ z. omega arith)
+            (w .none _ ∙ rw (eq-eqb (progressFault a m) 0 starts)
+            (ap (λ (b : Bool). unless b (noState 11 0) finished) (lt-leb (tableSize a) (length list) n)))
+            ee eq ep
 
-        -- the table has no fault, and g is the code's refusal of the start
-        module _ (unclosed : f .number ≡ 0) {t u : Bool} {g : ℕ} (et : t ≡ stateOk (x .road) (m .state))
-            (eu : u ≡ allOf (λ i. leb (at (m .entries) i) (at (m .state .held) i)) (x .road .n))
-            (eg : g ≡ unless (t && u) 7 (unless (leb (m .state .done + x .steps) mostSteps) 8 0)) where
-          opens : lanesFault (studyAfter bytes lanes m) .number ≡ 0
-          opens = rw found at unclosed
-
-          start-is : g ≡ progressFault (studyAfter bytes lanes m) m
-          unfolding progressFault entriesOk
-          start-is =
-              eg ∙ ap (λ (b : Bool). unless (b && u) 7 (unless (leb (m .state .done + x .steps) mostSteps) 8 0)) et
-              ∙ ap (λ (b : Bool). unless (stateOk (x .road) (m .state) && b) 7 (unless (leb (m .state .done + x .steps) mostSteps) 8 0)) eu
-              ∙ ap (λ (y : ReadAnswer). unless (stateOk (y .road) (m .state) && allOf (λ i. leb (at (m .entries) i) (at (m .state .held) i)) (y .road .n)) 7
-              (unless (leb (m .state .done + y .steps) mostSteps) 8 0)) ex
-
-          pub on-start : {e : EndAnswer} {q : Queues} {p : MeterState} → (g ≡ 0 → ⊥) → e ≡ noState g 0 → q ≡ noQueues
-              → p ≡ meterStart emptyState → PromiseOn e bytes list q p
-          unfolding fillingOn
-          on-start d ee eq ep =
-              let n : progressFault a m ≡ 0 → ⊥ = λ z. d (start-is ∙ z) in
-              refusal (progressFault a m) 0 n
-              (rw (eq-eqb (readingOf bytes .number) 0 reads, eq-eqb (lawPlace laws a) 0 finite, eq-eqb (lanesFault a .number) 0 opens, ne-eqb (progressFault a m) 0 n) refl)
-              (ee ∙ ap (λ (k : ℕ). noState k 0) start-is) eq ep
-
-          module _ (z : g ≡ 0) where
-            starts : progressFault (studyAfter bytes lanes m) m ≡ 0
-            starts = sym start-is ∙ z
-
-            -- the start is within its limits, and so are the last entries
-            begins-on : StartOk (studyAfter bytes lanes m) × ((i : ℕ) → i < readingOf bytes .road .n → at (m .entries) i ≤ at (m .state .held) i)
-            unfolding progressFault entriesOk
-            begins-on =
-                let P = StartOk a × ((i : ℕ) → i < readingOf bytes .road .n → at (m .entries) i ≤ at (m .state .held) i) in
-                let test = stateOk (a .road) (m .state) && allOf (λ i. leb (at (m .entries) i) (at (m .state .held) i)) (a .road .n) in
-                unless-elim (λ (k : ℕ). k ≡ 0 → P) test (λ _ e. absurd (omega arith)) (λ y.
-                unless-elim (λ (k : ℕ). k ≡ 0 → P) (leb (a .start .done + a .steps) mostSteps) (λ _ e. absurd (omega arith)) (λ l e.
-                let b = and-true _ _ y in (
-                  record { state = state-facts (a .road) (m .state) (b .0); steps = leb-true _ _ l },
-                  λ i less. leb-true _ _ (all-at (λ j. leb (at (m .entries) j) (at (m .state .held) j)) (a .road .n) (b .1) i less),
-                ))) starts
-
-            pub starts-found : StartOk (studyBy bytes lanes (x .road) (m .state) (x .steps))
-                × ((i : ℕ) → i < x .road .n → at (m .entries) i ≤ at (m .state .held) i)
-            starts-found = rw ex begins-on
-
-            pub on-short : {e : EndAnswer} {q : Queues} {p : MeterState} → length list < tableSize (studyBy bytes lanes (x .road) (m .state) (x .steps))
-                → e ≡ noState 11 0 → q ≡ noQueues → p ≡ meterStart emptyState → PromiseOn e bytes list q p
-            unfolding fillingOn
-            on-short l ee eq ep =
-                let n : length list < tableSize a = rw ex at l in
-                refusal 11 0 (λ z. omega arith)
-                (rw (eq-eqb (readingOf bytes .number) 0 reads, eq-eqb (lawPlace laws a) 0 finite, eq-eqb (lanesFault a .number) 0 opens, eq-eqb (progressFault a m) 0 starts)
-                (ap (λ (b : Bool). unless b (noState 11 0) finished) (lt-leb (tableSize a) (length list) n)))
-                ee eq ep
-
-            pub on-all : {e : EndAnswer} {after out : List ℕ} {q : Queues} {p : MeterState} → tableSize (studyBy bytes lanes (x .road) (m .state) (x .steps)) ≤ length list
-                → e ≡ endWith 0 0 0 (x .road) (meteredFrom laws (studyBy bytes lanes (x .road) (m .state) (x .steps)) m (x .steps) .state)
-                → after ≡ putTable bytes (x .road .n) (grantedFrom laws (studyBy bytes lanes (x .road) (m .state) (x .steps)) m) (x .steps)
-                → out ≡ tableOf (filledFrom laws (studyBy bytes lanes (x .road) (m .state) (x .steps)) m) list (x .steps)
-                → q ≡ longestFrom laws (studyBy bytes lanes (x .road) (m .state) (x .steps)) m
-                → p ≡ meteredFrom laws (studyBy bytes lanes (x .road) (m .state) (x .steps)) m (x .steps) → PromiseOn e after out q p
-            unfolding fillingOn recordOn filledListOn longestFillOn progressOn
-            on-all l ee ea eo eq ep =
-                let n : tableSize a ≤ length list = rw ex at l in
-                let all : fillingOn laws bytes lanes m list ≡ finished =
-                rw (
-                  eq-eqb (readingOf bytes .number) 0 reads,
-                  eq-eqb (lawPlace laws a) 0 finite,
-                  eq-eqb (lanesFault a .number) 0 opens,
-                  eq-eqb (progressFault a m) 0 starts,
-                  le-leb (tableSize a) (length list) n,
-                ) in (
-                  rw ex at ee ∙ sym all,
+        pub on-all : {e : EndAnswer} {after out : List ℕ} {q : Queues} {p : MeterState} → tableSize (studyBy bytes lanes (x .road) (m .state) (x .steps)) ≤ length list
+            → e ≡ endWith 0 0 0 (x .road) (meteredFrom laws (studyBy bytes lanes (x .road) (m .state) (x .steps)) m (x .steps) .state)
+            → after ≡ putTable bytes (x .road .n) (grantedFrom laws (studyBy bytes lanes (x .road) (m .state) (x .steps)) m) (x .steps)
+            → out ≡ tableOf (filledFrom laws (studyBy bytes lanes (x .road) (m .state) (x .steps)) m) list (x .steps)
+            → q ≡ longestFrom laws (studyBy bytes lanes (x .road) (m .state) (x .steps)) m
+            → p ≡ meteredFrom laws (studyBy bytes lanes (x .road) (m .state) (x .steps)) m (x .steps) → PromiseOn e after out q p
+        unfolding fillingOn recordOn filledListOn longestFillOn progressOn
+        on-all l ee ea eo eq ep =
+            let n : tableSize a ≤ length list = rw (w .same) at l in
+            let all : fillingOn laws bytes lanes m list ≡ finished =
+            w .none _ ∙ rw (eq-eqb (progressFault a m) 0 starts, le-leb (tableSize a) (length list) n) in (
+              rw (w .same) at ee ∙ sym all,
+              (
+                rw (w .same) at ea ∙ rw all,
+                (
+                  rw (w .same) at eo ∙ rw all,
                   (
-                    rw ex at ea ∙ rw all,
-                    (
-                      rw ex at eo ∙ rw all,
-                      (
-                        rw ex at eq ∙ sym (ap (λ (y : EndAnswer). longestOf (a .road .n) (λ k. meteredFrom laws a m k .state) (stepsMade a y)) all),
-                        rw ex at ep ∙ rw all,
-                      ),
-                    ),
+                    rw (w .same) at eq ∙ sym (ap (λ (y : EndAnswer). longestOf (a .road .n) (λ k. meteredFrom laws a m k .state) (stepsMade a y)) all),
+                    rw (w .same) at ep ∙ rw all,
                   ),
-                )
+                ),
+              ),
+            )

@@ -79,8 +79,8 @@ pub record FillGives (laws : List Law) (bytes : List ℕ) (q : Road) (l₀ : Led
   pub row : y ≡ outflowsOf q (stateIn l₀ state₀) (filledRow laws q (meterIn l₀ state₀ releases₀ entries₀) (recordRow bytes (q .n) k))
   pub kept : ArraysOk (q .n) (q .share) (q .ramp) (meteredOf laws q (meterIn l₀ state₀ releases₀ entries₀) (recordRow bytes (q .n) k)) ramps cell table work
 
-module _ {laws : List Law} {bytes : List ℕ} {q : Road} {l₀ : Ledger} {state₀ : Table} {releases₀ entries₀ : List ℕ} {k : ℕ} {kinds : List ℕ} {numbers : List Float}
-    {ramps : ℕ} {cell : List ℕ} {work₀ : Table} {y₀ : List ℕ}
+module _ {laws : List Law} {bytes : List ℕ} {q : Road} {l₀ : Ledger} {state₀ : Table} {releases₀ entries₀ : List ℕ} {k : ℕ} {kinds : List ℕ}
+    {numbers : List Float} {ramps : ℕ} {cell : List ℕ} {work₀ : Table} {y₀ : List ℕ}
     (f : FillRequires laws bytes q l₀ state₀ releases₀ entries₀ k kinds numbers ramps cell work₀ y₀) where
   abbrev m : MeterState
   m = meterIn l₀ state₀ releases₀ entries₀

@@ -6,6 +6,7 @@ use model::FilledOn;
 use model::Law;
 use model::Longest;
 use model::Progress;
+use model::Reading;
 use model::Refusal;
 use model::Road;
 use outflows::Ledger;
@@ -28,12 +29,9 @@ ghost use mathlib.Core.List.{List};
 ghost use Prim.Native.Nat.{ℕ};
 ghost use Rattle.model.specs.declared.Road.{Road};
 ghost use Rattle.model.specs.declared.Law.{Law};
-ghost use Rattle.passes.specs.Tables.{roadIn, cellCol, LongColumns};
-ghost use Rattle.passes.specs.Supplies.{NoRamp};
-ghost use Rattle.passes.specs.RampList.{Listed};
-ghost use Rattle.ramps.specs.Grants.{Lasts};
+ghost use Rattle.passes.specs.Tables.{roadIn, cellCol};
 ghost use Rattle.ramps.specs.LastStep.{CameRequires};
-ghost use Rattle.model.specs.Reading.{studyBy};
+ghost use Rattle.model.specs.Reading.{studyBy, readAnswer};
 ghost use Rattle.model.specs.Filling.{meterState};
 ghost use Rattle.model.specs.Put.{putTable};
 ghost use Rattle.model.specs.Running.{endWith, endAnswer, tableOf};
@@ -41,16 +39,17 @@ ghost use Rattle.model.specs.Demand.{Openable, DemandAndGrounds};
 ghost use Rattle.model.specs.Longest.{longestQueues, longestFill};
 ghost use Rattle.model.specs.Filling.{meteredFrom, grantedFrom, filledFrom, fillingOf, recordAfter, filledList, OnlyReleases};
 ghost use Rattle.model.specs.GoingOn.{progressed, fillingOn, recordOn, filledListOn, longestFillOn, progressOn};
-ghost use Prim.Native.Nat.{_+_, _-_, _≤_};
+ghost use Prim.Native.Nat.{_+_, _-_, _≤_, _<_};
 ghost use lib.Dec.{leb};
 ghost use Rattle.model.specs.Numbers.{at, allOf, fillOf, rowAt};
 ghost use Rattle.model.specs.Road.{mostCells, zeros, withoutState};
 ghost use Rattle.model.specs.Flow.{releaseAt};
 ghost use Rattle.model.specs.Record.{recordRow};
 ghost use Rattle.counts.specs.Longest.{noQueues};
+ghost use Rattle.filling.specs.FillReading.{FillReading};
 ghost use Rattle.filling.specs.LastStep.{enteredIn, LastStepRequires};
 ghost use Rattle.filling.specs.Turn.{FillRequires, FillLent, FillGives};
-ghost use Rattle.filling.specs.FillingLoop.{FillableFrom};
+ghost use Rattle.filling.specs.FillingLoop.{FillableFrom, workFrom};
 ghost use Rattle.filling.specs.LongestFill.{longestFrom};
 
 // One step on lent tables of columns: its releases are granted and put into the bytes, then the step is made with them.
@@ -114,15 +113,16 @@ fn fill_row<'a, 'b>(
     )
 }
 
-// What the passes fill, before the first step: with the last release at each listed ramp, and what had come into each cell.
-fn begun(r: Road, ramps: usize, cell: &[u32; 64], from: Progress) -> [[u32; 65]; 5]
-    requires { ⌜ Listed (NoRamp (r .ramp)) (r .n) ramps (now cell) × CameRequires (r .n) (from .state .held) (from .state .cumulative) (from .entries) ⌝ }
-    ensures { λ w. ⌜ Lasts (progressed from) ramps (now (cell .entry)) w × LongColumns (r .n) w ⌝ }
+// What the passes fill, before the first step: empty columns, with the last release at each listed ramp and what had come into each cell.
+fn begun(n: usize, ramps: usize, cell: &[u32; 64], from: Progress) -> [[u32; 65]; 5]
+    requires { ⌜ ((ramps ≤ mostCells) × ((j : ℕ) → j < ramps → at (now cell) j < mostCells))
+        × CameRequires n (from .state .held) (from .state .cumulative) (from .entries) ⌝ }
+    ensures { λ w. ⌜ w ≡ workFrom n ramps (now (cell .entry)) (progressed from) ⌝ }
 {
     let s = from.state;
     let mut work = [[0u32; 65]; 5];
     ramps::last_releases(ramps, cell, &from.releases, &mut work[RELEASE]);
-    ramps::came_before(r.n, &s.held, &s.cumulative, &from.entries, &mut work[CAME]);
+    ramps::came_before(n, &s.held, &s.cumulative, &from.entries, &mut work[CAME]);
     work
 }
 
@@ -153,7 +153,7 @@ fn fill_rows(
     let rates = passes::rates(r);
     let mut sizes = passes::sizes(r);
     let size = passes::list_ramps(r, &mut sizes[CELL]);
-    let mut work = begun(r, size.ramps, &sizes[CELL], from);
+    let mut work = begun(r.n, size.ramps, &sizes[CELL], from);
     let mut state = passes::of_state(r, from.state);
     let mut l = Ledger::of(from.state);
     let mut gate = counts::no_queue();
@@ -162,7 +162,8 @@ fn fill_rows(
     let mut to = 0;
     while k < steps {
         if table.len() != 0 {
-            sizes[CAPACITY] = lanes::step_capacities(capacity, table, r.n, k);
+            let open_now = lanes::step_capacities(capacity, table, r.n, k);
+            sizes[CAPACITY] = open_now;
         }
         let end = to + (r.n + 1);
         let next = fill_row(
@@ -185,8 +186,30 @@ fn fill_rows(
         to = end;
         k += 1;
     }
-    let ended = Ended::complete(r, passes::to_state(l, state));
-    counts::longest(ended, gate, most)
+    counts::longest(Ended::complete(r, passes::to_state(l, state)), gate, most)
+}
+
+// Reading's answer, or a refusal: those of reading, 16, 17, 18.
+fn fill_reading(bytes: &[u8], laws: [Law; 64], table: &[u8]) -> Reading
+    ensures { λ a. ⌜ FillReading laws (now (bytes .entry)) (now (table .entry)) (readAnswer a) ⌝ }
+{
+    let a = reading::read(bytes);
+    let refusal = a.refusal;
+    if refusal.number() != 0 {
+        return a;
+    }
+    let road = a.road;
+    let ramp = road.ramp;
+    let place = meter::law_fault(laws, ramp, road.n);
+    if place != 0 {
+        return reading::refused(Refusal::LawNumbers, place);
+    }
+    let q = opening::refused(table, road.n, a.steps);
+    let closed = q.refusal;
+    if closed.number() != 0 {
+        return reading::refused(closed, q.place);
+    }
+    a
 }
 
 // Fills a record's releases by its ramps' laws under a table of lanes and runs it in one pass; with its longest queues if they are wanted.
@@ -205,26 +228,15 @@ fn fill_opened(
     ensures releases { λ e. ⌜ OnlyReleases (now (bytes .entry)) (now (bytes .exit)) ⌝ }
     ensures longest { λ e. ⌜ (longs ≡ true → longestQueues e ≡ longestFill laws (now (bytes .entry)) (now (table .entry)) (now (out .entry))) ⌝ }
 {
-    let a = reading::read(bytes);
+    let a = fill_reading(bytes, laws, table);
     let refusal = a.refusal;
     if refusal.number() != 0 {
         return counts::unbegun(refusal, a.place);
     }
     let road = a.road;
-    let ramp = road.ramp;
-    let n = road.n;
-    let place = meter::law_fault(laws, ramp, n);
-    if place != 0 {
-        return counts::unbegun(Refusal::LawNumbers, place);
-    }
     let state = a.state;
     let steps = a.steps;
-    let q = opening::refused(table, n, steps);
-    let closed = q.refusal;
-    if closed.number() != 0 {
-        return counts::unbegun(closed, q.place);
-    }
-    if out.len() < steps * (n + 1) {
+    if out.len() < steps * (road.n + 1) {
         return counts::unbegun(Refusal::ListLength, 0);
     }
     let start = Progress {
@@ -334,24 +346,14 @@ pub fn fill_on(
     ensures progress { λ e. ⌜ meterState (e .longest .ended .state) (e .releases) (e .entries)
         ≡ progressOn laws (now (bytes .entry)) (now (table .entry)) (progressed from) (now (out .entry)) ⌝ }
 {
-    let a = reading::read(bytes);
+    let a = fill_reading(bytes, laws, table);
     let refusal = a.refusal;
     if refusal.number() != 0 {
         return unbegun(refusal, a.place);
     }
     let road = a.road;
-    let ramp = road.ramp;
     let n = road.n;
-    let place = meter::law_fault(laws, ramp, n);
-    if place != 0 {
-        return unbegun(Refusal::LawNumbers, place);
-    }
     let steps = a.steps;
-    let q = opening::refused(table, n, steps);
-    let closed = q.refusal;
-    if closed.number() != 0 {
-        return unbegun(closed, q.place);
-    }
     let state = from.state;
     let held = state.held;
     let entries = from.entries;

@@ -31,7 +31,7 @@ use Rattle.counts.specs.LongestSoFar.{LongestSoFar, queues-none, queues-more, q
 use Rattle.model.specs.Filling.{meteredFrom, grantedFrom, filledFrom}
 use Rattle.ramps.specs.Grants.{meterIn}
 use Rattle.filling.specs.Turn.{ArraysOk}
-use Rattle.filling.specs.FillingLoop.{Fillable, FillableFrom, came-ready, kept-start, FilledSteps, filled-none, goes-by}
+use Rattle.filling.specs.FillingLoop.{Fillable, came-ready, kept-start, FilledSteps, filled-none, goes-by}
 use Rattle.filling.specs.FillingLoop.{same-bytes, same-list, row-ends-by, row-fits, fills, filled-more, filled-bytes, all-filled}
 use Rattle.filling.specs.FillingLoop.{filled-list, filled-state}
 use Rattle.filling.specs.LongestFill.{longestFrom}
@@ -135,8 +135,7 @@ kept c =
     ArraysOk (r .n) (r .share) (r .ramp) (From s u) (z .list-ramps .result .ramps) (cellCol (Sizes z)) (c .before .of-state .result)
     (c .before .before .begun .result))
     (sym (begins c))
-    (kept-start r (k .fillable .readable .ok .road .cells) (k .longReleases) (k .longEntries) (listed z .0) (listed z .1) (c .before .of-state .ensures)
-    (c .before .before .begun .ensures))
+    (kept-start r (came-ready k) (k .longReleases) (k .longEntries) (listed z) (c .before .of-state .ensures) (c .before .before .begun .ensures))
 
 -- the steps filled so far, by the laws of the arguments
 so-far : (c : tie.At-loop Inv-loop μ-loop) →
@@ -188,7 +187,11 @@ list-ramps-requires c κs =
     (b .before .before .before .pre .fillable .readable .ok .road .cells, ap (λ (t : Table). length (cellCol t)) (s .sizes .ensures))
 
 begun-requires : tie.Need-begun-requires Inv-loop μ-loop
-begun-requires c κs = let z = c .before in (listed z .0, came-ready (A z .pre))
+begun-requires c κs =
+    let z = c .before in
+    let k = came-ready (A z .pre) in
+    let at-ramps = listed z .0 in
+    ((omega (arith, at-ramps .most, k .cells), λ j l. omega (arith, at-ramps .within j l, k .cells)), k)
 
 of-state-requires : tie.Need-of-state-requires Inv-loop μ-loop
 of-state-requires c κs = A (c .before .before) .pre .fillable .readable .ok .road .cells
