@@ -134,7 +134,7 @@ class Page:
         return self["linked"].find_element(By.TAG_NAME, "a").get_attribute("href")
 
     def until(self, true, what="something"):
-        end = time.time() + 10
+        end = time.time() + 60
         while not true():
             assert time.time() < end, f"waited too long for {what}, at {self.driver.current_url}"
             time.sleep(0.02)

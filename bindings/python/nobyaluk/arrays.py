@@ -66,14 +66,16 @@ def freeze(a: np.ndarray) -> np.ndarray:
     return np.ndarray(a.shape, a.dtype, a.tobytes())
 
 
-_new_bytes = ctypes.pythonapi.PyBytes_FromStringAndSize  # given None, it leaves them unset
+# By [] we get a function of our own, whose types no other package sets; given None, it leaves
+# the bytes unset.
+_new_bytes = ctypes.pythonapi["PyBytes_FromStringAndSize"]
 _new_bytes.restype, _new_bytes.argtypes = ctypes.py_object, (ctypes.c_char_p, ctypes.c_ssize_t)
 
 
 def make_frozen(*shape: int, dtype: type = np.uint32) -> np.ndarray:
     """Return a read-only array over new bytes, for a call of the engine that sets all of them.
 
-    Only then may anybody else have it. `freeze` returns it without a copy.
+    Pass the array on only after that call. `freeze` returns it without a copy.
     """
     size = math.prod(shape) * np.dtype(dtype).itemsize
     return np.ndarray(shape, dtype, _new_bytes(None, size))

@@ -246,7 +246,8 @@ class _Whole:
         if lanes and len(lanes) != n * (steps + 1):
             raise Refused(Refusal.LANES_LENGTH, 0, 0, "run_on")
         self.record, self.n, self.lanes = record, n, lanes
-        self.state, self.ends = record.start, [library.Ended()]  # to go on from; of each part
+        self.state = record.start  # to go on from
+        self.ends = [library.Ended()]  # of each part
         self.outflow = make_frozen(steps, n + 1)
         self.longest: list[library.Longest] = []  # of each stretch
         for s in record.stretches if lanes else ():  # lanes are refused before a step is
@@ -288,6 +289,7 @@ class _Whole:
     def run(self, record: LongRecord, weighted: int | None = None) -> Run:
         """Return the run of the whole."""
         found = np.frombuffer(b"".join(self.longest), np.uint32).reshape(len(self.longest), -1)
+        # a Longest begins with gate, waiting and ramps
         gate, waiting, *ramps = found[:, : 2 + self.n].max(axis=0).tolist()
         longest = LongestQueues(gate, waiting, tuple(ramps))
         return Run(record, self.lanes, self.outflow, *self.whole(), weighted, longest=longest)

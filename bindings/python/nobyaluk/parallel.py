@@ -215,9 +215,9 @@ def spread_run(
 ) -> Iterator[list[Any]]:
     """Return what `run` gives for so many items, in groups and in order.
 
-    This process runs them; it starts other processes if the time of its own calls says that this
-    pays. There are at most as many as processors and items. `lost` gives the answer for an item
-    whose processes die.
+    This process runs them; it starts other processes if its own calls show that this saves time.
+    There are at most as many as processors and items. `lost` gives the answer for an item whose
+    processes die.
     """
     most, batches, done = min(workers or processors(), processors(), count), Batches(items), 0
     estimate = Estimate()

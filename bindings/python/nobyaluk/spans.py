@@ -32,10 +32,10 @@ class Span:
         A number below `low` is nan, and so is one that no float holds.
         """
         tops, (over, under) = self.tops, (factor / self.unit).as_integer_ratio()
-        most = max(abs(tops[0]) * over, abs(tops[-1]) * over, abs(tops.step), under)
+        most = max(abs(tops[0]) * over, abs(tops[-1]) * over, over, abs(tops.step), under)
         if most <= EXACT:
             wholes = tops.start + tops.step * ks
-            out = wholes * over / under  # of exact floats, so that division rounds only once
+            out = wholes * over / under  # both are exact as floats, so the division rounds once
             out[wholes < max(low * self.unit, -EXACT)] = math.nan
             return out
         found = [_quotient(tops[k], over, under, low * self.unit) for k in ks.tolist()]

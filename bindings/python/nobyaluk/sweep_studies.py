@@ -150,7 +150,8 @@ class VariantSweep(Sweep):
 
     def set_numbers(self, ks: Sequence[int], laws: np.ndarray) -> None:
         """Set the numbers of laws that differ, a row for each study; nan for one out of limits."""
-        left, at = np.array(ks), list[np.ndarray]()
+        left = np.array(ks)
+        at: list[np.ndarray] = []
         for axis in reversed(self.axes):  # as `positions`
             left, own = np.divmod(left, len(axis))
             at.insert(0, own)

@@ -215,7 +215,7 @@ class MeterTable(NamedTuple):
 class LawKey(NamedTuple):
     """The key that gives a number of a law: its value times the factor is in the engine's unit.
 
-    If it counts by length, that is divided by the length of the ramp's cell. The value is at least
+    With `by_length`, the product is divided by the length of the ramp's cell. The value is at least
     `low`.
     """
 
@@ -905,7 +905,7 @@ def _name(c: TomlTable, key: str, given: Any) -> str:
 
 
 def _by_road(name: str, road: engine.Road, i: int) -> int:
-    """Return a law's number that no key gives, at a ramp of the cell at i; open takes any rate."""
+    """Return a law's number that its table lacks, by the cell at i; `open` has the largest rate."""
     if name == "rate":
         return engine.RATE
     return road.capacity[i] if name == "capacity" else _critical(road, i)

@@ -196,14 +196,14 @@ def test_a_build_ends_with_what_was_called(checkout, tmp_path, number, status): 
     (tmp_path / "bin/rt").write_text(f'#!/bin/sh\nsleep 300 &\necho $! >"{tmp_path}/started"\nwait\n')
     taken = lambda: signal.signal(number, signal.SIG_DFL)  # a job in the background starts with Ctrl-C ignored
     running = subprocess.Popen([there / "nobyaluk", "--version"], env=env, stdout=subprocess.PIPE, stderr=subprocess.PIPE, start_new_session=True, preexec_fn=taken)
-    until = time.time() + 20
+    until = time.time() + 120
     while not (tmp_path / "started").exists() or not (tmp_path / "started").read_text().strip():
         assert time.time() < until
         time.sleep(0.02)
     child = Path("/proc") / (tmp_path / "started").read_text().strip()
     assert child.exists()
     running.send_signal(number)
-    assert running.wait(10) == status
+    assert running.wait(60) == status
     while child.exists() and "(zombie)" not in (child / "status").read_text():
         assert time.time() < until, "what rt has started is still there"
         time.sleep(0.02)

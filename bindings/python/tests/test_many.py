@@ -288,6 +288,7 @@ def test_a_cluster_that_is_not_there(examples, capsys, monkeypatch):
         assert (status, printed.out) == (2, "") and printed.err.startswith(f"nobyaluk: --scheduler is '{address}'; it is an address like tcp://10.0.0.1:8786"), address
     assert sweep("tcp://127.0.0.1:9") == 3
     assert "the scheduler at tcp://127.0.0.1:9 does not answer" in capsys.readouterr().err
+    monkeypatch.setattr(cluster_module, "TIMEOUT", 20)
     with distributed.LocalCluster(n_workers=0, processes=False, dashboard_address=None) as cluster:
         assert sweep(cluster.scheduler_address) == 3
         assert f"the cluster at {cluster.scheduler_address} has no workers" in capsys.readouterr().err

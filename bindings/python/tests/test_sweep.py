@@ -59,7 +59,7 @@ def alive(pid):
         return False
 
 
-def until(true, seconds=20):
+def until(true, seconds=80):
     end = time.time() + seconds
     while not true():
         assert time.time() < end, "waited too long"
@@ -134,9 +134,9 @@ def test_signals_leave_no_process_and_every_row(sweeping, examples, tmp_path, tw
     mine = children(p.pid)
     assert len(mine) == 2
     (os.killpg if group else os.kill)(p.pid, getattr(signal, name))
-    _, err = p.communicate(timeout=20)
+    _, err = p.communicate(timeout=80)
     assert p.returncode == status and "Traceback" not in err, err
-    until(lambda: not any(map(alive, mine)), 5)
+    until(lambda: not any(map(alive, mine)), 20)
     there = len(part.read_text().splitlines()) - 2
     assert 59 <= there < 401 and not (tmp_path / "a.csv").exists()
     if name != "SIGKILL":
@@ -318,7 +318,7 @@ def scheduler(tmp_path, count, nanny=False):
 
     try:
         first = start("distributed.cli.dask_scheduler", "--host", "127.0.0.1", "--port", str(port), "--no-dashboard", "--no-show")
-        until(lambda: socket.socket().connect_ex(("127.0.0.1", port)) == 0, 30)
+        until(lambda: socket.socket().connect_ex(("127.0.0.1", port)) == 0, 120)
         how = ["--nanny" if nanny else "--no-nanny", "--no-dashboard", "--nthreads", "1", "--local-directory", str(tmp_path), "--death-timeout", "60"]
         yield address, first, [start("distributed.cli.dask_worker", address, *how) for _ in range(count)]
     finally:

@@ -189,3 +189,10 @@ def test_numbers_as_they_are_written(unit):
     for k in range(len(span)):
         assert Fraction(span.text(k)) == span[k] == Fraction(-30 + 5 * k, unit)
         assert "e" not in span.text(k) and (span.text(k) == "0" or Decimal(span.text(k)) != 0) and not ("." in span.text(k) and span.text(k)[-1] in "0.")
+
+
+@pytest.mark.parametrize("over", [10**6, 10**29, 10**400])
+def test_a_single_zero_times_any_factor(over):
+    """The factor may be above 64 bits; the product is a float all the same."""
+    found = Span(range(0, 1), 1).times(np.array([0, 0]), Fraction(over, 7), 0)
+    assert found.dtype == float and found.tolist() == [0, 0]
