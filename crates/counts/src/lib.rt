@@ -172,7 +172,7 @@ pub fn weighted(r: Road, s: State, weights: Weights) -> u64
     )
 }
 
-// A weighted total with the weighted present after one more step, on lent columns; unchanged if no weights are wanted.
+// A weighted total with the weighted present after one more step, on a lent table of columns; unchanged if no weights are wanted.
 pub fn added<'a, 'b>(
     total: u64,
     sums: bool,

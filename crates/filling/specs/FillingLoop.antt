@@ -42,7 +42,7 @@ pub record Fillable (bytes : List ℕ) (a : Study) (list : List ℕ) : Type 0 wh
   pub rows : (k : ℕ) → a .rows k ≡ recordRow bytes (a .road .n) k
   pub long : tableSize a ≤ length list
 
--- k steps are filled: their releases are in the bytes and their outflows in the list, u is the state after them, and the next row goes to `to`
+-- k steps are filled: their releases are in the bytes and their outflows in the list, l and `table` hold the state after them, and the next row goes to `to`
 pub record FilledSteps (laws : List Law) (bytes : List ℕ) (a : Study) (m₀ : MeterState) (list now out : List ℕ) (l : Ledger) (table : Table) (ramps : ℕ)
     (cell : List ℕ) (work : Table) (k to : ℕ) : Type 0 where
   pub within : k ≤ a .steps

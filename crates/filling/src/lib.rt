@@ -73,10 +73,9 @@ fn fill_row<'a, 'b>(
         → FillGives laws (now (bytes .entry)) (roadIn r size (now (rates .entry)) (now (sizes .entry))) l (now (state .entry)) releases entries k
         (now (bytes .exit)) t (now (state .exit)) (size .ramps) (cellCol (now (sizes .entry))) (now (work .exit)) (now (y .exit))) ⌝ }
 {
-    let n = size.n;
-    let start = fields::row_start(fields::version(bytes), n, k);
+    let start = fields::row_start(fields::version(bytes), size.n, k);
     passes::supplies(
-        n,
+        size.n,
         &rates[WAVE],
         &sizes[JAM],
         &sizes[CAPACITY],
@@ -95,14 +94,16 @@ fn fill_row<'a, 'b>(
     );
     let arrivals = fields::number(bytes, start, fields::NUMBER_SIZE);
     passes::demands(
-        n,
+        size.n,
         &rates[SPEED],
         &sizes[CAPACITY],
         &state[HELD],
         &mut work[DEMAND],
     );
     passes::next(
-        size,
+        size.n,
+        size.ramps,
+        size.gate_capacity,
         &rates[SHARE],
         &sizes[CELL],
         arrivals,

@@ -14,7 +14,7 @@ use Rattle.model.specs.Schedules.{roadAt, outflowsOf, scheduleAfter, eng
 use Rattle.model.specs.Weights.{weightedPresent, weightedTotal}
 use Rattle.model.specs.Record.{numberOf, secondsSize, bytesOf}
 use Rattle.model.specs.Limits.{placeOk, rowOk, stateOk}
-use Rattle.model.specs.Reading.{readingBy, readingOf}
+use Rattle.model.specs.Reading.{readingBy}
 use Rattle.model.specs.Stepping.{lowestOf, tableFault}
 use Rattle.model.specs.Running.{EndAnswer, endOf, openingOf, runningOf}
 use Rattle.model.specs.Judging.{outflowFaultAt, verdictOf}
@@ -54,12 +54,13 @@ afterFirst road ramp held queue cumulative = record {
   cumulative = cumulative;
 }
 
+-- the printed run's state after step 0
 unfoldable pub between : State
 between = afterFirst 6566 1700 (2566 ∷ 4000 ∷ past 62) (0 ∷ 1700 ∷ past 62) (934 ∷ 1000 ∷ past 62)
 
 -- of an answer: steps done, total and exits
 abbrev shown : EndAnswer → List ℕ
-shown e = e .state .done ∷ totalOf (e .state) ∷ exitsOf road (e .state) ∷ []
+shown e = e .state .done ∷ totalOf (e .state) ∷ exitsOf (e .road) (e .state) ∷ []
 
 -- the first row run, and two rows from the state after it: the printed run's last six outflows, its total and its exits. Weights and longest queues
 -- are those of these two steps

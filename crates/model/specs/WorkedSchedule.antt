@@ -28,11 +28,12 @@ still = replicate 9 0
 abbrev shown : List ℕ → EndAnswer → List ℕ
 shown lanes e = stepsMade (studyOf sample lanes) e ∷ totalOf (e .state) ∷ e .state .«ramp_time» ∷ exitsOf (e .road) (e .state) ∷ []
 
--- running writes all three rows and judging accepts the schedule, which has the larger total, the same ramp time and no exits
+-- running's and judging's numbers under a table of lanes
 pub record BothNumbers (lanes fast slow : List ℕ) : Type 0 where
   pub run : shown lanes (runningOf sample lanes still) ≡ fast
   pub judged : shown lanes (judgingOf sample lanes still) ≡ slow
 
+-- running writes all three rows and judging accepts the schedule, which has the larger total, the same ramp time and no exits
 pub both-numbers : BothNumbers [] (3 ∷ 33098 ∷ 5700 ∷ 3701 ∷ []) (3 ∷ 40500 ∷ 5700 ∷ 0 ∷ [])
 unfolding sample header upstream downstream row readingBy oneOf numberOf secondsSize
     thousandthsOf demandOf gateDemandOf supplyOf roomOf onwardOf enteringOf greatestOf outflowOf

@@ -26,7 +26,6 @@ use Rattle.model.specs.Move.{heldOf, queueOf, cumulativeOf, movedTo, countedOf,
 use Rattle.stepping.specs.StepNeeds.{Steppable}
 use Rattle.outflows.specs.Rooms.{Rooms}
 use Rattle.outflows.specs.declared.Ledger.{Ledger}
-use Rattle.passes.specs.declared.columns.Size.{Size}
 use Rattle.passes.specs.Tables.{Table, stateIn, heldCol, queueCol, cumulativeCol, restCol, roomCol, releaseCol, waitingCol, demandCol, QueuesKept, SumsKept}
 use Rattle.passes.specs.Rest.{restOf, Remainders}
 use Rattle.passes.specs.Supplies.{NoRamp, demandIn, demand-model, DemandsRequire}
@@ -284,11 +283,11 @@ module _ {q : Road} {l : Ledger} {state : Table} {row : List ℕ} {ramps arrival
         }
 
 -- what a step requires: it is ready on some road with the columns lent
-pub record NextLent (z : Size) (share cell : List ℕ) (arrivals : ℕ) (l : Ledger) (state work : Table) (y : List ℕ) : Type 0 where
+pub record NextLent (n ramps gate : ℕ) (share cell : List ℕ) (arrivals : ℕ) (l : Ledger) (state work : Table) (y : List ℕ) : Type 0 where
   pub road : Road
   pub row : List ℕ
-  pub ready : NextRequires (withDemands road (z .n) (z .«gate_capacity») (road .speed) share (road .capacity)) l state row (z .ramps) arrivals cell work
-  pub places : length y ≡ z .n + 1
+  pub ready : NextRequires (withDemands road n gate (road .speed) share (road .capacity)) l state row ramps arrivals cell work
+  pub places : length y ≡ n + 1
 
 -- what it gives: the next state, the row of outflows and the remainders
 pub record NextGives (q : Road) (s : State) (row : List ℕ) (t : Ledger) (state : Table) (y : List ℕ) : Type 0 where

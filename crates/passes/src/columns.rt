@@ -1,4 +1,4 @@
-// The columns that a step works on, in tables: the rates and the counts of a road, the columns of a state, and those that the passes fill.
+// The columns that a step works on, in tables: the rates and the sizes of a road, the columns of a state, and those that the passes fill.
 use model::Road;
 use model::State;
 use outflows::Ledger;
@@ -19,7 +19,7 @@ pub const SPEED: usize = 0;
 pub const WAVE: usize = 1;
 
 pub const SHARE: usize = 2;
-// Its counts, and the list of its cells with a ramp.
+// Its sizes: jam counts and capacities, and the list of its cells with a ramp.
 pub const JAM: usize = 0;
 
 pub const CAPACITY: usize = 1;
@@ -61,7 +61,7 @@ pub fn rates(r: Road) -> [[u16; 64]; 3]
     [speed, wave, share]
 }
 
-// The counts of a road, with room for the list of its cells with a ramp.
+// The sizes of a road, with room for the list of its cells with a ramp.
 pub fn sizes(r: Road) -> [[u32; 64]; 3]
     ensures { λ t. ⌜ t ≡ r .jam ∷ r .capacity ∷ zeros ∷ [] ⌝ }
 {

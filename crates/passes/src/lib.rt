@@ -120,7 +120,9 @@ fn fault<'a, 'b>(
 
 // A step whose releases are taken and whose demands are known: outflows, move and count.
 pub fn next(
-    size: Size,
+    n: usize,
+    ramps: usize,
+    gate_capacity: u32,
     share: &[u16; 64],
     cell: &[u32; 64],
     arrivals: u32,
@@ -129,29 +131,17 @@ pub fn next(
     state: &mut [[u32; 64]; 4],
     y: &mut [u32],
 ) -> Ledger
-    requires { ⌜ NextLent size (now share) (now cell) arrivals l (now state) (now work) (now y) ⌝ }
+    requires { ⌜ NextLent n ramps «gate_capacity» (now share) (now cell) arrivals l (now state) (now work) (now y) ⌝ }
     ensures { λ t. ⌜ ((r : Road) (row : List ℕ)
-        → NextRequires (withDemands r (size .n) (size .«gate_capacity») (r .speed) (now (share .entry)) (r .capacity)) l (now (state .entry)) row
-        (size .ramps) arrivals (now (cell .entry)) (now (work .entry))
-        → NextGives (withDemands r (size .n) (size .«gate_capacity») (r .speed) (now (share .entry)) (r .capacity)) (stateIn l (now (state .entry))) row
+        → NextRequires (withDemands r n «gate_capacity» (r .speed) (now (share .entry)) (r .capacity)) l (now (state .entry)) row
+        ramps arrivals (now (cell .entry)) (now (work .entry))
+        → NextGives (withDemands r n «gate_capacity» (r .speed) (now (share .entry)) (r .capacity)) (stateIn l (now (state .entry))) row
         t (now (state .exit)) (now (y .exit))) ⌝ }
 {
-    let n = size.n;
     let rooms = &work[ROOM];
-    let first = least(
-        flow::gate_demand(size.gate_capacity, l.gate_queue),
-        rooms[0],
-    );
+    let first = least(flow::gate_demand(gate_capacity, l.gate_queue), rooms[0]);
     let sent = sending::send(n, share, &work[DEMAND], rooms, first, state, y);
-    let sums = at_ramps::add_releases(
-        n,
-        size.ramps,
-        cell,
-        &work[RELEASE],
-        &work[WAITING],
-        sent,
-        state,
-    );
+    let sums = at_ramps::add_releases(n, ramps, cell, &work[RELEASE], &work[WAITING], sent, state);
     let queued = l.gate_queue + arrivals - first;
     Ledger {
         done: l.done + 1,
@@ -206,7 +196,18 @@ pub fn step<'a>(
     let arrivals = fields::number(bytes, start, fields::NUMBER_SIZE);
     let speed = &rates[SPEED];
     demands(n, speed, capacity, &state[HELD], &mut work[DEMAND]);
-    let ledger = next(size, &rates[SHARE], cell, arrivals, l, work, state, y);
+    let ledger = next(
+        n,
+        size.ramps,
+        size.gate_capacity,
+        &rates[SHARE],
+        cell,
+        arrivals,
+        l,
+        work,
+        state,
+        y,
+    );
     let none = Fault {
         refusal: Refusal::None,
         place: 0,

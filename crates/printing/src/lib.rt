@@ -37,7 +37,7 @@ struct Put {
     end: usize,
 }
 
-// Puts the lines of a step, of its row of outflows and the table of the state after it.
+// Puts the lines of a step: its row of outflows, and gate queue, held counts and ramp queues after it.
 fn table_lines(
     buffer: &mut [u8],
     at: usize,
@@ -54,7 +54,7 @@ fn table_lines(
     listing::lines(buffer, at, k, n, y, gate_queue, &state[HELD], &state[QUEUE])
 }
 
-// Makes step `k` on lent columns and puts its lines; `y` has room for its row of outflows. A fault puts nothing.
+// Makes step `k` on lent tables of columns and puts its lines; `y` has room for its row of outflows. A fault puts nothing.
 fn step_lines<'a>(
     bytes: &[u8],
     k: usize,

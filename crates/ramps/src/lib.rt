@@ -68,8 +68,8 @@ pub fn came_before<'a>(
 }
 
 // Grants the releases of the listed cells in the step whose row starts at `start`, and puts them into the bytes. The rooms are the supplies, and
-// are reduced by the releases; the columns of releases and of waiting receive each listed cell's release and its queue after it. What had come into
-// a cell is all except what entered in the last step: held + F exceeds it by that.
+// are reduced by the releases; the columns of releases and of waiting receive each listed cell's release and its queue after it. The column
+// `CAME` holds all that has come into a cell except what entered in the last step: held + F exceeds it by that.
 pub fn grant<'a>(
     bytes: &mut [u8],
     start: usize,

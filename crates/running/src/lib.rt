@@ -42,7 +42,7 @@ fn tallied(ended: Ended, gate: AtGate, ramps: [u32; 64], weighted: u64) -> Talli
     }
 }
 
-// Writes the rows of the steps before the first fault, 9 or 10.
+// Writes the rows of the steps before the first fault, 9 or 10; with the weighted total if `sums`, and the longest queues if `longs`.
 fn run_rows(
     bytes: &[u8],
     table: &[u8],
@@ -113,7 +113,7 @@ fn unbegun(refusal: Refusal, place: usize) -> Tallied
     }
 }
 
-// Runs a record that was opened, with weights and with its longest queues if `longs`: opening's refusal, 11, then as `run_rows`.
+// Runs a record that was opened, with the weighted total if `sums` and the longest queues if `longs`: opening's refusal, 11, then as `run_rows`.
 fn run_opened(
     a: Reading,
     bytes: &[u8],

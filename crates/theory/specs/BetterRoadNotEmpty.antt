@@ -1,4 +1,4 @@
--- An example of a better road: one speed is larger, both runs are accepted, and the total falls from 1 to 0. So `improved-accepted` is not empty.
+-- An example of a better road: one speed is larger, both runs are accepted, and the total falls from 1 to 0. So `better-accepted` is not empty.
 -- Assumes nothing.
 use mathlib.Core.Path.{_≡_, refl}
 use mathlib.Core.List.{List, [], _∷_, _++_}

@@ -1,23 +1,24 @@
 -- Theorem: if the weights fall from the gate on, the weighted total of a run is at most that of each schedule. Assumes nothing.
-use mathlib.Core.Path.{_≡_, refl, sym, _∙_}
+use mathlib.Core.Path.{_≡_, refl, sym, ap, _∙_}
 use mathlib.Core.Logic.{⊎-elim}
 use mathlib.Core.List.{List}
 use Prim.Native.Nat.{ℕ, suc, _≤_, _<_}
 use native.Mathlib.Nat.{le-refl}
 use native.Mathlib.Omega.{arith}
 use lib.ListN.{length}
+use borrow.Author.Tests.{ne-eqb}
 use Rattle.numbers.specs.Tests.{order}
 use Rattle.model.specs.Schedules.{Study, tableSize, scheduleAfter, engineAfter, proposedAt, scheduledAt}
 use Rattle.theory.specs.RunsLaws.{ReleasesFitUpTo, StudyOk, rivals-self, run-weighted}
 use Rattle.model.specs.Weights.{weightedTotal, Falling, weightedTotalOfRun, weightedTotalOfSchedule}
-use Rattle.theory.specs.WeightsLaws.{weighted-total-same}
+use Rattle.theory.specs.WeightsLaws.{weighted-total-same, weighted-total-none}
 use Rattle.model.specs.Reading.{readingOf, studyOf}
 use Rattle.reading.specs.Numbers.{read-numbers}
-use Rattle.model.specs.Running.{runFault, firstStep, stepsMade, runningOf, tableOf, listAfter}
+use Rattle.model.specs.Running.{runFault, firstStep, stepsMade, openingOf, runningOf, tableOf, listAfter}
 use Rattle.model.specs.Judging.{judgeFault, judgingOf}
 use Rattle.theory.specs.SchedulesLaws.{step-before, end-made, run-fits}
 use Rattle.theory.specs.TableLaws.{table-row}
-use Rattle.theory.specs.RunEnds.{runs-short, runs-long, writes-long, judges-length, judges-ends}
+use Rattle.theory.specs.RunEnds.{runs-unopened, runs-short, runs-long, writes-long, judges-length, judges-ends}
 use Rattle.theory.specs.Readable.{readable}
 use Rattle.model.specs.Demand.{Reaches, Openable, WeightedDemand}
 use Rattle.theory.specs.DemandLaws.{own-state, run-done, judge-done}
@@ -104,3 +105,26 @@ module _ (bytes lanes : List ℕ) (openable : Openable bytes lanes) (list : List
               let k : m ≡ stepsMade a (judgingOf bytes lanes zs) = run-made ∙ e ∙ sym (judge-made zs) in
               rw (← k, ← own m (le-refl m)) (best falling zs m (le-refl m) (rw (← k) at (judge-reaches zs)));
         }
+
+-- the weighted total at the end: 0 if the run did not begin, else that of the steps before the first fault
+module _ (w u : ℕ → ℕ) (bytes lanes list : List ℕ) where
+  weighted-unmade : stepsMade (studyOf bytes lanes) (runningOf bytes lanes list) ≡ 0 → weightedTotalOfRun w u bytes lanes list ≡ 0
+  unfolding weightedTotalOfRun
+  weighted-unmade e =
+      ap (weightedTotal w u (studyOf bytes lanes .road .n) (engineAfter (studyOf bytes lanes))) e
+      ∙ weighted-total-none w u (studyOf bytes lanes .road .n) (engineAfter (studyOf bytes lanes))
+
+  pub weighted-unopened : (openingOf bytes lanes .number ≡ 0 → ⊥) → weightedTotalOfRun w u bytes lanes list ≡ 0
+  weighted-unopened h = weighted-unmade (rw (runs-unopened bytes lanes h list, ne-eqb (openingOf bytes lanes .number) 0 h) refl)
+
+  module _ (openable : Openable bytes lanes) where
+    pub weighted-short : length list < tableSize (studyOf bytes lanes) → weightedTotalOfRun w u bytes lanes list ≡ 0
+    weighted-short l = weighted-unmade (rw (runs-short bytes lanes openable list l) refl)
+
+    pub weighted-long : tableSize (studyOf bytes lanes) ≤ length list
+        → weightedTotalOfRun w u bytes lanes list
+        ≡ weightedTotal w u (studyOf bytes lanes .road .n) (engineAfter (studyOf bytes lanes)) (firstStep (runFault (studyOf bytes lanes)) (studyOf bytes lanes .steps))
+    unfolding weightedTotalOfRun
+    weighted-long l =
+        let a = studyOf bytes lanes in
+        ap (weightedTotal w u (a .road .n) (engineAfter a)) (ap (stepsMade a) (runs-long bytes lanes openable list l) ∙ end-made a (runFault a) (engineAfter a))

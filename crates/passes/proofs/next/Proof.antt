@@ -30,7 +30,7 @@ to-count c = c .before .before .before .before .before
 abbrev On : tie.Start → Road → Road
 On c r =
     let a = c .args in
-    withDemands r (a .size .n) (a .size .«gate_capacity») (r .speed) (a .share .now) (r .capacity)
+    withDemands r (a .n) (a .gate-capacity) (r .speed) (a .share .now) (r .capacity)
 
 abbrev From : tie.Start → State
 From c = let a = c .args in stateIn (a .l) (a .state .now)
@@ -38,7 +38,7 @@ From c = let a = c .args in stateIn (a .l) (a .state .now)
 -- the gate's outflow
 first : (c : tie.After-least) →
     let a = A c .args in
-    c .least .result ≡ min (gateDemandOf (a .size .«gate_capacity») (a .l .«gate_queue»)) (at (roomCol (a .work .now)) 0)
+    c .least .result ≡ min (gateDemandOf (a .gate-capacity) (a .l .«gate_queue»)) (at (roomCol (a .work .now)) 0)
 first c = c .least .ensures ∙ ap (λ (x : ℕ). min x (at (roomCol (A c .args .work .now)) 0)) (c .before .before .gate-demand .ensures)
 
 -- the facts about the numbers of the ledger
@@ -68,25 +68,25 @@ add-queued c = omega (arith, turn c)
 sub-queued : tie.Need-sub-queued
 sub-queued c = omega (arith, turn c)
 
-add-done : tie.Need-add-t34
+add-done : tie.Need-add-t35
 add-done c = omega (arith, turn (c .before))
 
-cast-queued : tie.Need-cast-t35
+cast-queued : tie.Need-cast-t36
 cast-queued c = omega (arith, turn (c .before))
 
-add-gate-time : tie.Need-add-t36
+add-gate-time : tie.Need-add-t37
 add-gate-time c = omega (arith, turn (c .before .before))
 
-cast-on-road : tie.Need-cast-t37
+cast-on-road : tie.Need-cast-t38
 cast-on-road c = let k = c .before .before .before in omega (arith, k .before .add-releases .ensures .1 .1)
 
-add-road-time : tie.Need-add-t38
+add-road-time : tie.Need-add-t39
 add-road-time c = let k = c .before .before .before .before in omega (arith, turn k .total, k .before .add-releases .ensures .1 .1)
 
-add-ramp-time : tie.Need-add-t39
+add-ramp-time : tie.Need-add-t40
 add-ramp-time c = let k = to-count (c .before) in omega (arith, turn k .total, k .before .add-releases .ensures .1 .1)
 
-add-cumulative : tie.Need-add-t20
+add-cumulative : tie.Need-add-t21
 add-cumulative c = let k = turn (to-count (c .before .before)) in omega (arith, k .cumulative, k .small)
 
 same-length : tie.Need-same-length
