@@ -1,8 +1,8 @@
 -- The remainder of b × F by 1,000, kept from step to step: it gives outflow, entering and the next remainder in numbers below 2 ^ 32. Assumes nothing.
-use mathlib.Core.Path.{_≡_}
+use mathlib.Core.Path.{_≡_, sym, ap, subst, _∙_}
 use mathlib.Core.List.{List}
 use Prim.Native.Nat.{ℕ, zero, suc, _+_, _-_, _*_, _/_, _%_, _^_, _≤_, _<_, min}
-use native.Mathlib.Nat.{mul-le-mul, mul-add, mul-suc, mul-comm, zero-mul, le-div-iff-mul-le, le-refl}
+use native.Mathlib.Nat.{mul-le-mul, mul-add, mul-suc, mul-comm, zero-mul, div-add-mod', mod-lt, le-refl}
 use native.Mathlib.Omega.{arith}
 use lib.ListN.{length}
 use Rattle.model.specs.Numbers.{at}
@@ -67,7 +67,7 @@ pub record OutflowByRest (b F room demand outflow onward rest : ℕ) : Type 0 wh
 module _ {b F room demand r : ℕ} (er : r ≡ restOf b F) where
   -- the demand fits the room
   pub sends-all : {all onward : ℕ} → all ≡ r + b * demand → onward ≡ all / whole → onward ≤ room
-      → OutflowByRest b F room demand demand onward (all - whole * onward)
+      → OutflowByRest b F room demand demand onward (all % whole)
   sends-all {all} {onward} ea eo l =
       let e : onward ≡ enteringOf b F demand = omega (arith, entering-by-rest b F demand) in
       record {
@@ -77,15 +77,14 @@ module _ {b F room demand r : ℕ} (er : r ≡ restOf b F) where
       }
 
   -- the demand does not fit: exactly the room enters
-  pub sends-room : {all onward y : ℕ} → b ≤ whole → 0 < b → all ≡ r + b * demand → onward ≡ all / whole → room < onward
-      → y ≡ (whole * room + 999 - r) / b → OutflowByRest b F room demand y room (r + b * y - whole * room)
-  sends-room {all} {onward} {y} h some ea eo l ey =
+  pub sends-room : {all onward y m : ℕ} → 0 < b → all ≡ r + b * demand → onward ≡ all / whole → room < onward
+      → y ≡ (whole * room + 999 - r) / b → m ≡ (whole * room + 999 - r) % b → b ≤ whole → OutflowByRest b F room demand y room (999 - m)
+  sends-room {all} {onward} {y} {m} some ea eo l ey em h =
       let e : onward ≡ enteringOf b F demand = omega (arith, entering-by-rest b F demand) in
       let top : ℕ = whole * room + 999 - r in
       let small = rest-small b F in
-      let under : y * b ≤ top = le-div-iff-mul-le {k = b} {x = y} {y = top} some .0 (omega arith) in
-      let over : (suc y * b ≤ top) → ⊥ = λ k. omega (arith, le-div-iff-mul-le {k = b} {x = suc y} {y = top} some .1 k) in
-      let same : suc y * b ≡ b * y + b = omega (arith, mul-comm (suc y) b, mul-suc b y) in
+      let parts : y * b + m ≡ top = ap (λ (z : ℕ). z * b + m) ey ∙ ap (λ (z : ℕ). top / b * b + z) em ∙ div-add-mod' top b in
+      let less : m < b = subst (λ (z : ℕ). z < b) (sym em) (mod-lt top some) in
       let comm = mul-comm y b in
       let fits : enteringOf b F y ≤ room = omega (arith, rest-after b F y) in
       let full : room ≤ enteringOf b F y = omega (arith, rest-after b F y, rest-small b (F + y)) in
@@ -110,22 +109,9 @@ pub some-share : (b r demand room : ℕ) → r ≤ 999 → room < (r + b * deman
 some-share zero r demand room h l = absurd (omega (arith, zero-mul demand))
 some-share (suc b) r demand room h l = omega arith
 
--- with the remainder, what it sends is the room, in thousandths, and less than 1,000 more
-pub record RoomFilled (b r room y : ℕ) : Type 0 where
-  pub under : r + b * y ≤ whole * room + 999
-  pub over : whole * room ≤ r + b * y
-  pub small : room ≤ 1000000
-
-pub room-filled : {b r demand room y : ℕ} → b ≤ whole → demand ≤ 1000000 → r ≤ 999 → room < (r + b * demand) / whole
-    → y ≡ (whole * room + 999 - r) / b → RoomFilled b r room y
-room-filled {b} {r} {demand} {room} {y} h d small l e =
-    let some = some-share b r demand room small l in
-    let top : ℕ = whole * room + 999 - r in
-    let under : y * b ≤ top = le-div-iff-mul-le {k = b} {x = y} {y = top} some .0 (omega arith) in
-    let over : (suc y * b ≤ top) → ⊥ = λ k. omega (arith, le-div-iff-mul-le {k = b} {x = suc y} {y = top} some .1 k) in
-    let same : suc y * b ≡ b * y + b = omega (arith, mul-comm (suc y) b, mul-suc b y) in
-    let comm = mul-comm y b in
-    record { under = omega arith; over = omega arith; small = omega (arith, product-most b demand h d) }
+-- and the room is within the limit of a rate
+pub room-small : (b r demand room : ℕ) → b ≤ whole → demand ≤ 1000000 → r ≤ 999 → room < (r + b * demand) / whole → room ≤ 1000000
+room-small b r demand room h d small l = omega (arith, product-most b demand h d)
 
 -- the product of a share and an F fits 64 bits
 pub product-fits : (b F : ℕ) → b < 2 ^ 16 → F < 2 ^ 32 → b * F < 2 ^ 64

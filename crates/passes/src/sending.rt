@@ -57,17 +57,17 @@ fn outflow_by_rest(share: u16, rest: u32, demand: u32, room: u32) -> Flow
     let all = rest + b * demand;
     let entering = all / 1000;
     if room < entering {
-        let outflow = (1000 * room + 999 - rest) / b;
+        let most = 1000 * room + 999 - rest;
         return Flow {
-            outflow: outflow,
+            outflow: most / b,
             entering: room,
-            rest: rest + b * outflow - 1000 * room,
+            rest: 999 - most % b,
         };
     }
     Flow {
         outflow: demand,
         entering: entering,
-        rest: all - 1000 * entering,
+        rest: all % 1000,
     }
 }
 

@@ -1,8 +1,9 @@
 -- `passes::sending::outflow_by_rest` meets its contract: nothing wraps, and the remainder is enough instead of b × F. Assumes nothing.
 use mathlib.Core.Path.{refl, sym, subst}
-use Prim.Native.Nat.{ℕ, _+_, _-_, _*_, _/_, _≤_, _<_}
+use Prim.Native.Nat.{ℕ, _+_, _-_, _*_, _%_, _≤_, _<_}
+use native.Mathlib.Nat.{mod-lt}
 use native.Mathlib.Omega.{arith}
-use Rattle.passes.specs.Rest.{OutflowByRest, sends-whole, sends-all, sends-room, product-most, some-share, RoomFilled, room-filled}
+use Rattle.passes.specs.Rest.{OutflowByRest, sends-whole, sends-all, sends-room, product-most, some-share, room-small}
 use Rattle.passes.proofs.sending.outflow_by_rest.Statement.{statement}
 use Rattle.passes.proofs.sending.outflow_by_rest.Tie as tie
 use borrow.Author.Needs.{needs}
@@ -17,12 +18,13 @@ some c =
     let s = c .before .before in
     some-share (s .args .share) (s .args .rest) (s .args .demand) (s .args .room) (s .pre .1 .1) (c .if2 .taken)
 
-known : (c : tie.Then2) →
-    let a = c .before .before .args in
-    RoomFilled (a .share) (a .rest) (a .room) ((1000 * a .room + 999 - a .rest) / a .share)
-known c =
+small : (c : tie.Then2) → c .before .before .args .room ≤ 1000000
+small c =
     let s = c .before .before in
-    room-filled {demand = s .args .demand} (s .pre .0) (s .pre .1 .0) (s .pre .1 .1) (c .if2 .taken) refl
+    room-small (s .args .share) (s .args .rest) (s .args .demand) (s .args .room) (s .pre .0) (s .pre .1 .0) (s .pre .1 .1) (c .if2 .taken)
+
+left : (c : tie.Then2) → let a = c .before .before .args in (1000 * a .room + 999 - a .rest) % a .share < a .share
+left c = let a = c .before .before .args in mod-lt (1000 * a .room + 999 - a .rest) (some c)
 
 returns : tie.Need-returns
 returns c F e =
@@ -35,34 +37,23 @@ mul-all c = omega (arith, product (c .before))
 add-all : tie.Need-add-all
 add-all c = omega (arith, product (c .before))
 
-mul-outflow : tie.Need-mul-outflow
-mul-outflow c = omega (arith, known c)
+mul-most : tie.Need-mul-most
+mul-most c = omega (arith, small c)
 
-add-outflow : tie.Need-add-outflow
-add-outflow c = omega (arith, known c)
+add-most : tie.Need-add-most
+add-most c = omega (arith, small c)
 
-div-outflow : tie.Need-div-outflow
+div-outflow : tie.Need-div-t12
 div-outflow c = omega (arith, some c)
 
-mul-t12 : tie.Need-mul-t12
-mul-t12 c = omega (arith, known c)
+rem-outflow : tie.Need-rem-t13
+rem-outflow c = omega (arith, some c)
 
-add-t14 : tie.Need-add-t14
-add-t14 c = omega (arith, known c)
-
-mul-t13 : tie.Need-mul-t13
-mul-t13 c = omega (arith, known c)
-
-sub-t15 : tie.Need-sub-t15
-sub-t15 c = omega (arith, known c)
+sub-rest : tie.Need-sub-t14
+sub-rest c = omega (arith, left c, c .before .before .pre .0)
 
 returns-2 : tie.Need-returns-2
-returns-2 c F e =
-    let s = c .before .before in
-    sends-room e (s .pre .0) (some c) refl refl (c .if2 .taken) refl
-
-mul-t11 : tie.Need-mul-t11
-mul-t11 c = omega (arith, product (c .before .before))
+returns-2 c F e = sends-room e (some c) refl refl (c .if2 .taken) refl refl (c .before .before .pre .0)
 
 returns-3 : tie.Need-returns-3
 returns-3 c F e = sends-all e refl refl (omega (arith, c .if2 .left))
@@ -71,5 +62,4 @@ pub outflow-by-rest-spec : {M : Type 1} → statement M
 outflow-by-rest-spec =
     tie.close
     (tie.spec
-    (λ c κs. search needs) returns mul-all add-all mul-outflow add-outflow (λ c. search needs) div-outflow mul-t12 add-t14 mul-t13 sub-t15
-    returns-2 mul-t11 (λ c. search needs) returns-3)
+    (λ c κs. search needs) returns mul-all add-all mul-most add-most (λ c. search needs) div-outflow rem-outflow sub-rest returns-2 returns-3)
