@@ -118,7 +118,8 @@ fn fault<'a, 'b>(
     )
 }
 
-// A step whose releases are taken and whose demands are known: outflows, move and count.
+// A step whose releases are taken and whose demands are known: outflows, move and count. The numbers of the road's size are passed one by one: so
+// the compiler copies this function into both loops over the steps (docs/SPEED.md).
 pub fn next(
     n: usize,
     ramps: usize,

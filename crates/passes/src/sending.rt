@@ -57,6 +57,7 @@ fn outflow_by_rest(share: u16, rest: u32, demand: u32, room: u32) -> Flow
     let all = rest + b * demand;
     let entering = all / 1000;
     if room < entering {
+        // most = b x outflow + most % b, so the next remainder, rest + b x outflow - 1000 x room, is 999 - most % b
         let most = 1000 * room + 999 - rest;
         return Flow {
             outflow: most / b,
