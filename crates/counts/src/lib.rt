@@ -1,4 +1,6 @@
 // Present, exits and present with weights of a state; the total in vehicle-seconds; and the longest queues of a run.
+#![tactic(auto)]
+
 ghost use Rattle.std.specs.Prelude.{◌≡◌, min, ◌-◌, ◌^◌, ◌≤◌, ◌<◌, ◌+◌, ◌*◌, max, take, length, cond};
 ghost use Rattle.model.specs.Road.{most_long, most_cells, without_state};
 ghost use Rattle.model.specs.Words.{vehicle_seconds, vehicle_seconds_of};

@@ -1,4 +1,6 @@
 // Reads a record on standard input and prints its run whole.
+#![tactic(auto)]
+
 use model::Road;
 
 fn main() {

@@ -1,4 +1,6 @@
 // A record's bytes, put into a target part by part.
+#![tactic(auto)]
+
 ghost use Rattle.std.specs.Prelude.{◌+◌, ◌*◌, ◌≤◌, length};
 ghost use Rattle.model.specs.Numbers.{concat_of, row_at};
 ghost use Rattle.numbers.specs.PlacedText.{Puts};

@@ -1,4 +1,6 @@
 // The calls that docs/API.md shows, word for word.
+#![tactic(auto)]
+
 ghost use Rattle.std.specs.Prelude.{cond, [], min, eqb, replicate, ◌≡◌, List, ℕ, ◌≤◌};
 ghost use Rattle.model.specs.Road.{most_long};
 ghost use Rattle.model.specs.Running.{running_of, list_after};

@@ -1,4 +1,6 @@
 // The program for exercises: like `ctm`, for records of at most 8 cells and 4,096 bytes; a larger record is refused with 26.
+#![tactic(auto)]
+
 use model::Road;
 
 const CELLS: usize = 8;

@@ -1,4 +1,6 @@
 // Numbers, columns and rows in a record's bytes, and the header's tests of 1, 2, 3, 19 and 26.
+#![tactic(auto)]
+
 ghost use Rattle.std.specs.Prelude.{◌≡◌, ◌+◌, ◌*◌, ◌^◌, ◌≤◌, ◌<◌, length, take};
 ghost use Rattle.model.specs.Road.{most_cells};
 ghost use Rattle.model.specs.Record.{short_size, number_size, version_offset, version_of, seconds_size, seconds_of, header_size, cell_size, row_start, number_of, column_of, record_row};

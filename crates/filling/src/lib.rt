@@ -1,4 +1,6 @@
 // Filling: a record's releases, granted to its ramps by their meter laws, step by step.
+#![tactic(auto)]
+
 mod last_step;
 
 ghost use Rattle.std.specs.Prelude.{◌≡◌, true, List, ℕ, ◌+◌, ◌-◌, ◌≤◌, ◌<◌, leb};

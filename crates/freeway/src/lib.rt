@@ -1,4 +1,6 @@
 // What a buyer may call, in the order of docs/MODEL.md: each contract holds for all input. The types and their methods are those of `model`.
+#![tactic(auto)]
+
 ghost use Rattle.std.specs.Prelude.{◌≡◌, ◌^◌, ◌<◌, length};
 ghost use Rattle.model.specs.Flow.{demand_of, gate_demand_of, supply_of, room_of, onward_of, entering_of, outflow_of};
 ghost use Rattle.model.specs.Move.{present_of, held_sum, queue_sum, exits_of};

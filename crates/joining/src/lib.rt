@@ -1,4 +1,6 @@
 // Two neighbouring roads as one record, in a lent target.
+#![tactic(auto)]
+
 ghost use Rattle.std.specs.Prelude.{◌≡◌, ◌&&◌, List, [], ℕ, ◌+◌, ◌*◌, ◌≤◌, leb, eqb, length};
 ghost use Rattle.model.specs.Numbers.{at, concat_of};
 ghost use Rattle.numbers.specs.PlacedText.{Puts};

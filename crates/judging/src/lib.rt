@@ -1,5 +1,7 @@
 // Judging: whether a proposed schedule obeys the rules of a record, step by step in its own states. History also writes these states into lent
 // lists, for plots.
+#![tactic(auto)]
+
 mod verdict;
 
 ghost use Rattle.std.specs.Prelude.{◌≡◌, true, cond, ◌+◌, ◌≤◌, length};

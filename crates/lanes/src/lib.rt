@@ -1,4 +1,6 @@
 // Lanes as the set bits of a byte: the capacity that the open lanes leave, and the lowest cell that refusal 18 names.
+#![tactic(auto)]
+
 ghost use Rattle.std.specs.Prelude.{◌≡◌, ◌+◌, ◌*◌, ◌≤◌, ◌<◌, length};
 ghost use Rattle.std.specs.Int.Count.{ones};
 ghost use Rattle.model.specs.Numbers.{first_of};

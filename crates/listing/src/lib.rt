@@ -1,4 +1,6 @@
 // The words and lines of the program's listing.
+#![tactic(auto)]
+
 ghost use Rattle.std.specs.Prelude.{◌+◌, ◌≤◌, ◌*◌, ◌<◌, length};
 ghost use Rattle.numbers.specs.PlacedText.{Puts};
 ghost use Rattle.model.specs.Words.{most_word, word_of, named_of};

@@ -1,4 +1,6 @@
 // The stated load for trials: arrivals from a seed, by a generator that wraps at 32 bits.
+#![tactic(auto)]
+
 ghost use Rattle.std.specs.Prelude.{◌≡◌, ◌*◌, ◌%◌, ◌≤◌, length};
 ghost use Rattle.model.specs.Road.{most_rate};
 ghost use Rattle.model.specs.Load.{numbers, next_number, arrival_of, number_after, arrivals_of, load_answer, loading_of, loaded_list, LoadEnds};

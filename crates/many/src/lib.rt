@@ -1,4 +1,6 @@
 // Many studies: one record, the arrivals of each study put into it in turn, run or filled, and an entry of answers per study.
+#![tactic(auto)]
+
 ghost use Rattle.std.specs.Prelude.{◌≡◌, ◌+◌, length};
 ghost use Rattle.model.specs.Numbers.{at, front_of};
 ghost use Rattle.model.specs.Refusals.{refusal_number, fault, fault_answer};

@@ -1,4 +1,6 @@
 // Meter laws: the wish of a law, and the release of a wish.
+#![tactic(auto)]
+
 ghost use Rattle.std.specs.Prelude.{◌≡◌, ◌<◌};
 ghost use Rattle.std.specs.Float.Ieee.Scale.{finite};
 ghost use Rattle.model.specs.Road.{most_cells};

@@ -1,4 +1,6 @@
 // The road, its state, the limits as named constants, the refusals and the answers.
+#![tactic(auto)]
+
 ghost use Rattle.std.specs.Prelude.{◌≡◌, ◌+◌, min};
 ghost use Rattle.model.specs.Road.{most_long, empty_road, empty_state, ended_at, without_state, start_state, start_in, total_of};
 ghost use Rattle.model.specs.Refusals.{refusal_number};

@@ -1,4 +1,6 @@
 // Lists of numbers: tests, the first failure, search by halves, sums by halves, rows, tables, and texts put into a list.
+#![tactic(auto)]
+
 ghost use Rattle.std.specs.Prelude.{◌≡◌, ◌*◌, ◌≤◌, length};
 ghost use Rattle.model.specs.Numbers.{sum_of};
 

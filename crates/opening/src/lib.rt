@@ -1,4 +1,6 @@
 // A table of lanes: refusals 17 and 18, and a record opened with it, for running, filling and judging; and going on from a state, with 7 and 8.
+#![tactic(auto)]
+
 ghost use Rattle.std.specs.Prelude.{◌≡◌, ◌≤◌, true, ◌+◌, leb};
 ghost use Rattle.model.specs.Road.{most_cells, most_steps};
 ghost use Rattle.model.specs.Refusals.{refusal_number, fault, fault_answer};

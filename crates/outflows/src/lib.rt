@@ -1,4 +1,6 @@
 // A road and a state whose columns are lent; the releases of a row, 9 and 10; the engine's outflows.
+#![tactic(auto)]
+
 pub mod lent;
 
 ghost use Rattle.std.specs.Prelude.{◌≡◌, ◌+◌, ◌*◌, ◌≤◌, length};

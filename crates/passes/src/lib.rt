@@ -1,4 +1,6 @@
 // One step in passes over columns, in 32 bits: supplies, releases, demands, then outflows and move. Of b x F only the remainder by 1,000 is needed.
+#![tactic(auto)]
+
 mod at_ramps;
 mod columns;
 mod sending;

@@ -1,4 +1,6 @@
 // What is printed for a record, put at the start of a buffer: its whole run, or a refusal's line.
+#![tactic(auto)]
+
 ghost use Rattle.std.specs.Prelude.{[], ◌+◌, ◌*◌, ◌≤◌, ◌<◌, length};
 ghost use Rattle.model.specs.declared.Road.{Road};
 ghost use Rattle.model.specs.Refusals.{fault_answer};

@@ -1,4 +1,6 @@
 // Releases put into a record, which then reads as before; one release put at a ramp and a step.
+#![tactic(auto)]
+
 ghost use Rattle.std.specs.Prelude.{◌≡◌, ◌≤◌};
 ghost use Rattle.model.specs.Road.{most_cells};
 ghost use Rattle.model.specs.Refusals.{fault_answer};

@@ -1,4 +1,6 @@
 // One step of filling: the releases that the ramps' meter laws grant, put into the record's bytes.
+#![tactic(auto)]
+
 ghost use Rattle.std.specs.Prelude.{◌≡◌, List, ℕ, min, ◌≤◌, ◌<◌};
 ghost use Rattle.model.specs.declared.Road.{Road};
 ghost use Rattle.model.specs.Road.{most_rate};

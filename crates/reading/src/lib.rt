@@ -1,4 +1,6 @@
 // Reading a record: the road, T and the state before step 0, or the first refusal in the model's order.
+#![tactic(auto)]
+
 ghost use Rattle.std.specs.Prelude.{◌≡◌, true, ℕ, ◌+◌, ◌*◌, ◌≤◌, ◌<◌, length};
 ghost use Rattle.model.specs.Refusals.{refusal_number};
 ghost use Rattle.model.specs.Numbers.{first_of};

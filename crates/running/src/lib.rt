@@ -1,4 +1,6 @@
 // Running: the engine's outflows of every step of a record, written into a lent list.
+#![tactic(auto)]
+
 ghost use Rattle.std.specs.Prelude.{◌≡◌, true};
 ghost use Rattle.model.specs.Numbers.{at};
 ghost use Rattle.model.specs.Road.{without_state};

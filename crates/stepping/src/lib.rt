@@ -1,4 +1,6 @@
 // The move by a row of outflows, and the count; stepping.
+#![tactic(auto)]
+
 pub mod lent;
 
 ghost use Rattle.std.specs.Prelude.{◌≡◌, ◌+◌, ◌<◌, length};

@@ -1,4 +1,6 @@
 // Several ramps on one street: what each may release in a step.
+#![tactic(auto)]
+
 ghost use Rattle.std.specs.Prelude.{◌≡◌, min, length};
 ghost use Rattle.model.specs.Refusals.{refusal_number};
 ghost use Rattle.model.specs.Street.{GrantRequest, street_frame_ok, street_ok, rest_before, grants_of, granting_of, grants_after, GrantEnds};

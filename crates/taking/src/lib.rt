@@ -1,4 +1,6 @@
 // The numbers of a record's row, from any bytes, and all rows in one list, as writing takes them.
+#![tactic(auto)]
+
 ghost use Rattle.std.specs.Prelude.{◌≡◌, ◌≤◌, ◌<◌, length, take};
 ghost use Rattle.model.specs.Road.{most_cells, most_steps};
 ghost use Rattle.model.specs.Record.{version_of, row_numbers};

@@ -1,4 +1,6 @@
 // The edges of docs/MODEL.md for the rules of one place and for stepping, computed by the compiled code.
+#![tactic(auto)]
+
 use freeway::{Road, State};
 
 fn show(label: &[u8], value: u64) {

@@ -1,4 +1,6 @@
 // Releases for a wanted queue: the table whose running sum is the least possible after every step.
+#![tactic(auto)]
+
 ghost use Rattle.std.specs.Prelude.{◌≡◌, ◌-◌, max, length};
 ghost use Rattle.model.specs.Wanted.{ArrivalsOk, Limits, wanted_frame_ok, possible_of, inflow_of, least_table, wanted_answer, wanted_of, table_after, WantedEnds};
 

@@ -1,4 +1,6 @@
 // Writing a record: a road, T, a start and its rows, into a lent target.
+#![tactic(auto)]
+
 ghost use Rattle.std.specs.Prelude.{◌≡◌};
 ghost use Rattle.model.specs.Numbers.{first_of, row_at};
 ghost use Rattle.model.specs.Refusals.{refusal_number};

@@ -1,0 +1,16 @@
+-- A row of no number and of one by their laws; a longer row by the sum of its halves.
+use Rattle.std.proofs.Common.{arith, rules, length, sym, ◌∙◌, drop}
+use Rattle.numbers.specs.SumLaws.{sum-parts, sum-none, sum_one}
+use Rattle.numbers.proofs.+sum.Goals as goal
+
+pub returns-then-count-eq0 : goal.returns-then-count-eq0
+returns-then-count-eq0 t c = (sym (sum-none c.args.row.now (search rules)), omega arith)
+
+pub returns-then-count-eq1 : goal.returns-then-count-eq1
+returns-then-count-eq1 t c = (c.wide.ensures ∙ sym (sum_one c.args.row.now (search rules)), omega (arith, c.wide.ensures, c.type_inv.row 0))
+
+pub returns : goal.returns
+returns t c =
+    let l = c.args.row.now in
+    let e = sum-parts (length l / 2) l in
+    (?, ?)
