@@ -189,7 +189,7 @@ pub fn added<'a, 'b>(
 }
 
 // The longest gate queues so far, with and without the step's arrivals.
-#[derive(Drop)]
+#[derive(Clone, Copy)]
 pub struct AtGate {
     pub gate: u32,
     pub waiting: u32,

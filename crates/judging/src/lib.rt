@@ -26,7 +26,7 @@ use model::{Ended, Reading, Refusal, Road, State};
 use outflows::Ledger;
 
 // The fault of a step, and the ledger after it: the ledger before it if there is a fault.
-#[derive(Drop)]
+#[derive(Clone, Copy)]
 struct Judged {
     refusal: Refusal,
     place: usize,

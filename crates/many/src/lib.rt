@@ -166,7 +166,7 @@ fn fill_studies(
 }
 
 // The studies of a record and its tables of arrivals: what is refused of them as a whole, or the cells, the steps and how many studies there are.
-#[derive(Drop)]
+#[derive(Clone, Copy)]
 struct Whole {
     fault: Fault,
     n: usize,

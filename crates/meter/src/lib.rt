@@ -91,7 +91,7 @@ pub fn law_fault(laws: [Law; 64], ramp: [u16; 64], n: usize) -> usize
 }
 
 // A law's kind and numbers: kind 1 is ALINEA, kind 2 demand-capacity, and every other kind a fixed rate.
-#[derive(Drop)]
+#[derive(Clone, Copy)]
 struct LawParts {
     kind: u8,
     first: f64,
@@ -145,7 +145,7 @@ fn law_of(kind: u8, first: f64, second: f64, third: f64) -> Law
 }
 
 // Laws in columns, which can be lent: a kind and three numbers for each cell.
-#[derive(Drop)]
+#[derive(Clone, Copy)]
 pub struct LawColumns {
     pub kinds: [u8; 64],
     pub numbers: [f64; 192],

@@ -7,7 +7,7 @@ ghost use Rattle.model.specs.Refusals.{refusal_number};
 
 // Cell i of docs/MODEL.md is at i - 1 of each array; entries from n on belong to no cell.
 #[repr(C)]
-#[derive(Drop)]
+#[derive(Clone, Copy)]
 pub struct Road {
     pub n: usize,
     // The record's version, 1 or 2, and the step's length in seconds, which is 0 in version 1. No step depends on either.
@@ -27,7 +27,7 @@ pub struct Road {
 
 // Counts are in parts, times in part-steps.
 #[repr(C)]
-#[derive(Drop)]
+#[derive(Clone, Copy)]
 pub struct State {
     // Steps done since the start.
     pub done: usize,
@@ -140,7 +140,7 @@ fn together(a: u64, b: u64) -> u64
 
 // The start of a study: the gate's queue, held counts and the on-ramps' queues.
 #[repr(C)]
-#[derive(Drop)]
+#[derive(Clone, Copy)]
 pub struct Start {
     pub gate_queue: u32,
     pub held: [u32; 64],
@@ -169,7 +169,7 @@ impl Start {
 }
 
 // Why an operation was refused, in the order of the model's numbers.
-#[derive(Drop)]
+#[derive(Clone, Copy)]
 pub enum Refusal {
     None,
     Length,
@@ -240,7 +240,7 @@ impl Refusal {
 }
 
 // What stepping answers. The step is always 0: no rule of stepping names one.
-#[derive(Drop)]
+#[derive(Clone, Copy)]
 pub struct Stepped {
     pub refusal: Refusal,
     pub step: usize,
@@ -249,7 +249,7 @@ pub struct Stepped {
 }
 
 // What reading answers.
-#[derive(Drop)]
+#[derive(Clone, Copy)]
 pub struct Reading {
     pub refusal: Refusal,
     // The lowest place out of its limits (5), the first step whose row is out of them (6), and otherwise 0.
@@ -262,7 +262,7 @@ pub struct Reading {
 }
 
 // What writing answers.
-#[derive(Drop)]
+#[derive(Clone, Copy)]
 pub struct Written {
     pub refusal: Refusal,
     // The lowest place out of its limits (5), the first step whose row is out of them (6), and otherwise 0.
@@ -272,7 +272,7 @@ pub struct Written {
 }
 
 // What loading answers.
-#[derive(Drop)]
+#[derive(Clone, Copy)]
 pub struct Loaded {
     pub refusal: Refusal,
     // The generator's number after the last arrival; the seed if there is none.
@@ -280,7 +280,7 @@ pub struct Loaded {
 }
 
 // The answer of the search for releases that keep a wanted queue.
-#[derive(Drop)]
+#[derive(Clone, Copy)]
 pub enum Wanted {
     Refused(Refusal),
     // No table of releases keeps the wanted queue.
@@ -290,7 +290,7 @@ pub enum Wanted {
 
 // A refusal, or none, with its place: for a table of lanes, a row of releases or of outflows, a release put into a record, and for many
 // studies as a whole.
-#[derive(Drop)]
+#[derive(Clone, Copy)]
 pub struct Fault {
     pub refusal: Refusal,
     // For a release put into a record: the place of a refusal of reading, the cell given for 5, the step given for 6.
@@ -298,7 +298,7 @@ pub struct Fault {
 }
 
 // What running and judging answer: the road with the final state, or with the state before a refused step.
-#[derive(Drop)]
+#[derive(Clone, Copy)]
 pub struct Ended {
     pub refusal: Refusal,
     pub step: usize,
@@ -309,14 +309,14 @@ pub struct Ended {
 
 // Weights of waiting, 0 to 255: of the gate and each cell, gate first, and of each on-ramp's queue. Weights past cell n are not read.
 #[repr(C)]
-#[derive(Drop)]
+#[derive(Clone, Copy)]
 pub struct Weights {
     pub places: [u8; 65],
     pub ramps: [u8; 64],
 }
 
 // What a weighted run answers: running's answer, and the weighted sum of present over the steps done.
-#[derive(Drop)]
+#[derive(Clone, Copy)]
 pub struct Weighed {
     pub ended: Ended,
     pub weighted: u64,
@@ -366,7 +366,7 @@ impl Ended {
 // What a run with its longest queues answers: running's or filling's answer, and the longest queue of the gate and of each cell's on-ramp
 // after any step done, 0 if no step was done. `waiting` is the gate's without the step's arrivals: the most vehicles that were there
 // before a step and did not leave in it.
-#[derive(Drop)]
+#[derive(Clone, Copy)]
 pub struct Longest {
     pub ended: Ended,
     pub gate: u32,
@@ -375,7 +375,7 @@ pub struct Longest {
 }
 
 // What a run that goes on from a state answers: its answer with its longest queues, and its weighted total, both over the steps of its record.
-#[derive(Drop)]
+#[derive(Clone, Copy)]
 pub struct Tallied {
     pub longest: Longest,
     pub weighted: u64,
@@ -383,7 +383,7 @@ pub struct Tallied {
 
 // What filling goes on from: a state, and for the step before it each release and what entered each cell from upstream.
 #[repr(C)]
-#[derive(Drop)]
+#[derive(Clone, Copy)]
 pub struct Progress {
     pub state: State,
     pub releases: [u32; 64],
@@ -391,7 +391,7 @@ pub struct Progress {
 }
 
 // What filling that goes on answers: its answer with its longest queues, and the last releases and entries, from which the next filling goes on.
-#[derive(Drop)]
+#[derive(Clone, Copy)]
 pub struct FilledOn {
     pub longest: Longest,
     pub releases: [u32; 64],
@@ -399,14 +399,14 @@ pub struct FilledOn {
 }
 
 // ALINEA: a gain, and the target count of the cell.
-#[derive(Drop)]
+#[derive(Clone, Copy)]
 pub struct Alinea {
     pub gain: f64,
     pub target: f64,
 }
 
 // Demand-capacity: up to the critical count the wish is what remains of the capacity, above it the least rate.
-#[derive(Drop)]
+#[derive(Clone, Copy)]
 pub struct DemandCapacity {
     pub capacity: f64,
     pub critical: f64,
@@ -414,7 +414,7 @@ pub struct DemandCapacity {
 }
 
 // The meter law of a ramp; a fixed law has its rate.
-#[derive(Drop)]
+#[derive(Clone, Copy)]
 pub enum Law {
     Fixed(f64),
     Alinea(Alinea),

@@ -12,7 +12,7 @@ ghost use Rattle.model.specs.Stepping.{release_fault, releases_of};
 use model::{Fault, Refusal, Road, State};
 
 // What a state holds besides its columns: the steps done, the three times, the gate's queue and its F.
-#[derive(Drop)]
+#[derive(Clone, Copy)]
 pub struct Ledger {
     pub done: usize,
     pub gate_time: u64,

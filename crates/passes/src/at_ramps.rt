@@ -64,7 +64,7 @@ pub fn take_releases(
 }
 
 // The sum of all held counts, and of all ramp queues.
-#[derive(Drop)]
+#[derive(Clone, Copy)]
 pub struct Sums {
     pub on_road: u32,
     pub at_ramps: u64,

@@ -42,7 +42,7 @@ pub const DEMAND: usize = 3;
 pub const CAME: usize = 4;
 
 // The numbers of a road that are no columns.
-#[derive(Drop)]
+#[derive(Clone, Copy)]
 pub struct Size {
     pub n: usize,
     pub ramps: usize,

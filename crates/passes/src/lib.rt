@@ -138,7 +138,7 @@ pub fn next(
 }
 
 // What a step gives: its fault, or none and the ledger after it.
-#[derive(Drop)]
+#[derive(Clone, Copy)]
 pub struct Outcome {
     pub fault: Fault,
     pub ledger: Ledger,

@@ -10,7 +10,7 @@ ghost use Rattle.passes.specs.Outflows.{pass_of, SendRequires, SendGives};
 use crate::{CUMULATIVE, HELD, REST};
 
 // What a place sends in a step: its outflow, what enters the next cell, and the next remainder of b x F by 1,000.
-#[derive(Drop)]
+#[derive(Clone, Copy)]
 struct Flow {
     outflow: u32,
     entering: u32,

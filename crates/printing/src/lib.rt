@@ -27,7 +27,7 @@ pub fn room() -> [u8; TEXT] {
 }
 
 // A step that was made and put: its fault, or none, the ledger after it, and the index after its lines.
-#[derive(Drop)]
+#[derive(Clone, Copy)]
 struct Put {
     fault: Fault,
     ledger: Ledger,
