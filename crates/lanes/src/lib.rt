@@ -33,6 +33,7 @@ pub fn open_capacity(capacity: u32, built: u8, usable: u8) -> u32
 }
 
 // Whether a lane is built, and every open lane is built.
+#[tactic(auto, unfolding(model::specs::Lanes::lanes_ok))]
 pub fn lanes_ok(built: u8, usable: u8) -> bool
     ensures { result ≡ lanes_ok built usable }
 {
