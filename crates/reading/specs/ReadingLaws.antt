@@ -6,7 +6,7 @@ use borrow.Author.Tests.{eq-eqb, ne_eqb}
 use Rattle.model.specs.declared.Road.{Road}
 use Rattle.model.specs.declared.State.{State}
 use Rattle.model.specs.Road.{most_cells, most_steps, most_bytes}
-use Rattle.model.specs.Record.{version_of, seconds_of, number_size, row_numbers, row_size, row_start, number_of}
+use Rattle.model.specs.Record.{version_of, seconds_of, number_size, row_numbers, row_size, number_of}
 use Rattle.fields.specs.FieldsLaws.{HoldsRow, holds_row}
 use Rattle.model.specs.Numbers.{at, one_of, first_of, unless_first}
 use Rattle.model.specs.Limits.{place_ok, rates_ok, rates_at}
