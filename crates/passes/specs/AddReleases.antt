@@ -1,5 +1,5 @@
 -- The loop that adds each listed cell's release to its held count and stores the ramp's queue after the step. Assumes nothing.
-use Rattle.std.specs.Prelude.{◌≡◌, refl, List, ℕ, ◌+◌, ◌-◌, ◌*◌, ◌≤◌, ◌<◌, length, set, take}
+use Rattle.std.specs.Prelude.{◌≡◌, refl, List, ℕ, ◌+◌, ◌*◌, ◌≤◌, ◌<◌, length, set, take}
 use Rattle.std.proofs.Common.{sym, ap, subst, ◌∙◌, arith}
 use Rattle.model.specs.Numbers.{sum_of, fill_of, at}
 use Rattle.numbers.specs.SumLaws.{sum-start, sum-set}

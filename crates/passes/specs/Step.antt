@@ -1,9 +1,9 @@
 -- A step from a row's bytes: its fault, or its outflows, move and count. Assumes nothing.
-use Rattle.std.specs.Prelude.{◌≡◌, refl, Bool, true, false, List, ℕ, ◌+◌, ◌*◌, ◌≤◌, ◌<◌, length, set}
+use Rattle.std.specs.Prelude.{◌≡◌, refl, Bool, true, false, List, ℕ, ◌+◌, ◌*◌, ◌<◌, length, set}
 use Rattle.std.proofs.Math.Path.{sym, ap}
 use Rattle.std.proofs.Common.{◌∙◌}
 use native.Mathlib.Omega.{arith}
-use Rattle.model.specs.Numbers.{at, fill_of}
+use Rattle.model.specs.Numbers.{fill_of}
 use Rattle.numbers.specs.RowsLaws.{length-fill}
 use Rattle.model.specs.Refusals.{FaultAnswer, fault}
 use Rattle.model.specs.Road.{most_steps}
