@@ -1,6 +1,6 @@
 -- Laws in columns: a kind and three numbers for each cell. Assumes nothing.
-use Rattle.std.specs.Prelude.{◌≡◌, ℕ, ◌+◌, ◌*◌, ◌<◌, ◌≤◌, cond, List, length, get_or, ◌==◌, slice_index_or, slice_set, refl, Float}
-use Rattle.std.proofs.Common.{ap, ◌∙◌, ⊎_elim, eq-or-lt_of_le, arith, length-set, get_or-set_same, get_or-set_other}
+use Rattle.std.specs.Prelude.{◌≡◌, ℕ, ◌+◌, ◌*◌, ◌<◌, ◌≤◌, cond, List, length, get_or, ◌==◌, slice_index_or, slice_set, Float}
+use Rattle.std.proofs.Common.{◌∙◌, ⊎_elim, eq-or-lt_of_le, arith, length-set, get_or-set_same, get_or-set_other}
 use Rattle.std.specs.Float.{nan}
 use Rattle.model.specs.Numbers.{at}
 use Rattle.model.specs.Road.{most_cells}

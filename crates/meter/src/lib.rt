@@ -10,6 +10,7 @@ ghost use Rattle.meter.specs.LawColumns.{law_by, law_in, InColumns};
 use model::{Alinea, DemandCapacity, Law, Road};
 
 // ALINEA's wish: last release + gain × (target − held).
+#[tactic(auto, unfolding(model::specs::Meter::alinea_of))]
 fn alinea_wish(p: Alinea, last: u32, held: u32) -> f64
     ensures { result ≡ alinea_of p last held }
 {
@@ -28,6 +29,7 @@ fn capacity_wish(p: DemandCapacity, entered: u32, held: u32) -> f64
 }
 
 // The wish of a law, from the last release, what entered the cell from upstream in the last step, and the cell's held count.
+#[tactic(auto, unfolding(model::specs::Meter::wish_of))]
 pub fn wish(law: Law, last: u32, entered: u32, held: u32) -> f64
     ensures { result ≡ wish_of law last entered held }
 {
@@ -59,6 +61,7 @@ fn is_finite(x: f64) -> bool
 }
 
 // Whether each number of a law is finite.
+#[tactic(auto, unfolding(model::specs::Meter::law_finite))]
 fn law_finite(law: Law) -> bool
     ensures { result ≡ law_finite law }
 {
@@ -99,6 +102,7 @@ struct LawParts {
     third: f64,
 }
 
+#[tactic(auto, unfolding(crate::specs::LawColumns::law_by))]
 fn parts(law: Law) -> LawParts
     ensures { law_by result.kind result.first result.second result.third ≡ law }
 {
@@ -125,6 +129,7 @@ fn parts(law: Law) -> LawParts
 }
 
 // The law with a kind and its numbers.
+#[tactic(auto, unfolding(crate::specs::LawColumns::law_by))]
 fn law_of(kind: u8, first: f64, second: f64, third: f64) -> Law
     ensures { result ≡ law_by kind first second third }
 {
