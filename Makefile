@@ -5,15 +5,15 @@ PYTHON ?= /usr/bin/python3
 help: ## this list
 	@sed -n 's/^\([a-z]*\):.*## /  make \1\t/p' Makefile | expand -t 18
 
-prove: ## proves every crate that has changed since it was last proved
-	rt check
+prove: ## proves every crate, over what earlier checks have kept
+	rt all check
 
 test: ## tests everything except the proofs: reference, programs, C, Rust, Python, WebAssembly, the page in a browser
 	cargo test --quiet --offline --manifest-path reference/Cargo.toml
 	./run examples/printed-run.rec >/dev/null && ./run --exercise examples/printed-run.rec >/dev/null
 	bindings/check
 
-check: ## the checks that a change must pass before it lands: proofs from nothing, wrong programs, all tests; about half an hour
+check: ## the checks that a change must pass before it lands: proofs from nothing, wrong programs, all tests; an hour or more from nothing
 	.ci/run
 
 page: ## target/wasm/nobyaluk.html, one file for a browser

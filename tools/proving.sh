@@ -1,6 +1,7 @@
 # shellcheck shell=sh disable=SC2154
-# Shared by ./run, bindings/build and bindings/wasm/build: the one lock, the time that it takes, the lines of progress, and the prover's verdict on a
-# program or on the archive. They source it in the repository's root, in sh or bash, with `who` set to the word before their messages.
+# Shared by ./run, bindings/build, bindings/wasm/build and tools/build: the one lock, the time that it takes, the lines of progress, and what rt proves
+# and builds, which they keep in target/, this repository's own folder. They source it in the repository's root, in sh or bash, with `who` set to the
+# word before their messages. rt itself works in crates/NAME/out.
 
 # Waits until no other process proves and builds in this checkout, if flock is installed. The lock ends with the process that took it.
 lock() {
@@ -9,63 +10,127 @@ lock() {
     flock -n 9 || { echo "$who: another process proves and builds here; this one waits for it" >&2 && flock 9; }
 }
 
-# How long a first build takes: some eight minutes of one processor, shared by two. Measured on 17 November 2026.
+# Whether rt has built no library here yet.
+is_first() {
+    for stamp in crates/*/out/rlib/stamp; do
+        if [ -e "$stamp" ]; then return 1; fi
+    done
+}
+
+# How long a first build takes: rt proves one crate after the other, with as many as four processors.
 about() {
-    case $(nproc 2>/dev/null || echo 2) in
-    1) echo 'about eight minutes' ;;
-    2 | 3) echo 'about four minutes' ;;
-    *) echo 'two to four minutes' ;;
-    esac
+    echo 'about half an hour'
 }
 
 # estimate CRATE: prints what is proved and built now, and how long that takes.
 estimate() {
-    all=$(bindings/sources "$1" | grep -c '/src$')
-    proved=$(find target/stamp -type f 2>/dev/null) || true
-    if [ -z "$proved" ]; then
+    all=$(bindings/sources --crates "$1" | grep -c .)
+    if is_first; then
         echo "$who: the engine is proved and built first: $all crates, $(about)" >&2
     else
         echo "$who: what has changed of the engine's $all crates is proved and built first, $(about) at most" >&2
     fi
 }
 
-# progress CRATE LOG: reads rt's lines, adds them to LOG, and prints one for each crate as it is proved, with its place among all.
+# progress CRATE LOG: reads rt's lines, adds them to LOG, and prints one for each crate as it is proved: rt says nothing of those that have not changed.
 progress() {
-    all=$(bindings/sources "$1" | grep -c '/src$')
-    count=0
+    all=$(bindings/sources --crates "$1" | grep -c .)
+    count=0 now=$1
     while IFS= read -r line; do
         printf '%s\n' "$line" >>"$2"
-        case $line in "rt: "*" proved ("*) count=$((count + 1)) ;; esac
         case $line in
-        *"proved (unchanged"*) ;;
-        "rt: "*" proved ("*) echo "$who: crate $count of $all: ${line#rt: }" >&2 ;;
+        "rt: chose --jobs "*" for "*) now=${line##* for } ;;
+        "logic=proved "*)
+            count=$((count + 1))
+            echo "$who: crate $count of at most $all: $now proved" >&2
+            ;;
         esac
     done
 }
 
-# prove CRATE LOG [LEADER]: proves a crate, with progress. It fails, with rt's lines on standard error, if the crate is not proved.
-# LEADER starts rt: setsid gives it its own process group, whose number is in LOG.group, so that it can be ended with everything that it has started.
+# prove CRATE LOG [LEADER]: proves and builds a program, which rt also runs once on nothing, or a library, with progress. It fails, with rt's lines on
+# standard error, if the crate is not proved. LEADER starts rt: setsid gives it its own process group, whose number is in LOG.group, so that it can be
+# ended with everything that it has started.
 prove() {
     rm -f "$2.failed"
     : >"$2"
+    # without rt's stamp it proves the program again, over what it has kept, and says the verdict
+    grep -qs '^logic=proved ' "target/log/$1.out" || rm -f "crates/$1/out/$1.stamp"
     {
-        if [ -n "${3:-}" ]; then
-            "$3" rt check "$1" </dev/null 2>&1 &
-            echo "$!" >"$2.group"
-            wait "$!"
+        if [ -e "crates/$1/src/main.rt" ]; then
+            # rt's lines come on standard error, the program's on standard output
+            (cd "crates/$1" && exec ${3:+"$3"} rt run </dev/null 2>&1 >/dev/null) &
         else
-            rt check "$1" </dev/null 2>&1
-        fi || echo "$?" >"$2.failed"
+            (cd "crates/$1" && exec ${3:+"$3"} rt lib </dev/null 2>&1) &
+        fi
+        echo "$!" >"$2.group"
+        wait "$!" || echo "$?" >"$2.failed"
     } | progress "$1" "$2"
     if [ ! -e "$2.failed" ]; then return 0; fi
     cat "$2" >&2
     return 1
 }
 
-# prove_archive LOG: proves exports and makes target/staticlib/libexports.a. The verdict is printed and kept in target/staticlib/proved.
-prove_archive() {
-    rt staticlib exports >"$1" 2>&1 </dev/null || { cat "$1" >&2 && return 1; }
-    if grep 'axioms=[1-9]' "$1" >&2; then echo "$who: the archive assumes what C functions do" >&2 && return 1; fi
-    grep '^logic=proved .*target=x86_64' "$1" >target/staticlib/proved || { echo "$who: rt does not say that the archive is proved" >&2 && return 1; }
+# over_libraries VERB CRATE WORD...: the prover itself, called as rt calls it, over the crate's libraries as they are built; rt takes no other toolchain,
+# and after `rt ci` it would prove these libraries once more.
+over_libraries() {
+    verb=$1 crate=$2
+    shift 2
+    kit=$(dirname "$(dirname "$(readlink -f "$(command -v rt)")")")
+    top=lib
+    if [ -e "crates/$crate/src/main.rt" ]; then top=main; fi
+    set -- "$verb" --crate-name "$crate" "src/$top.rt" --extern "std=$kit/rlibs/std.rlib" -L "dependency=$kit/rlibs" \
+        --antt-project "$kit/rattle/logic/antt-project.json" --logic-built "$kit/logic_built" --jobs 2 --links "$crate=" "$@"
+    for library in $(bindings/sources --libraries "$crate"); do
+        if [ -d "crates/$library" ]; then
+            set -- "$@" --extern "$library=../$library/out/rlib/$library.rlib"
+        else
+            set -- "$@" --extern "$library=$kit/rlibs/$library.rlib"
+        fi
+    done
+    for library in $(bindings/sources --crates "$crate"); do
+        if [ "$library" != "$crate" ]; then set -- "$@" -L "dependency=../$library/out/rlib"; fi
+    done
+    (cd "crates/$crate" && exec "$kit/bin/rattle" "$@")
+}
+
+# Whether `rt ci` has just proved every crate, as NOBYALUK_PROVED says, and its libraries are those that lie here: it proves from nothing and leaves them
+# without a stamp, but it puts those of an earlier `rt check` or `rt lib` back, which may be of other sources.
+is_proved() {
+    [ -n "${NOBYALUK_PROVED:-}" ] && is_first
+}
+
+# make_archive LOG TOOLCHAIN: proves exports over its libraries and makes target/staticlib/libexports.a by this toolchain.
+make_archive() {
+    mkdir -p target/staticlib
+    kept='--incremental out/incremental'
+    if is_proved; then kept=''; fi
+    # shellcheck disable=SC2086
+    over_libraries build exports --crate-type staticlib --backend llvm --toolchain "$2" $kept -o "$PWD/target/staticlib/libexports.a" >"$1" 2>&1 </dev/null ||
+        { cat "$1" >&2 && return 1; }
+    keep_verdict "$1"
+}
+
+# keep_archive LOG: puts the archive that `rt lib` has made into target/staticlib.
+keep_archive() {
+    mkdir -p target/staticlib
+    cp crates/exports/out/libexports.a target/staticlib/libexports.a.new
+    mv target/staticlib/libexports.a.new target/staticlib/libexports.a
+    keep_verdict "$1"
+}
+
+# keep_verdict LOG: the verdict on the archive, the last one of the log, is printed and kept in target/staticlib/proved.
+keep_verdict() {
+    if grep '^logic=.*axioms=[1-9]' "$1" >&2; then echo "$who: the archive assumes what C functions do" >&2 && return 1; fi
+    grep '^logic=proved ' "$1" | tail -n 1 | grep ' target=x86_64' >target/staticlib/proved || { echo "$who: rt does not say that the archive is proved" >&2 && return 1; }
     cat target/staticlib/proved
+}
+
+# keep_program NAME LOG SUM: puts a program that is proved and built into target/bin, its verdict into target/log, and into target/run the sum of its
+# sources and its own, by which ./run knows it. Where rt found nothing to prove, the verdict of before stays.
+keep_program() {
+    mkdir -p target/bin target/log target/run
+    cp "crates/$1/out/$1" "target/bin/$1.new" && mv "target/bin/$1.new" "target/bin/$1" || return 1
+    if grep -q '^logic=proved ' "$2"; then grep '^logic=proved ' "$2" | tail -n 1 >"target/log/$1.out"; fi
+    printf '%s\n' "$3" "$(cksum <"target/bin/$1")" >"target/run/$1.new" && mv "target/run/$1.new" "target/run/$1"
 }

@@ -18,7 +18,7 @@ fn main() {
         // files that this script writes are not watched, or it would run at every build
         None => proved(),
     };
-    // a copy, since `rt ci` removes the repository's target/
+    // a copy, since the repository's target/ may be removed
     copy(&built, &out.join("libexports.a"));
     println!("cargo:rustc-link-search=native={}", out.display());
     println!("cargo:rustc-link-lib=static=exports");
