@@ -9,8 +9,8 @@ import subprocess
 import pytest
 from test_cli import checkout  # noqa: F401
 
-FIRST = re.compile(r"nobyaluk: the engine is proved and built first: 2 crates, (about four|about eight|two to four) minutes\r?\n")
-CRATE = "nobyaluk: crate 1 of 2: rows proved (1 s)"
+FIRST = re.compile(r"nobyaluk: the engine is proved and built first: 2 crates, about half an hour\r?\n")
+CRATE = "nobyaluk: crate 1 of at most 2: rows proved"
 
 
 def at_a_terminal(command, env, folder):
@@ -42,10 +42,10 @@ def proving(checkout):  # noqa: F811
 def test_an_estimate_at_the_first_build_alone(proving):
     there, env, calls, prove = proving
     out = prove()
-    assert out.returncode == 0 and FIRST.match(out.stderr) and CRATE in out.stderr and calls.read_text() == "check exports\nstaticlib exports\n"
-    (there / "target/stamp").mkdir()
-    (there / "target/stamp/rows").write_text("")
-    assert re.match(r"nobyaluk: what has changed of the engine's 2 crates is proved and built first, .* minutes at most\n", prove().stderr)
+    assert out.returncode == 0 and FIRST.match(out.stderr) and CRATE in out.stderr and calls.read_text() == "lib\n"
+    (there / "crates/rows/out/rlib").mkdir(parents=True)
+    (there / "crates/rows/out/rlib/stamp").write_text("")
+    assert re.match(r"nobyaluk: what has changed of the engine's 2 crates is proved and built first, .* at most\n", prove().stderr)
 
 
 def test_the_archive_is_built_by_one_at_a_time(proving):
@@ -53,7 +53,7 @@ def test_the_archive_is_built_by_one_at_a_time(proving):
     both = [subprocess.Popen([there / "bindings/build"], env=env, stderr=subprocess.PIPE, text=True) for _ in range(2)]
     said = [p.communicate()[1] for p in both]
     assert [p.returncode for p in both] == [0, 0] and (there / "target/staticlib/libexports.a").exists()
-    assert sum("another process proves and builds here; this one waits for it" in x for x in said) == 1 and calls.read_text() == "check exports\nstaticlib exports\n" * 2
+    assert sum("another process proves and builds here; this one waits for it" in x for x in said) == 1 and calls.read_text() == "lib\n" * 2
 
 
 def test_what_fails_is_shown(proving, tmp_path):
@@ -75,7 +75,7 @@ def test_cargo_shows_each_crate(root, proving, tmp_path):
     env = {**env, "PATH": f"{env['PATH']}:{os.path.expanduser('~/.cargo/bin')}", "TERM": "xterm", "CARGO_TARGET_DIR": str(tmp_path / "cargo")}
     shown, status = at_a_terminal(["cargo", "build", "--offline", "--lib"], env, there / "bindings/rust")
     assert status == 0 and FIRST.search(shown) and CRATE in shown and shown.index(CRATE) < shown.index("Finished"), shown
-    assert calls.read_text() == "check exports\nstaticlib exports\n"
+    assert calls.read_text() == "lib\n"
     (tmp_path / "bin/rt").write_text("#!/bin/sh\necho 'rt: rows does not prove'\nexit 1\n")
     (there / "crates/rows/src/lib.rt").write_text("// changed\n")
     out = subprocess.run(["cargo", "build", "--offline", "--lib"], env=env, cwd=there / "bindings/rust", capture_output=True, text=True)
@@ -84,4 +84,4 @@ def test_cargo_shows_each_crate(root, proving, tmp_path):
 
 def test_the_pages_build_proves_by_the_same_script(root):
     build = (root / "bindings/wasm/build").read_text()
-    assert build.index("\nestimate exports\n") < build.index("\nprove exports ") < build.index("prove_archive")
+    assert build.index("    estimate exports\n") < build.index("    prove exports ") < build.index("\nmake_archive ")

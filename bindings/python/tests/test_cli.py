@@ -265,8 +265,8 @@ def checkout(root, tmp_path):
         (there / f"crates/{crate}/src/lib.rt").write_text("")
     archive, bin = root / "target/staticlib/libexports.a", tmp_path / "bin"
     bin.mkdir()
-    (bin / "rt").write_text(f'#!/bin/sh\necho "$@" >>"{tmp_path}/calls"\nsleep 0.5\ncase $1 in\ncheck) echo "rt: rows proved (1 s)" ;;\n'
-                            f'staticlib) mkdir -p target/staticlib && cp "{archive}" target/staticlib/ && echo "logic=proved target=x86_64" ;;\nesac\n')
+    (bin / "rt").write_text(f'#!/bin/sh\necho "$@" >>"{tmp_path}/calls"\nsleep 0.5\necho "rt: chose --jobs 2 for rows"\necho "logic=proved functions=1"\n'
+                            f'mkdir -p out && cp "{archive}" out/libexports.a && echo "logic=proved functions=1 target=x86_64"\n')
     (bin / "rt").chmod(0o755)
     if not archive.exists() or not shutil.which("cc"):
         pytest.skip("no archive, or no compiler to link it")
@@ -284,17 +284,17 @@ def test_front_door(checkout, tmp_path):
     both = [start(), start()]
     told = [p.communicate() for p in both]
     assert [p.returncode for p in both] == [0, 0] and all("170.32 vehicle-hours" in out for out, _ in told)
-    assert calls.read_text() == "check exports\nstaticlib exports\n"
+    assert calls.read_text() == "lib\n"
     said = "".join(err for _, err in told)
-    assert re.search("nobyaluk: the engine is proved and built first: 2 crates, (about|two to) [a-z]+ minutes\n", said)
-    assert "nobyaluk: crate 1 of 2: rows proved (1 s)" in said and "another process proves and builds here; this one waits for it" in said
+    assert re.search("nobyaluk: the engine is proved and built first: 2 crates, about half an hour\n", said)
+    assert "nobyaluk: crate 1 of at most 2: rows proved" in said and "another process proves and builds here; this one waits for it" in said
     again = subprocess.run(command, cwd=tmp_path, env=env, capture_output=True, text=True)
-    assert again.returncode == 0 and again.stderr == "" and calls.read_text().count("\n") == 2
+    assert again.returncode == 0 and again.stderr == "" and calls.read_text().count("\n") == 1
     shown = subprocess.run([there / "nobyaluk", "new", "my road"], cwd=tmp_path, env=env, capture_output=True, text=True).stdout.splitlines()
     assert shown[1] == f"  '{there}/nobyaluk' run 'my road/road.toml'"  # a command to copy, as this one was called
     assert subprocess.run(shown[1], shell=True, cwd=tmp_path, env=env, capture_output=True).returncode == 0
     (there / "crates/edges/src/lib.rt").write_text("// changed\n")  # not part of the engine
-    assert subprocess.run(command, cwd=tmp_path, env=env, capture_output=True).returncode == 0 and calls.read_text().count("\n") == 2
+    assert subprocess.run(command, cwd=tmp_path, env=env, capture_output=True).returncode == 0 and calls.read_text().count("\n") == 1
     (there / "crates/rows/src/lib.rt").write_text("// changed\n")
     without = {**env, "PATH": "/usr/bin:/bin"}
     out = subprocess.run(command, cwd=tmp_path, env=without, capture_output=True, text=True)

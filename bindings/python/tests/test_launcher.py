@@ -142,7 +142,7 @@ def built(checkout):  # noqa: F811
     def call(folder=there, **more):
         return subprocess.run([folder / "nobyaluk", "run", folder / "examples/studies/five-cells.toml"], env={**env, **more}, capture_output=True, text=True)
 
-    assert call().returncode == 0 and calls.read_text().count("\n") == 2
+    assert call().returncode == 0 and calls.read_text().count("\n") == 1
     return there, call, lambda: calls.read_text().count("\n")
 
 
@@ -151,7 +151,7 @@ def test_any_folder(built, tmp_path, name):
     there, call, calls = built
     there.rename(tmp_path / name)
     out = call(tmp_path / name, PATH="/usr/bin:/bin")
-    assert out.returncode == 0 and "170.32 vehicle-hours" in out.stdout and calls() == 2, out.stderr
+    assert out.returncode == 0 and "170.32 vehicle-hours" in out.stdout and calls() == 1, out.stderr
 
 
 def test_dates_are_no_changes(built):
@@ -161,21 +161,21 @@ def test_dates_are_no_changes(built):
     for date in (time.time() + 86_400, time.time() + 1, 0):
         os.utime(source, (date, date))
         out = call(PATH="/usr/bin:/bin")
-        assert (out.returncode, out.stderr) == (0, "") and calls() == 2
+        assert (out.returncode, out.stderr) == (0, "") and calls() == 1
     source.write_text("// changed\n")
     os.utime(source, (0, 0))
-    assert call().returncode == 0 and calls() == 4
-    assert call().returncode == 0 and calls() == 4
+    assert call().returncode == 0 and calls() == 2
+    assert call().returncode == 0 and calls() == 2
     (there / "crates/rows/specs").mkdir()
     (there / "crates/rows/specs/New.antt").touch()
-    assert call().returncode == 0 and calls() == 6
+    assert call().returncode == 0 and calls() == 3
 
 
 def test_a_library_cut_short_is_built_again(built):
     there, call, calls = built
     library = there / "target/bindings/libnobyaluk.so"
     library.write_bytes(library.read_bytes()[:5000])
-    assert call().returncode == 0 and calls() == 4
+    assert call().returncode == 0 and calls() == 2
 
 
 def test_a_change_during_the_build_is_seen(checkout):  # noqa: F811
@@ -186,7 +186,7 @@ def test_a_change_during_the_build_is_seen(checkout):  # noqa: F811
         time.sleep(0.02)
     (there / "crates/rows/src/lib.rt").write_text("// changed\n")
     assert first.wait() == 0
-    assert subprocess.run(command, env=env, capture_output=True).returncode == 0 and calls.read_text().count("\n") == 4
+    assert subprocess.run(command, env=env, capture_output=True).returncode == 0 and calls.read_text().count("\n") == 2
 
 
 @pytest.mark.parametrize("number, status", [(signal.SIGTERM, 143), (signal.SIGINT, 130), (signal.SIGHUP, 129)])
