@@ -22,7 +22,7 @@ use Rattle.model.specs.Record.{record_row}
 use Rattle.model.specs.declared.Law.{Law}
 use Rattle.meter.specs.LawColumns.{InColumns}
 use Rattle.theory.specs.Roads.{StepRoad, step_row}
-use Rattle.theory.specs.RunsLaws.{StudyOk, ReachedState, StepOf, step-input, step-sized, step_left}
+use Rattle.theory.specs.RunsLaws.{ReachedState, StepOf, step-input, step-sized, step_left}
 use Rattle.model.specs.Filling.{MeterState, meter_state, granted_at, filled_row, metered_of}
 use Rattle.model.specs.Put.{put_releases, put_table}
 use Rattle.put.specs.ReleasesLaws.{PutTable, put-table}

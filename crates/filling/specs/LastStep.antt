@@ -1,7 +1,7 @@
 -- What the last step of filling leaves for a further record: its releases, which are in the record, and what entered each cell. Assumes nothing.
-use Rattle.std.specs.Prelude.{◌≡◌, length, take, drop}
+use Rattle.std.specs.Prelude.{◌≡◌, length, drop}
 use Rattle.std.proofs.Math.Path.{refl, sym, ap, subst⁻¹}
-use Rattle.std.proofs.Common.{◌∙◌, add-one, le_refl, arith, drop_at, get_or-take}
+use Rattle.std.proofs.Common.{◌∙◌, add-one, le_refl, arith, drop_at}
 use mathlib.Core.List.{List, ◌++◌}
 use Prim.Native.Nat.{ℕ, zero, suc, ◌+◌, ◌-◌, ◌*◌, ◌≤◌, ◌<◌}
 use Rattle.model.specs.Numbers.{at, fill_of, list_of, row_at}
@@ -16,14 +16,13 @@ use Rattle.model.specs.declared.State.{State}
 use Rattle.model.specs.declared.Law.{Law}
 use Rattle.model.specs.Flow.{release_at, share_at, cumulative_at, entering_at}
 use Rattle.model.specs.Move.{next_of}
-use Rattle.model.specs.Schedules.{Study, road_at, outflows_of, outflows_at, places, table_size}
-use Rattle.limits.specs.LimitsLaws.{RowOk}
+use Rattle.model.specs.Schedules.{Study, road_at, outflows_of, outflows_at}
 use Rattle.model.specs.Record.{record_row}
 use Rattle.fields.specs.FieldsLaws.{HoldsRow}
 use Rattle.theory.specs.RulesLaws.{Sized, length-outflows}
 use Rattle.theory.specs.MoveLaws.{next-cumulative}
 use Rattle.theory.specs.Roads.{step-alike, step_row, sized-alike}
-use Rattle.theory.specs.RunsLaws.{StudyOk, schedule-sized, engine-schedule}
+use Rattle.theory.specs.RunsLaws.{StudyOk}
 use Rattle.model.specs.Filling.{MeterState, meter_state, granted_at, filled_row, metered_of}
 use Rattle.model.specs.Put.{put_table, released_row}
 use Rattle.ramps.specs.RampsLaws.{filled-release}
