@@ -20,27 +20,27 @@ def cited(tool, text, *uses):
 
 
 def test_a_name_of_an_import(tool):
-    assert cited(tool, "r ≡ demandOf speed (s .held)", "ghost use Rattle·model.specs.Flow.{demandOf, held};") == {(FLOW, "demandOf")}
+    assert cited(tool, "r ≡ demand_of speed s.held", "ghost use Rattle.model.specs.Flow.{demand_of, held};") == {(FLOW, "demand_of")}
 
 
 def test_under_another_name(tool):
     """`use x as y`, of a definition and of its file."""
-    assert cited(tool, "r ≡ wish speed", "use Rattle·model.specs.Flow.{demandOf as wish}") == {(FLOW, "demandOf")}
-    assert cited(tool, "r ≡ flows.demandOf speed", "ghost use Rattle·model.specs.Flow as flows;") == {(FLOW, "demandOf")}
+    assert cited(tool, "r ≡ wish speed", "use Rattle.model.specs.Flow.{demand_of as wish}") == {(FLOW, "demand_of")}
+    assert cited(tool, "r ≡ flows.demand_of speed", "ghost use Rattle.model.specs.Flow as flows;") == {(FLOW, "demand_of")}
 
 
 def test_an_import_over_several_lines(tool):
-    assert cited(tool, "r ≡ roomOf speed", "use Rattle·model.specs.Flow.{", "    demandOf,", "    roomOf,", "}") == {(FLOW, "roomOf")}
+    assert cited(tool, "r ≡ room_of speed", "use Rattle.model.specs.Flow.{", "    demand_of,", "    room_of,", "}") == {(FLOW, "room_of")}
 
 
 @pytest.mark.parametrize("line", [
-    "use Rattle·model.specs.Flow",
-    "use Rattle·model.specs.Flow.*",
-    "use Rattle·model.specs.One.Flow.{demandOf}",
-    "use Rattle·model.proofs.step.Met.{met}",
-    "ghost use Rattle·model.specs.",
-    "use Rattle·model.specs.Flow.{demandOf hiding roomOf}",
-    "use model::{Road, State};",
+    "use Rattle.model.specs.Flow",
+    "use Rattle.model.specs.Flow.*",
+    "use Rattle.model.specs.One.Flow.{demand_of}",
+    "use Rattle.model.proofs.step.Met.{met}",
+    "ghost use Rattle.model.specs.",
+    "use Rattle.model.specs.Flow.{demand_of hiding room_of}",
+    "use model::*;",
 ])
 def test_an_import_that_it_cant_read(tool, line):
     with pytest.raises(SystemExit, match="can't read"):
@@ -49,22 +49,23 @@ def test_an_import_that_it_cant_read(tool, line):
 
 def test_what_the_facade_passes_on(tool):
     assert list(tool.reexports("pub use stepping::step;\nuse model::Road;\n// pub use x::{f};\n")) == [("stepping", "step")]
-    for line in ("pub use stepping::{step};", "pub use stepping::step as onward;", "pub use stepping::*;", "pub use stepping::{\n    step,\n};"):
+    assert list(tool.reexports("pub use stepping::{\n    step, Walk,\n    wait,\n};\n")) == [("stepping", "step"), ("stepping", "Walk"), ("stepping", "wait")]
+    for line in ("pub use stepping::step as onward;", "pub use stepping::*;", "pub use stepping::{step as onward};", "pub use stepping::{one::step};"):
         with pytest.raises(SystemExit, match="can't read"):
             list(tool.reexports(line))
 
 
 def test_operators(tool):
-    use = "use Rattle·model.specs.Flow.{_⊕_, if_then_else_, demandOf}"
-    assert cited(tool, "r ≡ a ⊕ b", use) == {(FLOW, "_⊕_")}
-    assert cited(tool, "r ≡ (if a then b else c)", use) == {(FLOW, "if_then_else_")}
+    use = "use Rattle.model.specs.Flow.{◌⊕◌, if◌then◌else◌, demand_of}"
+    assert cited(tool, "r ≡ a ⊕ b", use) == {(FLOW, "◌⊕◌")}
+    assert cited(tool, "r ≡ (if a then b else c)", use) == {(FLOW, "if◌then◌else◌")}
     assert cited(tool, "r ≡ a", use) == set()
 
 
 def test_after_a_binder_without_a_space(tool):
-    use = "use Rattle·model.specs.Flow.{demandOf, roomOf}"
-    assert cited(tool, "λ y.demandOf y", use) == {(FLOW, "demandOf")}
-    assert cited(tool, "s .demandOf", use) == set()
+    use = "use Rattle.model.specs.Flow.{demand_of, room_of}"
+    assert cited(tool, "λ y.demand_of y", use) == {(FLOW, "demand_of")}
+    assert cited(tool, "s.demand_of", use) == cited(tool, "(g s).demand_of", use) == set()
 
 
 HYPOTHESES = """module _ (n : ℕ)
@@ -90,15 +91,15 @@ def test_hypotheses_of_a_module(tool):
 
 
 @pytest.mark.parametrize("clause", [
-    "    ensures { λ r. ⌜ r ≡ demandOf x ⌝ }\n{\n    1\n}\n",
-    "    ensures {\n        λ r. ⌜ r ≡ demandOf x ⌝\n    }\n{\n    1\n}\n",
-    "    ensures answer\n    { λ r. demandOf x }\n{\n    1\n}\n",
-    "    requires { ⌜ x ≡ 0 ⌝ }\n    // { a comment\n    ensures { λ r. record { number = demandOf x } }\n{\n    roomOf(1)\n}\n",
+    "    ensures { result ≡ demand_of x }\n{\n    1\n}\n",
+    "    ensures {\n        result ≡ demand_of x\n    }\n{\n    1\n}\n",
+    "    ensures answer\n    { result ≡ demand_of x }\n{\n    1\n}\n",
+    "    requires { x ≡ 0 }\n    // { a comment\n    ensures { result ≡ record { number = demand_of x } }\n{\n    room_of(1)\n}\n",
 ])
 def test_a_contract_however_it_is_broken(tool, clause):
     for head in ("pub fn f(x: u32) -> u32\n", 'pub extern "C" fn f<\'a>(\n    x: &\'a [u32; 4],\n) -> [u32; 129]\n'):
         [(name, facts)] = tool.heads(head + clause)
-        assert name == "f" and "demandOf" in facts and "roomOf" not in facts
+        assert name == "f" and "demand_of" in facts and "room_of" not in facts
 
 
 def test_a_contract_that_it_cant_read(tool):
