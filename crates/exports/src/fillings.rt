@@ -30,7 +30,7 @@ pub extern "C" fn nobyaluk_fill(
         (filling_of (laws_of kinds.now numbers.now) bytes.old lanes.now list.old) }
     ensures releases { OnlyReleases bytes.old bytes.new }
 {
-    let given = crate::ramps::laws(kinds, numbers);
+    let given = crate::metering::laws(kinds, numbers);
     let e = freeway::fill(bytes, given, lanes, list);
     crate::ended(e)
 }
@@ -56,7 +56,7 @@ pub extern "C" fn nobyaluk_fill_longest(
         (filling_of (laws_of kinds.now numbers.now) bytes.old lanes.now list.old) }
     ensures releases { OnlyReleases bytes.old bytes.new }
 {
-    let given = crate::ramps::laws(kinds, numbers);
+    let given = crate::metering::laws(kinds, numbers);
     let a = freeway::fill_longest(bytes, given, lanes, list);
     crate::longest(a)
 }
@@ -82,7 +82,7 @@ pub extern "C" fn nobyaluk_fill_on(
     ensures state { result.longest.ended.state
         ≡ (progress_on (laws_of kinds.now numbers.now) bytes.old lanes.now (progressed from) list.old).state }
 {
-    let given = crate::ramps::laws(kinds, numbers);
+    let given = crate::metering::laws(kinds, numbers);
     let a = freeway::fill_on(bytes, given, lanes, from, list);
     let told = a.longest;
     let releases = a.releases;

@@ -61,7 +61,7 @@ pub extern "C" fn nobyaluk_fill_many(
         ≡ fill_answers (laws_of kinds.now numbers.now) bytes.old lanes.now arrivals.now list.old
         answers.old }
 {
-    let given = crate::ramps::laws(kinds, numbers);
+    let given = crate::metering::laws(kinds, numbers);
     let a = freeway::fill_many(bytes, given, lanes, arrivals, list, answers);
     many_of(a)
 }

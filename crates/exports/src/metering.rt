@@ -121,6 +121,7 @@ fn kind_at(kinds: &[u8], i: usize) -> u8
     0
 }
 
+#[tactic(auto, unfolding(crate::specs::Laws::law_of))]
 pub(crate) fn law(kind: u8, first: f64, second: f64, third: f64) -> Law
     ensures { result ≡ law_of kind first second third }
 {
