@@ -43,8 +43,13 @@ fn proved() -> PathBuf {
         .join("../..")
         .canonicalize()
         .unwrap();
-    for name in ["crates", "crates.txt"] {
-        println!("cargo:rerun-if-changed={}", root.join(name).display());
+    // not crates/NAME/out, where rt writes
+    let mut watched = vec![root.join("crates.txt")];
+    for part in fs::read_dir(root.join("crates")).unwrap().flatten() {
+        watched.extend(["src", "specs", "proofs"].map(|x| part.path().join(x)));
+    }
+    for path in watched.iter().filter(|x| x.exists()) {
+        println!("cargo:rerun-if-changed={}", path.display());
     }
     let mut build = Command::new(root.join("bindings/build"))
         .stdin(Stdio::null())
