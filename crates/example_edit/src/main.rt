@@ -1,7 +1,6 @@
 // Reads a record, changes a release, writes the record, and prints the run of each, by the call that docs/API.md shows.
 #![tactic(auto)]
 
-
 fn show(label: &[u8], value: u64) {
     io::write_all(1, label);
     io::print_decimal(1, value);
