@@ -1,5 +1,5 @@
 -- docs/MODEL.md, 'Many studies': one record, the arrivals of each study put into it in turn, and an entry of numbers per study. Assumes nothing.
-use Rattle.std.specs.Prelude.{List, [], ◌∷◌, ℕ, zero, suc, ◌+◌, ◌*◌, ◌-◌, ◌/◌, ◌%◌, min, leb, eqb, length}
+use Rattle.std.specs.Prelude.{List, ◌∷◌, ℕ, zero, suc, ◌+◌, ◌*◌, ◌-◌, ◌/◌, ◌%◌, min, leb, eqb, length}
 use Rattle.model.specs.declared.Law.{Law}
 use Rattle.model.specs.Numbers.{at, unless, row_at, front_of}
 use Rattle.model.specs.Road.{most_long, total_of}

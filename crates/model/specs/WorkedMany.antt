@@ -15,7 +15,7 @@ use Rattle.model.specs.Running.{end_of, opening_of, running_of, list_after}
 use Rattle.model.specs.Meter.{alinea_of, wish_of, whole_below, law_finite, law_ok, law_fault_of}
 use Rattle.model.specs.Filling.{release_of, granted_at, filled_row, metered_of}
 use Rattle.model.specs.Put.{put_releases, put_table, released_row}
-use Rattle.model.specs.Filling.{metered_from, filled_bytes, filling_of, record_after, filled_list}
+use Rattle.model.specs.Filling.{metered_from, filled_bytes, filling_of, record_after}
 use Rattle.model.specs.Longest.{maximum_of as longest_one, longest_of, longest_run, longest_fill}
 use Rattle.model.specs.Many.{put_arrivals, put_arrival_rows, answer_entry, many_fault, run_answers, list_after_runs, run_lists, record_after_runs, run_record}
 use Rattle.model.specs.Many.{fill_answers, record_after_fillings, fill_record}

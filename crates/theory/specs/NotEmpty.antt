@@ -8,7 +8,8 @@ use Rattle.model.specs.WorkedRecord.{sample}
 use Rattle.model.specs.Running.{list_after}
 use Rattle.model.specs.Demand.{Ahead, Reaches}
 use Rattle.theory.specs.DemandWhole.{demand-and-grounds}
-use Rattle.model.specs.WorkedSchedule.{still, both, works, both-closed}
+use Rattle.model.specs.WorkedSchedule.{still, works}
+use Rattle.model.proofs.WorkedSchedule.{both, both-closed}
 
 -- the schedule reaches all three steps
 pub still-reaches : Reaches (study_of sample []) still 3
