@@ -1,15 +1,15 @@
 -- Laws of arrivals put into a record: only their own bytes change, and the arrivals that were there before don't matter. Assumes nothing.
-use Rattle.std.specs.Prelude.{◌≡◌, refl, List, ℕ, zero, suc, ◌+◌, ◌-◌, ◌*◌, ◌≤◌, ◌<◌, length}
+use Rattle.std.specs.Prelude.{◌≡◌, refl, List, ℕ, zero, suc, ◌+◌, ◌-◌, ◌≤◌, ◌<◌, length}
 use Rattle.std.proofs.Common.{sym, ap, ◌∙◌, ⊎_elim, inl, inr, not-suc-le-zero, eq-or-lt_of_le, le_of_suc-le-suc, le_refl, arith, ext_get_or}
 use Rattle.model.specs.Numbers.{at, placed}
 use Rattle.numbers.specs.Tests.{order}
 use Rattle.numbers.specs.PlacedText.{length-placed}
-use Rattle.model.specs.Record.{number_size, version_offset, version_of, row_size, row_start, bytes_of, entry_start, entry_of}
+use Rattle.model.specs.Record.{number_size, version_offset, version_of, row_start, bytes_of, entry_start, entry_of}
 use Rattle.fields.specs.FieldsLaws.{HoldsRow, row_within}
 use Rattle.fields.specs.BytesLaws.{length-bytes, number_same}
 use Rattle.model.specs.Put.{put_entry, release_number}
 use Rattle.model.specs.Put.{Outside}
-use Rattle.put.specs.Bytes.{compare, apart-outside, placed-other, placed_at, byte-other, number-apart}
+use Rattle.put.specs.Bytes.{compare, placed-other, placed_at, byte-other, number-apart}
 use Rattle.model.specs.Many.{arrival_number, put_arrivals, put_arrival_rows}
 
 -- where the arrivals of place p are in the row of step t

@@ -8,9 +8,8 @@ use Rattle.numbers.specs.Zeros.{length-zeros}
 use Rattle.model.specs.Road.{zeros, most_long, total_of}
 use Rattle.model.specs.Move.{present_of, exits_of}
 use Rattle.model.specs.Running.{EndAnswer}
-use Rattle.model.specs.Longest.{Queues, queues_of}
+use Rattle.model.specs.Longest.{queues_of}
 use Rattle.model.specs.Many.{entry_size, answer_entry}
-use Rattle.many.specs.Studies.{length-entry}
 
 -- a list stored number by number over another of the same length
 fill-whole : (l start : List ℕ) (m : ℕ) → length l ≡ m → length start ≡ m → fill_of (at l) m start ≡ l

@@ -1,29 +1,29 @@
 -- The record that filling leaves for the next study: everything before the rows is unchanged, and its releases are within the limits.
 -- With the arrivals of a study it reads as the record given does with them, also if that is a refusal. Assumes nothing.
-use Rattle.std.specs.Prelude.{◌≡◌, refl, Bool, true, ◌&&◌, List, ℕ, ◌+◌, ◌*◌, ◌≤◌, ◌<◌, length}
+use Rattle.std.specs.Prelude.{◌≡◌, refl, true, ◌&&◌, List, ℕ, ◌+◌, ◌*◌, ◌≤◌, ◌<◌, length}
 use Rattle.std.proofs.Math.Path.{sym, ap}
-use Rattle.std.proofs.Common.{◌∙◌, inl, mul-le-mul_right, arith}
+use Rattle.std.proofs.Common.{◌∙◌, inl, arith}
 use Rattle.std.proofs.Math.Dec.{leb, eqb}
-use Rattle.model.specs.Numbers.{at, first_of, all_of, row_at}
+use Rattle.model.specs.Numbers.{at, all_of, row_at}
 use Rattle.numbers.specs.Tests.{and-true}
 use Rattle.numbers.specs.FirstLaws.{all-at, first-same}
 use Rattle.numbers.specs.RowsLaws.{fill-same}
 use Rattle.model.specs.declared.Road.{Road}
 use Rattle.model.specs.Road.{zeros, most_rate}
-use Rattle.model.specs.Record.{short_size, cell_size, seconds_size, version_offset, version_of, cells_offset, steps_offset, ramp_offset, row_size, row_start, number_of, field_of, column_of}
+use Rattle.model.specs.Record.{short_size, seconds_size, version_offset, version_of, cells_offset, steps_offset, ramp_offset, row_start, number_of, field_of, column_of}
 use Rattle.model.specs.Record.{entry_of, record_row}
 use Rattle.fields.specs.BytesLaws.{number_same}
 use Rattle.fields.specs.FieldsLaws.{HoldsRow, row-at}
-use Rattle.model.specs.Limits.{at_ramp, rates_ok, rates_at, row_ok}
+use Rattle.model.specs.Limits.{at_ramp, rates_at, row_ok}
 use Rattle.limits.specs.LimitsLaws.{row-ok}
 use Rattle.model.specs.Reading.{cells_of, steps_of, ReadAnswer, road_of, step_ok, reading_of}
-use Rattle.reading.specs.Cases.{AcceptedRecord, ReadingEnds, read_found, early-refused}
+use Rattle.reading.specs.Cases.{ReadingEnds, read_found, early-refused}
 use Rattle.reading.specs.Within.{read-within, read-row}
 use Rattle.put.specs.SameReading.{reading-alike}
 use Rattle.model.specs.Put.{release_number}
 use Rattle.model.specs.Filling.{OnlyReleases}
-use Rattle.model.specs.Many.{arrival_number, put_arrival_rows, study_arrivals, with_study_arrivals, study_record}
-use Rattle.many.specs.Arrivals.{holds_on, ArrivedRows, rows-put, releases-kept, head-kept, arrivals-same}
+use Rattle.model.specs.Many.{study_arrivals, with_study_arrivals}
+use Rattle.many.specs.Arrivals.{holds_on, ArrivedRows, rows-put, releases-kept, head-kept}
 
 -- a record that reads has the road and T of its header and cells
 read-parts : {s : List ℕ} {a : ReadAnswer} → ReadingEnds s a → a.number ≡ 0 → (a.road ≡ road_of s) × (a.steps ≡ steps_of s)

@@ -1,5 +1,5 @@
 -- The loops that put a table of arrivals: over the places of a row, and over the rows of a record. Assumes nothing.
-use Rattle.std.specs.Prelude.{◌≡◌, ℕ, suc, ◌+◌, ◌*◌, ◌≤◌, ◌<◌, length}
+use Rattle.std.specs.Prelude.{◌≡◌, ℕ, ◌+◌, ◌*◌, ◌≤◌, ◌<◌, length}
 use Rattle.std.proofs.Math.Path.{refl, sym, ap}
 use Rattle.std.proofs.Common.{◌∙◌, mul-le-mul, add-one}
 use mathlib.Core.List.{List}
@@ -9,7 +9,7 @@ use Rattle.numbers.specs.TablesLaws.{row_ends, row-length, mul-more}
 use Rattle.model.specs.Road.{most_cells, most_steps}
 use Rattle.model.specs.Record.{number_size, rates_size, version_of, row_start, bytes_of}
 use Rattle.fields.specs.FieldsLaws.{HoldsRow}
-use Rattle.model.specs.Many.{arrival_number, put_arrivals, put_arrival_rows, with_arrivals, arrivals_size}
+use Rattle.model.specs.Many.{put_arrivals, put_arrival_rows, with_arrivals, arrivals_size}
 use Rattle.many.specs.Arrivals.{arrival_start, ArrivedRow, row_put, holds_on, ArrivedRows, rows-put}
 
 -- what putting a row requires: the bytes hold it, in the version given, and there is a number for each place

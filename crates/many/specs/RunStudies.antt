@@ -13,7 +13,7 @@ use Rattle.model.specs.Reading.{reading_of, study_of}
 use Rattle.reading.specs.Within.{read-row}
 use Rattle.model.specs.Running.{EndAnswer, no_state, run_end, unless_opened, steps_made, running_of, list_after}
 use Rattle.model.specs.Longest.{Queues, longest_of, longest_run}
-use Rattle.model.specs.Many.{put_arrival_rows, with_arrivals, arrivals_size, study_arrivals, with_study_arrivals, study_record}
+use Rattle.model.specs.Many.{with_arrivals, arrivals_size, study_arrivals, with_study_arrivals, study_record}
 use Rattle.model.specs.Many.{entry_size, answer_entry, run_entry, list_after_runs, record_after_runs}
 use Rattle.many.specs.Arrivals.{ArrivedRows, rows-put, arrived-again}
 use Rattle.many.specs.Studies.{Studies, length-entry}
