@@ -356,9 +356,9 @@ def test_without_a_compiler_the_kit_links(checkout, tmp_path):
     if not shutil.which("rt"):
         pytest.skip("no kit")
     (tmp_path / "kit").mkdir()
-    (tmp_path / "kit/on").symlink_to(os.path.realpath(shutil.which("rt") + "/../../on"))
+    (tmp_path / "kit/toolchain").symlink_to(Path(shutil.which("rt")).resolve().parents[1] / "toolchain")
     (tmp_path / "bin").rename(tmp_path / "kit/bin")
-    tools = "sh bash env dirname readlink awk find head id flock mkdir grep cat sleep cp uname sort tr touch rm mv cksum sed"
+    tools = "sh bash env dirname readlink awk find head id flock mkdir grep cat sleep cp uname sort tr touch rm mv cksum sed tail"
     env["PATH"] = only(tmp_path / "few", *tools.split()) + f":{tmp_path}/kit/bin"
     out = subprocess.run([there / "nobyaluk", "run", there / "examples/studies/five-cells.toml"], env=env, capture_output=True, text=True)
     assert out.returncode == 0 and "170.32 vehicle-hours" in out.stdout and "not found" not in out.stderr
