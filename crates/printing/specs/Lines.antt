@@ -5,6 +5,7 @@ use Rattle.std.proofs.Common.{◌∙◌, mul-le-mul, add-one, length-append, len
 use mathlib.Core.List.{List, [], ◌∷◌, ◌++◌, append-nil}
 use Prim.Native.Nat.{ℕ, suc, ◌+◌, ◌*◌, ◌/◌, min, ◌≤◌, ◌<◌}
 use native.Mathlib.Omega.{arith}
+use Rattle.std.proofs.lemmas.Grind.{common_steps}
 use Rattle.std.proofs.lemmas.List.Edits.{sets}
 use borrow.Author.Tests.{eq-eqb, ne_eqb}
 use Rattle.numbers.specs.TablesLaws.{row_ends, mul-more}
@@ -35,7 +36,7 @@ use Rattle.theory.specs.Readable.{Readable}
 use Rattle.running.specs.Arrays.{start_table, empty_table, arrays-start}
 use Rattle.running.specs.Steps.{FaultlessSteps, RunTurn, ran-reached, ran-none, ran-more, row_is, ends-ran, all-ran}
 use Rattle.model.specs.Numbers.{placed}
-use Rattle.numbers.specs.PlacedText.{Puts, placed-none, puts_first, puts-more, Room, room}
+use Rattle.numbers.specs.PlacedText.{Puts, placed-none, placed-more, puts_first, puts-more, Room, room}
 use Rattle.listing.specs.ListingLaws.{header-room, lines-room, total-length, total-room, seconds-length, refused-room}
 
 -- a record that reads, and a buffer that is long enough
@@ -49,6 +50,30 @@ pub record LastLinesRequire (r : Road) (u : State) (buffer : List ℕ) (at : ℕ
   pub total : total_of u ≤ most_total most_steps
   pub seconds : r.seconds ≤ most_seconds
 
+-- within these limits the vehicle-seconds are exact
+pub exact_seconds : (total seconds : ℕ) → total ≤ most_total most_steps → seconds ≤ most_seconds
+    → min (vehicle_seconds (min total most_long) seconds) most_long ≡ vehicle_seconds total seconds
+unfolding vehicle_seconds
+exact_seconds total seconds h s =
+    let e : min total most_long ≡ total = omega arith in
+    rw e (small (mul-le-mul h s))
+  where
+    small : total * seconds ≤ most_total most_steps * most_seconds → min (total * seconds / 1000) most_long ≡ total * seconds / 1000
+    small l = omega arith
+
+-- the line of the seconds, by the test of the version
+module _ (r : Road) (u : State) where
+  pub time_timed : r.version ≡ second_version → time_of r u ≡ seconds_line (vehicle_seconds (total_of u) r.seconds)
+  unfolding time_of
+  time_timed k = rw (eq-eqb r.version second_version k) refl
+
+  pub time_untimed : (r.version ≡ second_version → ⊥) → time_of r u ≡ []
+  unfolding time_of
+  time_untimed k = rw (ne_eqb r.version second_version k) refl
+
+-- what the search needs for the last lines
+pub ruleset last_steps = (common_steps, exact_seconds, time_timed, time_untimed, placed-more)
+
 module _ {r : Road} {u : State} {buffer : List ℕ} {at : ℕ} (h : LastLinesRequire r u buffer at) {total : ℕ} (e : total ≡ min (total_of u) most_long) where
   -- the total is within its limit, so the number returned is the total itself
   pub total-is : total ≡ total_of u
@@ -60,14 +85,7 @@ module _ {r : Road} {u : State} {buffer : List ℕ} {at : ℕ} (h : LastLinesReq
 
   -- so the vehicle-seconds are exact
   time-is : {time : ℕ} → time ≡ vehicle_seconds_of r.seconds u → time ≡ vehicle_seconds (total_of u) r.seconds
-  unfolding vehicle_seconds
-  time-is et =
-      let l : min (total_of u) most_long * r.seconds ≤ most_total most_steps * most_seconds = rw (sym e) time-small in
-      let same : min (total_of u) most_long ≡ total_of u = sym e ∙ total-is in
-      et ∙ ap (λ (x : ℕ). min (x * r.seconds / 1000) most_long) same ∙ small (rw same at l)
-    where
-      small : total_of u * r.seconds ≤ most_total most_steps * most_seconds → min (total_of u * r.seconds / 1000) most_long ≡ total_of u * r.seconds / 1000
-      small l = omega arith
+  time-is et = et ∙ exact_seconds (total_of u) r.seconds h.total h.seconds
 
   module _ {exits : ℕ} (x : exits ≡ exits_of r u) {after : List ℕ} {m : ℕ}
       (p : Puts buffer at (total_line total u.gate_time u.road_time u.ramp_time exits) after m) where
@@ -80,15 +98,12 @@ module _ {r : Road} {u : State} {buffer : List ℕ} {at : ℕ} (h : LastLinesReq
 
     -- only the line of the totals, and both lines
     pub ends-untimed : (r.version ≡ second_version → ⊥) → Puts buffer at (last_of r u) after m
-    unfolding time_of
-    ends-untimed k =
-        rw (ne_eqb r.version second_version k, append-nil (total_line (total_of u) u.gate_time u.road_time u.ramp_time (exits_of r u))) last_line
+    ends-untimed k = rw (time_untimed r u k, append-nil (total_line (total_of u) u.gate_time u.road_time u.ramp_time (exits_of r u))) last_line
 
     pub ends-timed : r.version ≡ second_version → {time : ℕ} → time ≡ vehicle_seconds_of r.seconds u
         → {end : List ℕ} {to : ℕ} → Puts after m (seconds_line time) end to → Puts buffer at (last_of r u) end to
-    unfolding time_of
     ends-timed k et {end} {to} q =
-        rw (eq-eqb r.version second_version k) (puts-more buffer at _ after m _ end to last_line (rw (time-is et) at q))
+        rw (time_timed r u k) (puts-more buffer at _ after m _ end to last_line (rw (time-is et) at q))
 
 -- the length of the last lines
 last-length : (r : Road) (u : State) → length (last_of r u) ≤ most_last + most_time

@@ -93,6 +93,7 @@ fn step_lines<'a>(
 }
 
 // Puts the line of the totals, and in version 2 that of the seconds.
+#[tactic(auto, using(crate::specs::Lines::last_steps))]
 fn last_lines(buffer: &mut [u8], at: usize, r: Road, u: State) -> usize
     requires { LastLinesRequire r u buffer.old at }
     ensures { Puts buffer.old at (last_of r u) buffer.new result }
