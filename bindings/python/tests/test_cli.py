@@ -271,7 +271,7 @@ def checkout(root, tmp_path):
     if not archive.exists() or not shutil.which("cc"):
         pytest.skip("no archive, or no compiler to link it")
     env = {**os.environ, "PATH": f"{bin}:{os.environ['PATH']}", "PYTHON": sys.executable}
-    for name in ("NOBYALUK_LIBRARY", "NOBYALUK_LIB_DIR"):  # the checkout builds its own
+    for name in ("NOBYALUK_LIBRARY", "NOBYALUK_LIB_DIR", "NOBYALUK_PROVED"):  # the checkout builds its own
         env.pop(name, None)
     return there, env, tmp_path / "calls"
 
