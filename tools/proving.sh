@@ -3,6 +3,9 @@
 # and builds, which they keep in target/, this repository's own folder. They source it in the repository's root, in sh or bash, with `who` set to the
 # word before their messages. rt itself works in crates/NAME/out.
 
+# The archive is for every x86-64. rt builds programs for x86-64-v2, and they say so where they can't run.
+cpu=x86-64
+
 # Waits until no other process proves and builds in this checkout, if flock is installed. The lock ends with the process that took it.
 lock() {
     command -v flock >/dev/null || return 0
@@ -61,7 +64,7 @@ prove() {
             # rt's lines come on standard error, the program's on standard output
             (cd "crates/$1" && exec ${3:+"$3"} rt run </dev/null 2>&1 >/dev/null) &
         else
-            (cd "crates/$1" && exec ${3:+"$3"} rt lib </dev/null 2>&1) &
+            (cd "crates/$1" && exec ${3:+"$3"} rt lib --cpu "$cpu" </dev/null 2>&1) &
         fi
         echo "$!" >"$2.group"
         wait "$!" || echo "$?" >"$2.failed"
@@ -106,7 +109,7 @@ make_archive() {
     kept='--incremental out/incremental'
     if is_proved; then kept=''; fi
     # shellcheck disable=SC2086
-    over_libraries build exports --crate-type staticlib --backend llvm --toolchain "$2" $kept -o "$PWD/target/staticlib/libexports.a" >"$1" 2>&1 </dev/null ||
+    over_libraries build exports --crate-type staticlib --cpu "$cpu" --backend llvm --toolchain "$2" $kept -o "$PWD/target/staticlib/libexports.a" >"$1" 2>&1 </dev/null ||
         { cat "$1" >&2 && return 1; }
     keep_verdict "$1"
 }

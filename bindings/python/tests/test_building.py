@@ -42,7 +42,7 @@ def proving(checkout):  # noqa: F811
 def test_an_estimate_at_the_first_build_alone(proving):
     there, env, calls, prove = proving
     out = prove()
-    assert out.returncode == 0 and FIRST.match(out.stderr) and CRATE in out.stderr and calls.read_text() == "lib\n"
+    assert out.returncode == 0 and FIRST.match(out.stderr) and CRATE in out.stderr and calls.read_text() == "lib --cpu x86-64\n"
     (there / "crates/rows/out/rlib").mkdir(parents=True)
     (there / "crates/rows/out/rlib/stamp").write_text("")
     assert re.match(r"nobyaluk: what has changed of the engine's 2 crates is proved and built first, .* at most\n", prove().stderr)
@@ -53,7 +53,7 @@ def test_the_archive_is_built_by_one_at_a_time(proving):
     both = [subprocess.Popen([there / "bindings/build"], env=env, stderr=subprocess.PIPE, text=True) for _ in range(2)]
     said = [p.communicate()[1] for p in both]
     assert [p.returncode for p in both] == [0, 0] and (there / "target/staticlib/libexports.a").exists()
-    assert sum("another process proves and builds here; this one waits for it" in x for x in said) == 1 and calls.read_text() == "lib\n" * 2
+    assert sum("another process proves and builds here; this one waits for it" in x for x in said) == 1 and calls.read_text() == "lib --cpu x86-64\n" * 2
 
 
 def test_what_fails_is_shown(proving, tmp_path):
@@ -75,7 +75,7 @@ def test_cargo_shows_each_crate(root, proving, tmp_path):
     env = {**env, "PATH": f"{env['PATH']}:{os.path.expanduser('~/.cargo/bin')}", "TERM": "xterm", "CARGO_TARGET_DIR": str(tmp_path / "cargo")}
     shown, status = at_a_terminal(["cargo", "build", "--offline", "--lib"], env, there / "bindings/rust")
     assert status == 0 and FIRST.search(shown) and CRATE in shown and shown.index(CRATE) < shown.index("Finished"), shown
-    assert calls.read_text() == "lib\n"
+    assert calls.read_text() == "lib --cpu x86-64\n"
     (tmp_path / "bin/rt").write_text("#!/bin/sh\necho 'rt: rows does not prove'\nexit 1\n")
     (there / "crates/rows/src/lib.rt").write_text("// changed\n")
     out = subprocess.run(["cargo", "build", "--offline", "--lib"], env=env, cwd=there / "bindings/rust", capture_output=True, text=True)

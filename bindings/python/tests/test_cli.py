@@ -284,7 +284,7 @@ def test_front_door(checkout, tmp_path):
     both = [start(), start()]
     told = [p.communicate() for p in both]
     assert [p.returncode for p in both] == [0, 0] and all("170.32 vehicle-hours" in out for out, _ in told)
-    assert calls.read_text() == "lib\n"
+    assert calls.read_text() == "lib --cpu x86-64\n"
     said = "".join(err for _, err in told)
     assert re.search("nobyaluk: the engine is proved and built first: 2 crates, about half an hour\n", said)
     assert "nobyaluk: crate 1 of at most 2: rows proved" in said and "another process proves and builds here; this one waits for it" in said
