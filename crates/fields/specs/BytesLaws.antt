@@ -1,6 +1,7 @@
 -- Laws of a number's bytes: written and read back, read and written again. Assumes nothing.
 use Rattle.std.specs.Prelude.{◌≡◌, refl, List, [], ◌∷◌, ◌++◌, ℕ, zero, suc, ◌+◌, ◌*◌, ◌/◌, ◌%◌, ◌^◌, ◌≤◌, ◌<◌, length, take, drop}
-use Rattle.std.proofs.Common.{sym, ap, ◌∙◌, ⊎_elim, suc-mul, pow-suc, div-add-mod', div-lt_iff_lt-mul, eq-or-lt_of_le, le_of_suc-le-suc, le_refl, arith, length-append, length-drop, get_or-take, get_or-drop, take-add, drop-drop, length-take-le, ext_get_or}
+use Rattle.std.proofs.Common.{sym, ap, ◌∙◌, ⊎_elim, suc-mul, pow-suc, div-add-mod', div-lt_iff_lt-mul, eq-or-lt_of_le, le_of_suc-le-suc, le_refl}
+use Rattle.std.proofs.Common.{arith, length-append, length-drop, get_or-take, get_or-drop, take-add, drop-drop, length-take-le, ext_get_or}
 use Rattle.std.proofs.lemmas.List.{get_or_at}
 use Rattle.model.specs.Numbers.{at, concat_of}
 use Rattle.numbers.specs.Concat.{at_first, at_second, concat-at}

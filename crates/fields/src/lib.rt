@@ -3,7 +3,8 @@
 
 ghost use Rattle.std.specs.Prelude.{◌≡◌, ◌+◌, ◌*◌, ◌^◌, ◌≤◌, ◌<◌, length, take};
 ghost use Rattle.model.specs.Road.{most_cells};
-ghost use Rattle.model.specs.Record.{short_size, number_size, version_offset, version_of, seconds_size, seconds_of, header_size, cell_size, row_start, number_of, column_of, record_row};
+ghost use Rattle.model.specs.Record.{short_size, number_size, version_offset, version_of, seconds_size, seconds_of};
+ghost use Rattle.model.specs.Record.{header_size, cell_size, row_start, number_of, column_of, record_row};
 ghost use Rattle.fields.specs.FieldsLaws.{HoldsRow};
 ghost use Rattle.fields.specs.BytesStored.{StoredBytes};
 ghost use Rattle.model.specs.Numbers.{one_of};

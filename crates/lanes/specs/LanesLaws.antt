@@ -1,7 +1,8 @@
 -- Laws of lanes: the capacity that they leave, and the tests of 17 and 18 as facts. Assumes nothing.
 use Rattle.std.specs.Prelude.{◌≡◌, Bool, true, List, ℕ, zero, suc, ◌+◌, ◌*◌, ◌/◌, ◌%◌, ◌-◌, min, ◌≤◌, ◌<◌, eqb, length, set, take, drop}
 use Rattle.std.proofs.Math.Path.{refl}
-use Rattle.std.proofs.Common.{sym, ap, ◌∙◌, ⊎_elim, eq-zero-or-pos, mul-le-mul_left, mul-le-mul_right, suc-mul, mul_comm, mul-div_cancel, div-mul-le_self, le-div_iff_mul-le, add-one, eqb-true, eq-eqb}
+use Rattle.std.proofs.Common.{sym, ap, ◌∙◌, ⊎_elim, eq-zero-or-pos, mul-le-mul_left, mul-le-mul_right, suc-mul, mul_comm}
+use Rattle.std.proofs.Common.{mul-div_cancel, div-mul-le_self, le-div_iff_mul-le, add-one, eqb-true, eq-eqb}
 use Rattle.std.proofs.Math.Nat.{min-le_left, min-le_right, div-zero, div-le_of_le-mul}
 use native.Mathlib.Omega.{arith}
 use Rattle.std.proofs.Math.Arith.{bin_ind}

@@ -8,7 +8,8 @@ use Rattle.model.specs.Numbers.{at}
 use Rattle.numbers.specs.PlacedText.{Puts, placed-none, puts-more, Room, room, room-more, Text}
 use Rattle.model.specs.Words.{blank, newline, word_of, named_of}
 use Rattle.listing.specs.WordsLaws.{word-length, named-length, Word, NamedNumber}
-use Rattle.model.specs.Listing.{most_line, most_last, most_time, refused_word, total_word, gate_word, road_word, ramp_word, exits_word, seconds_word, header_line, line_of, cell_lines}
+use Rattle.model.specs.Listing.{most_line, most_last, most_time, refused_word, total_word, gate_word, road_word}
+use Rattle.model.specs.Listing.{ramp_word, exits_word, seconds_word, header_line, line_of, cell_lines}
 use Rattle.model.specs.Listing.{lines_of, total_line, seconds_line, refused_line}
 
 -- a state with the gate's queue and the columns that the lines show; everything else is s's

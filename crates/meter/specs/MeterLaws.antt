@@ -1,6 +1,8 @@
 -- Laws of wishes, of their releases and of refusal 16: callers use these and do not unfold the definitions. Assumes nothing.
-use Rattle.std.specs.Prelude.{◌≡◌, ℕ, zero, suc, ◌+◌, ◌-◌, ◌*◌, ◌^◌, ◌<◌, ◌≤◌, min, Bool, true, false, cond, not, ◌&&◌, ◌||◌, T, List, [], ◌∷◌, length, pos, negsuc, ◌==◌, ◌≢◌, nat_le, nat_lt, slice_index_or, refl, Float}
-use Rattle.std.proofs.Common.{sym, ap, subst, ◌∙◌, true≢false, le_refl, le-div_iff_mul-le, div-lt_iff_lt-mul, mul-pos, zero-mul, le_of_suc-le-suc, arith, leb-true, leb-false, ltb-true, le-leb, le-ltb, eqb-true, eq-eqb, ne_eqb, le→leb, leb→le, lt→ltb, lit<}
+use Rattle.std.specs.Prelude.{◌≡◌, ℕ, zero, suc, ◌+◌, ◌-◌, ◌*◌, ◌^◌, ◌<◌, ◌≤◌, min, Bool, true, false, cond, not, ◌&&◌, ◌||◌}
+use Rattle.std.specs.Prelude.{T, List, [], ◌∷◌, length, pos, negsuc, ◌==◌, ◌≢◌, nat_le, nat_lt, slice_index_or, refl, Float}
+use Rattle.std.proofs.Common.{sym, ap, subst, ◌∙◌, true≢false, le_refl, le-div_iff_mul-le, div-lt_iff_lt-mul, mul-pos, zero-mul, le_of_suc-le-suc}
+use Rattle.std.proofs.Common.{arith, leb-true, leb-false, ltb-true, le-leb, le-ltb, eqb-true, eq-eqb, ne_eqb, le→leb, leb→le, lt→ltb, lit<}
 use Rattle.std.proofs.Math.Logic.{⊎_elim}
 use Rattle.std.proofs.Math.Nat.{sub_self}
 use Rattle.std.proofs.lemmas.Bool.{eqb-false}

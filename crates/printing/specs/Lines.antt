@@ -29,7 +29,8 @@ use Rattle.passes.specs.RampList.{Listed}
 use Rattle.passes.specs.Step.{Arrays, StepGives}
 use Rattle.model.specs.Reading.{ReadAnswer, reading_within, reading_of, study_by}
 use Rattle.reading.specs.Caller.{within-accepted}
-use Rattle.model.specs.Listing.{most_outflows, most_line, most_last, most_time, header_line, lines_of, total_line, seconds_line, refused_line, steps_lines, time_of, last_of, printed_end}
+use Rattle.model.specs.Listing.{most_outflows, most_line, most_last, most_time, header_line, lines_of, total_line}
+use Rattle.model.specs.Listing.{seconds_line, refused_line, steps_lines, time_of, last_of, printed_end}
 use Rattle.model.specs.Listing.{printed_run, printed_within, most_text, HoldsPrinted}
 use Rattle.model.specs.Running.{EndAnswer, end_with, run_end}
 use Rattle.theory.specs.Readable.{Readable}

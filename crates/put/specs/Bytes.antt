@@ -1,6 +1,7 @@
 -- Laws of a number's bytes placed into a list: the number is read there, and everything outside it is unchanged. Assumes nothing.
 use Rattle.std.specs.Prelude.{◌≡◌, refl, ◌⊎◌, List, ◌++◌, ℕ, zero, suc, ◌+◌, ◌-◌, ◌^◌, ◌≤◌, ◌<◌, length, take, drop}
-use Rattle.std.proofs.Common.{sym, ap, ◌∙◌, ⊎_elim, inl, inr, append_assoc, not-suc-le-zero, eq-or-lt_of_le, le_of_suc-le-suc, arith, get_or-take, get_or-drop, length-take-le, ext_get_or}
+use Rattle.std.proofs.Common.{sym, ap, ◌∙◌, ⊎_elim, inl, inr, append_assoc, not-suc-le-zero, eq-or-lt_of_le}
+use Rattle.std.proofs.Common.{le_of_suc-le-suc, arith, get_or-take, get_or-drop, length-take-le, ext_get_or}
 use Rattle.model.specs.Numbers.{at, placed}
 use Rattle.numbers.specs.Tests.{order}
 use Rattle.numbers.specs.Concat.{at_first, at_second}

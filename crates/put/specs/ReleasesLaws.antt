@@ -1,7 +1,8 @@
 -- Laws of releases put into a record: they are there, and nothing else changes. Assumes nothing.
 use Rattle.std.specs.Prelude.{◌≡◌, refl, ◌⊎◌, ℕ, zero, suc, ◌+◌, ◌-◌, ◌*◌, ◌^◌, ◌≤◌, ◌<◌, length, set}
 use Rattle.std.proofs.Math.Path.{sym, ap}
-use Rattle.std.proofs.Common.{◌∙◌, ⊎_elim, inl, inr, add-zero, add-suc, mul-le-mul_right, not-suc-le-zero, eq-or-lt_of_le, le_of_suc-le-suc, le_refl, arith, length-set, get_or-set_same, get_or-set_other, ext_get_or}
+use Rattle.std.proofs.Common.{◌∙◌, ⊎_elim, inl, inr, add-zero, add-suc, mul-le-mul_right, not-suc-le-zero, eq-or-lt_of_le}
+use Rattle.std.proofs.Common.{le_of_suc-le-suc, le_refl, arith, length-set, get_or-set_same, get_or-set_other, ext_get_or}
 use mathlib.Core.List.{List, [], ◌∷◌}
 use Rattle.model.specs.Numbers.{at}
 use Rattle.numbers.specs.PlacedText.{length-placed}

@@ -10,12 +10,14 @@ use Rattle.model.specs.declared.Road.{Road}
 use Rattle.model.specs.declared.State.{State}
 use Rattle.model.specs.Road.{zeros, most_cells, most_bytes}
 use Rattle.model.specs.Record.{count_size, short_size, number_size, cell_size, version_offset, version_of, cells_offset, steps_offset, seconds_offset, seconds_size, seconds_of}
-use Rattle.model.specs.Record.{gate_capacity_offset, gate_queue_offset, speed_offset, wave_offset, share_offset, ramp_offset, jam_offset, capacity_offset, held_offset, queue_offset}
+use Rattle.model.specs.Record.{gate_capacity_offset, gate_queue_offset, speed_offset, wave_offset, share_offset}
+use Rattle.model.specs.Record.{ramp_offset, jam_offset, capacity_offset, held_offset, queue_offset}
 use Rattle.model.specs.Record.{row_start, number_of, field_of, column_of, record_row}
 use Rattle.fields.specs.BytesLaws.{number_same}
 use Rattle.model.specs.Limits.{place_ok, row_ok}
 use Rattle.limits.specs.LimitsLaws.{place_ok_lem}
-use Rattle.model.specs.Reading.{cells_of, steps_of, size_of, both_versions, least_size, cells_and_steps_ok, seconds_ok, caller_ok, ReadAnswer, road_of, start_of, step_ok, refused_of}
+use Rattle.model.specs.Reading.{cells_of, steps_of, size_of, both_versions, least_size, cells_and_steps_ok}
+use Rattle.model.specs.Reading.{seconds_ok, caller_ok, ReadAnswer, road_of, start_of, step_ok, refused_of}
 use Rattle.model.specs.Reading.{accepted_of, reading_by, reading_of}
 use Rattle.reading.specs.Headers.{Header}
 use Rattle.reading.specs.Cases.{AcceptedRecord, ReadingEnds, read_found, early-refused, reads}

@@ -13,7 +13,8 @@ use Rattle.numbers.specs.Tests.{unless-elim, le-head}
 use Rattle.numbers.specs.FirstLaws.{First, first, first-none, all-at}
 use Rattle.model.specs.Limits.{place_ok}
 use Rattle.limits.specs.LimitsLaws.{RoadOk, StateOk, RowOk, places-road, places-state, row-facts}
-use Rattle.model.specs.Reading.{cells_of, steps_of, size_of, both_versions, length_ok, cells_and_steps_ok, seconds_ok, caller_ok, ReadAnswer, road_of, start_of, step_ok, refused_of}
+use Rattle.model.specs.Reading.{cells_of, steps_of, size_of, both_versions, length_ok, cells_and_steps_ok}
+use Rattle.model.specs.Reading.{seconds_ok, caller_ok, ReadAnswer, road_of, start_of, step_ok, refused_of}
 use Rattle.model.specs.Reading.{accepted_of, reading_by, reading_within, reading_of}
 use Rattle.fields.specs.HeaderLaws.{length-facts, counts-facts}
 use Rattle.reading.specs.Headers.{Header}

@@ -1,6 +1,7 @@
 -- The greatest byte at each position over parts of equal size: if the row of these bytes is within its limits, every row is. Assumes nothing.
 use Rattle.std.specs.Prelude.{◌≡◌, refl, Bool, true, false, List, ℕ, ◌+◌, ◌-◌, ◌*◌, ◌/◌, ◌%◌, ◌≤◌, ◌<◌, eqb, length, set}
-use Rattle.std.proofs.Common.{ap, subst, ◌∙◌, ⊎_elim, suc-mul, add-mul, mul_assoc, mul-le-mul_right, mod-lt, le_refl, div-add-mod', div-mul-le_self, div-lt_iff_lt-mul, le-div_iff_mul-le, arith, length-set, get_or-set_same, get_or-set_other, eqb-true, below_none, below_more}
+use Rattle.std.proofs.Common.{ap, subst, ◌∙◌, ⊎_elim, suc-mul, add-mul, mul_assoc, mul-le-mul_right, mod-lt, le_refl, div-add-mod', div-mul-le_self, div-lt_iff_lt-mul}
+use Rattle.std.proofs.Common.{le-div_iff_mul-le, arith, length-set, get_or-set_same, get_or-set_other, eqb-true, below_none, below_more}
 use Rattle.std.proofs.lemmas.Bool.{eqb-false}
 use Rattle.model.specs.Numbers.{at, list_of}
 use Rattle.numbers.specs.Tests.{order}

@@ -4,7 +4,8 @@ use Rattle.std.proofs.Common.{ap, ◌∙◌, arith}
 use Rattle.model.specs.declared.Road.{Road}
 use Rattle.model.specs.declared.State.{State}
 use Rattle.model.specs.Road.{zeros}
-use Rattle.model.specs.Record.{short_size, number_size, number_of, version_of, seconds_of, gate_capacity_offset, gate_queue_offset, speed_offset, wave_offset, share_offset, ramp_offset}
+use Rattle.model.specs.Record.{short_size, number_size, number_of, version_of, seconds_of, gate_capacity_offset}
+use Rattle.model.specs.Record.{gate_queue_offset, speed_offset, wave_offset, share_offset, ramp_offset}
 use Rattle.model.specs.Record.{jam_offset, capacity_offset, held_offset, queue_offset}
 use Rattle.fields.specs.FieldsLaws.{Column, column}
 use Rattle.numbers.specs.Zeros.{length-zeros}

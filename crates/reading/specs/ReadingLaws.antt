@@ -12,7 +12,8 @@ use Rattle.model.specs.Numbers.{at, one_of, first_of, unless_first}
 use Rattle.model.specs.Limits.{place_ok, rates_ok, rates_at}
 use Rattle.reading.specs.Headers.{Cells, Steps, Header}
 use Rattle.reading.specs.Greatest.{row_at, row_number}
-use Rattle.model.specs.Reading.{cells_of, steps_of, size_of, both_versions, length_ok, cells_and_steps_ok, seconds_ok, caller_ok, road_of, start_of, step_ok, ReadAnswer, refused_of}
+use Rattle.model.specs.Reading.{cells_of, steps_of, size_of, both_versions, length_ok, cells_and_steps_ok}
+use Rattle.model.specs.Reading.{seconds_ok, caller_ok, road_of, start_of, step_ok, ReadAnswer, refused_of}
 use Rattle.model.specs.Reading.{accepted_of, reading_by, reading_within, reading_of}
 use Rattle.fields.specs.HeaderLaws.{Counts, length-facts, counts-facts, caller-passes}
 

@@ -12,7 +12,8 @@ use Rattle.model.specs.declared.Road.{Road}
 use Rattle.model.specs.declared.State.{State}
 use Rattle.model.specs.Road.{most_bytes, most_rate, most_seconds, zeros, start_state, start_in}
 use Rattle.model.specs.Schedules.{Study}
-use Rattle.model.specs.Record.{second_version, count_size, seconds_size, header_size, gate_capacity_offset, gate_queue_offset, cell_size, short_size, number_size, row_size, row_numbers}
+use Rattle.model.specs.Record.{second_version, count_size, seconds_size, header_size, gate_capacity_offset}
+use Rattle.model.specs.Record.{gate_queue_offset, cell_size, short_size, number_size, row_size, row_numbers}
 use Rattle.model.specs.Record.{row_start, number_of, version_of, seconds_of, field_of, column_of, entry_of, record_row}
 use Rattle.fields.specs.FieldsLaws.{seconds-second, seconds-none, length-row, row-at}
 use Rattle.fields.specs.BytesLaws.{Field, field-number}

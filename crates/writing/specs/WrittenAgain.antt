@@ -10,7 +10,8 @@ use Rattle.numbers.specs.Concat.{concat-same}
 use Rattle.numbers.specs.TablesLaws.{row_ends}
 use Rattle.model.specs.Road.{start_state, start_in}
 use Rattle.model.specs.Schedules.{Study, study}
-use Rattle.model.specs.Record.{count_size, version_of, seconds_size, header_size, gate_queue_offset, cell_size, short_size, number_size, row_numbers, row_size, row_start, number_of}
+use Rattle.model.specs.Record.{count_size, version_of, seconds_size, header_size, gate_queue_offset, cell_size}
+use Rattle.model.specs.Record.{short_size, number_size, row_numbers, row_size, row_start, number_of}
 use Rattle.model.specs.Record.{record_row, bytes_of}
 use Rattle.fields.specs.FieldsLaws.{row-at}
 use Rattle.fields.specs.BytesLaws.{part_of, part_join, part-next, part-concat, bytes-part}
