@@ -20,9 +20,9 @@ use Rattle.limits.specs.LimitsLaws.{RoadOk}
 use Rattle.model.specs.Load.{load_with, loading_of, loaded_list, LoadEnds}
 use Rattle.load.specs.Theorems as loads
 use Rattle.model.specs.Wanted.{TableObeys, search_answer, wanted_answer, wanted_of, table_after, Least, WantedEnds, WantedRequest}
-use Rattle.wanted.specs.Theorems as wants
+use Rattle.wanted.proofs.Theorems as wants
 use Rattle.model.specs.Street.{GrantRequest, grants_of, granting_of, grants_after, Fair, GrantEnds}
-use Rattle.street.specs.Theorems as streets
+use Rattle.street.proofs.Theorems as streets
 use Rattle.model.specs.Meter.{whole_below, count}
 use Rattle.meter.specs.MeterLaws as meters
 use Rattle.model.specs.declared.Law.{Law}

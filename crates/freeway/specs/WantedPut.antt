@@ -10,7 +10,7 @@ use Rattle.model.specs.Road.{most_rate}
 use Rattle.model.specs.Refusals.{FaultAnswer, fault}
 use Rattle.model.specs.Schedules.{Study, schedule_after}
 use Rattle.model.specs.Wanted.{TableObeys, wanted_of, table_after}
-use Rattle.wanted.specs.Theorems.{found-least, found-request}
+use Rattle.wanted.proofs.Theorems.{found-least, found-request}
 use Rattle.model.specs.Flow.{arrivals_at, release_at}
 use Rattle.model.specs.Record.{number_size, version_of, entry_start, record_row}
 use Rattle.fields.specs.FieldsLaws.{length-row}

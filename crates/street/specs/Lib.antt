@@ -1,3 +1,2 @@
 pub mod StreetLaws
 pub mod Loops
-pub mod Theorems

@@ -1,3 +1,2 @@
 pub mod WantedLaws
 pub mod Loops
-pub mod Theorems

@@ -1,7 +1,7 @@
 -- Each return follows from the test before it: the laws of the answer and of the grants, and `meets-contract` for the three clauses.
 use Rattle.std.proofs.Common.{sym, ◌∙◌, length}
 use Rattle.street.specs.StreetLaws.{ok-request, refused-answer, refused-grants, granted-answer, granted-grants}
-use Rattle.street.specs.Theorems.{meets-contract}
+use Rattle.street.proofs.Theorems.{meets-contract}
 use Rattle.street.proofs.grant.Goals as goal
 
 pub returns-then-not-request_within : goal.returns-then-not-request_within

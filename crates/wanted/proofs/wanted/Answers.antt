@@ -2,7 +2,7 @@
 use Rattle.std.proofs.Common.{sym, ◌∙◌, length}
 use Rattle.numbers.specs.Tests.{both_true}
 use Rattle.wanted.specs.WantedLaws.{ok-request}
-use Rattle.wanted.specs.Theorems.{meets-contract}
+use Rattle.wanted.proofs.Theorems.{meets-contract}
 use Rattle.wanted.specs.Loops.{ends-frame, ends-arrivals, ends-none, ends_found}
 use Rattle.wanted.proofs.wanted.Goals as goal
 
