@@ -13,7 +13,8 @@ use Rattle.model.specs.declared.Law.{Law}
 use Rattle.model.specs.Meter.{wish_of, whole_below, law_at}
 use Rattle.model.specs.Flow.{release_at, entering_at}
 use Rattle.theory.specs.Roads.{step_row}
-use Rattle.theory.specs.RunsLaws.{StudyOk, SharedSteps, shared-less, engine-shared, outflows-shared}
+use Rattle.theory.specs.RunsLaws.{StudyOk, SharedSteps}
+use Rattle.theory.proofs.RunsLaws.{shared-less, engine-shared, outflows-shared}
 use Rattle.model.specs.Filling.{MeterState, cap_at, metered_of}
 use Rattle.ramps.specs.RampsLaws.{granted-release, filled-release, filled-most, last-release, last_entry_lem}
 use Rattle.model.specs.Filling.{metered_after, metered_from, granted_in, filled_study}

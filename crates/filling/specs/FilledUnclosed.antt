@@ -15,8 +15,9 @@ use Rattle.model.specs.Filling.{MeterState, meter_start, granted_at, metered_of}
 use Rattle.model.specs.Put.{put_table}
 use Rattle.put.specs.ReleasesLaws.{put_same}
 use Rattle.model.specs.Running.{EndAnswer, end_with, no_state}
-use Rattle.theory.specs.TableLaws.{table-shared}
-use Rattle.theory.specs.NoClosures.{AllOpen, empty-one, open-passes, open-one}
+use Rattle.theory.proofs.TableLaws.{table-shared}
+use Rattle.theory.specs.NoClosures.{AllOpen}
+use Rattle.theory.proofs.NoClosures.{empty-one, open-passes, open-one}
 use Rattle.model.specs.Filling.{metered_after, metered_from, granted_in, filled_study, law_place, filled_bytes, filling_of, record_after, filled_list}
 use Rattle.filling.specs.FillingLaws.{filled-road}
 

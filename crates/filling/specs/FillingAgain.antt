@@ -28,7 +28,8 @@ use Rattle.put.specs.ReleasesLaws.{length-released, released-at, released-gate, 
 use Rattle.model.specs.Running.{EndAnswer, lanes_fault, table_of}
 use Rattle.model.specs.Demand.{Openable}
 use Rattle.theory.specs.Readable.{readable}
-use Rattle.theory.specs.VersionsAlike.{EndsAlike, same-places, same-table}
+use Rattle.theory.specs.VersionsAlike.{EndsAlike}
+use Rattle.theory.proofs.VersionsAlike.{same-places, same-table}
 use Rattle.filling.specs.FillingLaws.{filled_rows}
 use Rattle.model.specs.Filling.{metered_after, metered_from, filled_study, law_place, filling_of, record_after, filled_list, OnlyReleases}
 use Rattle.filling.specs.Rerun.{filled-rows}

@@ -11,7 +11,7 @@ use Rattle.theory.specs.StepLaws.{number-of, fit-releases}
 use Rattle.theory.specs.Roads.{step_row, row_back}
 use Rattle.theory.specs.RunsLaws.{StudyOk, ReachedState}
 use Rattle.model.specs.Running.{run_fault}
-use Rattle.theory.specs.SchedulesLaws.{run-reached}
+use Rattle.theory.proofs.SchedulesLaws.{run-reached}
 use Rattle.model.specs.Filling.{MeterState, metered_of}
 use Rattle.ramps.specs.RampsLaws.{granted-small, filled-fits, filled_row_lem}
 use Rattle.model.specs.Filling.{metered_from, granted_from, rows_from, filled_from}

@@ -22,12 +22,13 @@ use Rattle.model.specs.Record.{record_row}
 use Rattle.model.specs.declared.Law.{Law}
 use Rattle.meter.specs.LawColumns.{InColumns}
 use Rattle.theory.specs.Roads.{StepRoad, step_row}
-use Rattle.theory.specs.RunsLaws.{ReachedState, StepOf, step-input, step-sized, step_left}
+use Rattle.theory.specs.RunsLaws.{ReachedState, StepOf}
+use Rattle.theory.proofs.RunsLaws.{step-input, step-sized, step_left}
 use Rattle.model.specs.Filling.{MeterState, meter_state, granted_at, filled_row, metered_of}
 use Rattle.model.specs.Put.{put_releases, put_table}
 use Rattle.put.specs.ReleasesLaws.{PutTable, put-table}
 use Rattle.model.specs.Running.{table_of}
-use Rattle.theory.specs.TableLaws.{length-table, table_none, table_more}
+use Rattle.theory.proofs.TableLaws.{length-table, table_none, table_more}
 use Rattle.theory.specs.Readable.{Readable}
 use Rattle.model.specs.Filling.{metered_from, granted_from, rows_from, filled_from}
 use Rattle.filling.specs.FillingFrom.{filled-road, filled-run, releases-small, filled_ok, filled-released, filled-reached}

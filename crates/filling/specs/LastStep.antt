@@ -28,7 +28,7 @@ use Rattle.model.specs.Put.{put_table, released_row}
 use Rattle.ramps.specs.RampsLaws.{filled-release}
 use Rattle.model.specs.Filling.{metered_from, granted_from, rows_from, filled_from}
 use Rattle.model.specs.Running.{table_of}
-use Rattle.theory.specs.TableLaws.{table-row, length-table}
+use Rattle.theory.proofs.TableLaws.{table-row, length-table}
 use Rattle.put.specs.ReleasesLaws.{PutTable, put-table}
 use Rattle.filling.specs.FillingLoop.{FillableFrom}
 use Rattle.filling.specs.FillingFrom.{filled-road, filled-run, releases-small, filled_ok, filled-reached}

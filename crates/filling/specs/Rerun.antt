@@ -12,11 +12,13 @@ use Rattle.model.specs.Put.{released_row}
 use Rattle.put.specs.ReleasesLaws.{PutTable, put-table, table-head}
 use Rattle.put.specs.SameReading.{rows_replaced}
 use Rattle.theory.specs.StepLaws.{number-of}
-use Rattle.theory.specs.RunsLaws.{StudyOk, SharedSteps, shared-less, engine-shared}
+use Rattle.theory.specs.RunsLaws.{StudyOk, SharedSteps}
+use Rattle.theory.proofs.RunsLaws.{shared-less, engine-shared}
 use Rattle.model.specs.Running.{run_fault, first_step, end_with, lanes_fault, run_end, running_of, table_of, list_after}
-use Rattle.theory.specs.SchedulesLaws.{run_table, step-none, end-all}
-use Rattle.theory.specs.TableLaws.{table-shared}
-use Rattle.theory.specs.RunEnds.{runs-long, writes-long}
+use Rattle.theory.specs.SchedulesLaws.{run_table}
+use Rattle.theory.proofs.SchedulesLaws.{step-none, end-all}
+use Rattle.theory.proofs.TableLaws.{table-shared}
+use Rattle.theory.proofs.RunEnds.{runs-long, writes-long}
 use Rattle.model.specs.Demand.{Openable}
 use Rattle.theory.specs.Readable.{readable}
 use Rattle.model.specs.Filling.{metered_after, granted_in, filled_study, filled_bytes}

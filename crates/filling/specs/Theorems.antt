@@ -9,12 +9,13 @@ use Rattle.model.specs.declared.Law.{Law}
 use Rattle.model.specs.Reading.{reading_of, study_of}
 use Rattle.model.specs.Flow.{gate_arrivals, arrivals_at}
 use Rattle.model.specs.Filling.{metered_after, filled_bytes, law_place, filling_of, record_after, filled_list, OnlyReleases}
-use Rattle.theory.specs.RunsLaws.{StudyOk, shared-less}
+use Rattle.theory.specs.RunsLaws.{StudyOk}
+use Rattle.theory.proofs.RunsLaws.{shared-less}
 use Rattle.model.specs.Running.{EndAnswer, running_of, list_after}
-use Rattle.theory.specs.RunEnds.{runs-refused, writes-refused, runs_closed, writes-closed, runs-short, writes_short}
+use Rattle.theory.proofs.RunEnds.{runs-refused, writes-refused, runs_closed, writes-closed, runs-short, writes_short}
 use Rattle.theory.specs.Readable.{readable}
 use Rattle.model.specs.Demand.{Openable, DemandAndGrounds}
-use Rattle.theory.specs.DemandWhole.{unbegun, demand-and-grounds}
+use Rattle.theory.proofs.DemandWhole.{unbegun, demand-and-grounds}
 use Rattle.ramps.specs.RampsLaws.{filled-gate, filled-arrivals}
 use Rattle.filling.specs.Rerun.{filled-table, filled-rows, filled-reads, same-study, filled-shared, filled-openable, filled_runs, filled-writes}
 use Rattle.filling.specs.Cases.{Leaves, fills-refused, fills-law, fills-closed, fills-short, fills-all, Case, case-of}

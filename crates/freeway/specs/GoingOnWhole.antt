@@ -40,10 +40,11 @@ use Rattle.theory.specs.Roads.{StepRoad, step-alike, step_row, row_back, sized-a
 use Rattle.theory.specs.Readable.{Readable, readable}
 use Rattle.theory.specs.StartingState.{same-roads}
 use Rattle.theory.specs.RunsLaws.{StudyOk}
-use Rattle.theory.specs.SchedulesLaws.{run-reached, step-within}
+use Rattle.theory.proofs.SchedulesLaws.{run-reached, step-within}
 use Rattle.theory.specs.WeightsLaws.{weighted-total-none, weighted-total-more}
-use Rattle.theory.specs.DemandLaws.{engine-best}
-use Rattle.theory.specs.GoingOn.{Rest, first_rest, metered-rest, engine-rest, faults-rest}
+use Rattle.theory.proofs.DemandLaws.{engine-best}
+use Rattle.theory.specs.GoingOn.{Rest}
+use Rattle.theory.proofs.GoingOn.{first_rest, metered-rest, engine-rest, faults-rest}
 use Rattle.put.specs.ReleasesLaws.{PutTable, put-table, table-head}
 use Rattle.put.specs.SameReading.{rows_replaced}
 use Rattle.ramps.specs.RampsLaws.{filled-gate, filled-arrivals, filled_row_lem}

@@ -8,7 +8,7 @@ use Rattle.joining.specs.Theorems.{joined_bytes, joined-reads}
 use Rattle.model.specs.Running.{running_of, list_after}
 use Rattle.theory.specs.Readable.{openable-empty}
 use Rattle.model.specs.Demand.{Openable, DemandAndGrounds}
-use Rattle.theory.specs.DemandWhole.{demand-and-grounds}
+use Rattle.theory.proofs.DemandWhole.{demand-and-grounds}
 
 module _ (up down : List ℕ) (share : ℕ) (target : List ℕ) (joined : (joining_of up down share target).number ≡ 0) where
   -- with the empty table no refusal applies

@@ -32,7 +32,7 @@ use Rattle.model.specs.Schedules.{Study, ReleasesFit, outflows_of, schedule_afte
 use Rattle.theory.specs.RulesLaws.{Sized}
 use Rattle.theory.specs.RunsLaws.{ReleasesFitUpTo, StudyOk}
 use Rattle.theory.specs.BetterRoad.{BetterRoad}
-use Rattle.theory.specs.Conservation as conservation
+use Rattle.theory.proofs.Conservation as conservation
 use Rattle.theory.specs.Edges as edges
 use Rattle.model.specs.Reading.{cells_of, reading_of, reading_within, refused_of, accepted_of, study_of}
 use Rattle.reading.specs.Versions.{first_reading_of}
@@ -51,21 +51,21 @@ use Rattle.model.specs.Judging.{judging_of}
 use Rattle.model.specs.Running.{run_fault, first_step, run_end, running_of, list_after, steps_made}
 use Rattle.model.specs.GoingOn.{state_fault}
 use Rattle.model.specs.Demand.{Openable, DemandAndGrounds, WeightedDemand, Reaches, Ahead, AcceptsExactly}
-use Rattle.theory.specs.DemandWhole as whole
+use Rattle.theory.proofs.DemandWhole as whole
 use Rattle.model.specs.Weights.{weighted_total_of_run}
-use Rattle.theory.specs.DemandByWeights as weighting
+use Rattle.theory.proofs.DemandByWeights as weighting
 use Rattle.theory.specs.WeightsUnread as unread
-use Rattle.theory.specs.BetterRoadRuns as improving
+use Rattle.theory.proofs.BetterRoadRuns as improving
 use Rattle.theory.specs.BetterRoadNotEmpty as worked
-use Rattle.theory.specs.Accounts as accounting
-use Rattle.theory.specs.JudgingExact as judged
-use Rattle.theory.specs.NoClosures as unclosed
+use Rattle.theory.proofs.Accounts as accounting
+use Rattle.theory.proofs.JudgingExact as judged
+use Rattle.theory.proofs.NoClosures as unclosed
 use Rattle.theory.specs.Finer.{scaled}
 use Rattle.theory.specs.WholeShares.{SharesWhole}
 use Rattle.theory.specs.AnyShares.{Most}
 use Rattle.theory.specs.NearRuns.{Deciding}
-use Rattle.theory.specs.Rounding as rounds
-use Rattle.theory.specs.Totals as totals
+use Rattle.theory.proofs.Rounding as rounds
+use Rattle.theory.proofs.Totals as totals
 use Rattle.model.specs.Filling.{MeterState}
 use Rattle.model.specs.Filling.{metered_from, filling_of, record_after, filled_list, OnlyReleases}
 use Rattle.filling.specs.Theorems as filling
@@ -75,7 +75,7 @@ use Rattle.freeway.specs.WantedRun as wanted_run
 use Rattle.freeway.specs.WantedPut as wanted_put
 use Rattle.freeway.specs.JoinedRun as joined_run
 use Rattle.freeway.specs.GoingOnWhole as stretches
-use Rattle.theory.specs.GoingOn as onward
+use Rattle.theory.proofs.GoingOn as onward
 
 -- 01, forms. Each case of an answer has its number and values, and no two cases have the same; the other types of answers are in `Answers`
 pub refusal-settled : (q p : Refusal) → refusal_number q ≡ refusal_number p → q ≡ p

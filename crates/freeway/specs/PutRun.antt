@@ -15,7 +15,7 @@ use Rattle.put.specs.Theorems.{puts, put_if}
 use Rattle.model.specs.Running.{steps_made, running_of, list_after}
 use Rattle.theory.specs.Readable.{readable}
 use Rattle.model.specs.Demand.{Openable, DemandAndGrounds}
-use Rattle.theory.specs.DemandWhole.{demand-and-grounds}
+use Rattle.theory.proofs.DemandWhole.{demand-and-grounds}
 
 -- a release at i in the state before a step of a table of outflows: it is at most queue plus arrivals, and at most the supply
 pub record ReleaseChecked (a : Study) (out : List ℕ) (step release i : ℕ) : Type 0 where

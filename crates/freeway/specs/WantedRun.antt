@@ -13,11 +13,12 @@ use Rattle.model.specs.Flow.{arrivals_at, release_at, most_release_at, supply_at
 use Rattle.theory.specs.MoveLaws.{next-queue}
 use Rattle.theory.specs.RulesLaws.{Sized}
 use Rattle.model.specs.Stepping.{lowest_of, release_fault, release_fault_at}
-use Rattle.theory.specs.RunsLaws.{StudyOk, schedule-sized, engine-schedule}
+use Rattle.theory.specs.RunsLaws.{StudyOk}
+use Rattle.theory.proofs.RunsLaws.{schedule-sized, engine-schedule}
 use Rattle.model.specs.Reading.{reading_of, study_of}
 use Rattle.model.specs.Running.{run_fault, first_step, EndAnswer, run_end, running_of}
-use Rattle.theory.specs.SchedulesLaws.{step-within, end-all, end-fault}
-use Rattle.theory.specs.RunEnds.{runs-long, runs-short}
+use Rattle.theory.proofs.SchedulesLaws.{step-within, end-all, end-fault}
+use Rattle.theory.proofs.RunEnds.{runs-long, runs-short}
 use Rattle.theory.specs.Readable.{readable}
 use Rattle.model.specs.Demand.{Openable}
 use Rattle.model.specs.Wanted.{ramp_queue_after, TableObeys}

@@ -10,7 +10,8 @@ use Rattle.writing.specs.Theorems.{SavedRecord, saved_of, saved-record, saved_ro
 use Rattle.model.specs.Running.{running_of, list_after}
 use Rattle.model.specs.Judging.{judging_of}
 use Rattle.model.specs.Demand.{Openable}
-use Rattle.theory.specs.VersionsAlike.{EndsAlike, runs-alike, judges-alike, same-list}
+use Rattle.theory.specs.VersionsAlike.{EndsAlike}
+use Rattle.theory.proofs.VersionsAlike.{runs-alike, judges-alike, same-list}
 
 -- the same road in another version and with other seconds; both are written without a refusal into any targets
 module _ (road : Road) (version seconds T : ℕ) (start : Start) (rows target other lanes : List ℕ)

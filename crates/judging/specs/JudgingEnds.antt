@@ -15,8 +15,8 @@ use Rattle.model.specs.Judging.{judge_fault, judge_end, judging_of}
 use Rattle.model.specs.Judging.{held_table, queue_table, held_row, queue_row, history_of, held_after, queue_after}
 use Rattle.model.specs.GoingOn.{judging_on, history_on, held_on, queue_on}
 use Rattle.model.specs.Demand.{AcceptsExactly}
-use Rattle.theory.specs.SchedulesLaws.{end-made}
-use Rattle.theory.specs.JudgingExact.{accepts-exactly}
+use Rattle.theory.proofs.SchedulesLaws.{end-made}
+use Rattle.theory.proofs.AcceptsExactly.{accepts-exactly}
 use Rattle.theory.specs.StartingState.{starting_of}
 use Rattle.opening.specs.OpenedStudy.{opened_study, end_by, steps_by, ends-unopened, ends-opened, opened-ends, opened-made, started-ends, started-made}
 use Rattle.judging.specs.WrittenStates.{Ends, passed_steps}

@@ -8,10 +8,11 @@ use Rattle.model.specs.declared.Road.{Road}
 use Rattle.model.specs.declared.State.{State}
 use Rattle.model.specs.Schedules.{Study, road_at, places, schedule_after, proposed_at, scheduled_at}
 use Rattle.theory.specs.StepLaws.{number-of}
-use Rattle.theory.specs.RunsLaws.{StudyOk, StepOf, step-road, step-input, step-sized, step_left}
+use Rattle.theory.specs.RunsLaws.{StudyOk, StepOf}
+use Rattle.theory.proofs.RunsLaws.{step-road, step-input, step-sized, step_left}
 use Rattle.model.specs.Judging.{judge_fault, judge_end}
 use Rattle.model.specs.Running.{EndAnswer, end_with}
-use Rattle.theory.specs.SchedulesLaws.{judge-reached, ends-all, ends_at}
+use Rattle.theory.proofs.SchedulesLaws.{judge-reached, ends-all, ends_at}
 use Rattle.judging.specs.JudgedStep.{JudgeStepLent, JudgeStepGives}
 
 -- the schedule obeys in the first k steps, and u is its own state after them

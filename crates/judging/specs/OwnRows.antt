@@ -7,7 +7,7 @@ use Rattle.model.specs.declared.State.{State}
 use Rattle.model.specs.Schedules.{Study, places, engine_after, outflows_at, proposed_at}
 use Rattle.theory.specs.RunsLaws.{StudyOk}
 use Rattle.model.specs.Running.{run_fault, first_step}
-use Rattle.theory.specs.DemandLaws.{own-state}
+use Rattle.theory.proofs.DemandLaws.{own-state}
 use Rattle.model.specs.Judging.{places_of, held_row, queue_row, held_table, queue_table}
 
 -- the rows after step k of the engine's run: the gate's queue and each cell's held count; and 0 and each ramp's queue

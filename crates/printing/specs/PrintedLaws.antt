@@ -15,8 +15,8 @@ use Rattle.model.specs.Reading.{cells_of, ReadAnswer, reading_within, reading_of
 use Rattle.reading.specs.Caller.{Beyond, beyond-refused, within-other, within-kept, within-accepted}
 use Rattle.reading.specs.Table.{read_table}
 use Rattle.model.specs.Running.{steps_made, running_of, list_after}
-use Rattle.theory.specs.TableLaws.{table-row}
-use Rattle.theory.specs.RunEnds.{runs-refused, runs-long}
+use Rattle.theory.proofs.TableLaws.{table-row}
+use Rattle.theory.proofs.RunEnds.{runs-refused, runs-long}
 use Rattle.theory.specs.Readable.{readable-open, openable-empty}
 
 -- the text with only the model's limits

@@ -11,7 +11,7 @@ use Rattle.model.specs.Stepping.{releases_of}
 use Rattle.theory.specs.RunsLaws.{StudyOk}
 use Rattle.model.specs.Running.{table_of}
 use Rattle.theory.specs.SchedulesLaws.{run_table}
-use Rattle.theory.specs.TableLaws.{length-table, table_none, table_more}
+use Rattle.theory.proofs.TableLaws.{length-table, table_none, table_more}
 use Rattle.theory.specs.Readable.{Readable}
 use Rattle.running.specs.Steps.{FaultlessSteps, RunTurn, ran-none, ran-more, steps_all, steps-fault, row_is}
 

@@ -11,11 +11,12 @@ use Rattle.model.specs.Demand.{Openable, DemandAndGrounds, WeightedDemand}
 use Rattle.model.specs.Weights.{weighted_total, weighted_total_of_run}
 use Rattle.model.specs.Longest.{Queues, longest_of, longest_run}
 use Rattle.model.specs.GoingOn.{running_on, list_on, weighted_total_on, longest_on}
-use Rattle.theory.specs.SchedulesLaws.{run_table, end-made}
-use Rattle.theory.specs.TableLaws.{table_none}
+use Rattle.theory.specs.SchedulesLaws.{run_table}
+use Rattle.theory.proofs.SchedulesLaws.{end-made}
+use Rattle.theory.proofs.TableLaws.{table_none}
 use Rattle.theory.specs.WeightsLaws.{weighted-total-none}
-use Rattle.theory.specs.DemandWhole.{demand-and-grounds}
-use Rattle.theory.specs.DemandByWeights.{weighted-demand}
+use Rattle.theory.proofs.DemandWhole.{demand-and-grounds}
+use Rattle.theory.proofs.DemandByWeights.{weighted-demand}
 use Rattle.theory.specs.StartingState.{starting_of}
 use Rattle.counts.specs.Longest.{no_queues}
 use Rattle.counts.specs.LongestLaws.{longest-none}

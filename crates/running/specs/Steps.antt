@@ -10,14 +10,15 @@ use Rattle.model.specs.Schedules.{Study, road_at, places, outflows_of, engine_af
 use Rattle.model.specs.Move.{next_of}
 use Rattle.model.specs.Stepping.{releases_of}
 use Rattle.theory.specs.StepLaws.{number-of}
-use Rattle.theory.specs.RunsLaws.{StudyOk, ReachedState, StepOf, step-road, step-input, step-sized, step_left}
+use Rattle.theory.specs.RunsLaws.{StudyOk, ReachedState, StepOf}
+use Rattle.theory.proofs.RunsLaws.{step-road, step-input, step-sized, step_left}
 use Rattle.model.specs.Record.{record_row}
 use Rattle.fields.specs.FieldsLaws.{HoldsRow}
 use Rattle.outflows.specs.declared.Ledger.{Ledger}
 use Rattle.passes.specs.Tables.{Table, state_in}
 use Rattle.passes.specs.Step.{Arrays, StepRequires}
 use Rattle.model.specs.Running.{run_fault, first_step, EndAnswer, end_with, run_end}
-use Rattle.theory.specs.SchedulesLaws.{ends_at, ends-all, run-reached}
+use Rattle.theory.proofs.SchedulesLaws.{ends_at, ends-all, run-reached}
 
 -- k steps are made without a fault, and u is the state after them
 pub record FaultlessSteps (a : Study) (u : State) (k : ℕ) : Type 0 where

@@ -13,7 +13,7 @@ use Rattle.model.specs.Road.{most_steps}
 use Rattle.model.specs.Flow.{arrivals_at, release_at}
 use Rattle.model.specs.Move.{held_of, queue_of, cumulative_of, moved_to, moved_of, counted_of, next_of}
 use Rattle.theory.specs.MoveLaws.{counted_is, counted-present}
-use Rattle.theory.specs.LimitsKept.{present-bound}
+use Rattle.theory.proofs.LimitsKept.{present-bound}
 use Rattle.model.specs.Schedules.{outflows_of}
 use Rattle.theory.specs.RulesLaws.{Sized}
 use Rattle.stepping.specs.StepNeeds.{Movable, Countable, MovedCells, moved-cell, moved-end}

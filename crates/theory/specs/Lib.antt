@@ -6,7 +6,6 @@ pub mod VerdictLaws
 pub mod Roads
 pub mod OpenRoad
 pub mod AllOpen
-pub mod LimitsKept
 pub mod RunsLaws
 pub mod WeightsLaws
 pub mod TwoStates
@@ -20,19 +19,10 @@ pub mod TableLaws
 pub mod Readable
 pub mod Opening
 pub mod StartingState
-pub mod RunEnds
-pub mod DemandLaws
-pub mod DemandWhole
-pub mod JudgingExact
 pub mod StepAndRun
 pub mod Accounts
-pub mod ReturnedAccounts
 pub mod NoClosures
 pub mod VersionsAlike
-pub mod DemandByWeights
-pub mod UnitWeights
-pub mod BetterRoadRuns
-pub mod NotEmpty
 pub mod BetterRoadNotEmpty
 pub mod WeightsUnread
 pub mod Finer

@@ -18,7 +18,7 @@ use Rattle.model.specs.Schedules.{Study, open_road, road_at, outflows_of, schedu
 use Rattle.model.specs.Limits.{place_ok, input_ok}
 use Rattle.model.specs.Flow.{capacity_at, demand_at, share_at, outflow_at}
 use Rattle.model.specs.Move.{held_of, moved_to, counted_of, next_of, exits_of}
-use Rattle.model.specs.Stepping.{lowest_of, releases_of, step_on, stepping_of}
+use Rattle.model.specs.Stepping.{lowest_of, releases_of, stepping_of}
 use Rattle.model.specs.Judging.{outflow_fault_at, verdict_of}
 
 -- a road with another version and other seconds

@@ -7,12 +7,13 @@ use Rattle.model.specs.declared.Road.{Road}
 use Rattle.model.specs.declared.State.{State}
 use Rattle.model.specs.Schedules.{Study, road_at, schedule_after, engine_after, outflows_at, ObeysUpTo, proposed_at, scheduled_at}
 use Rattle.model.specs.Flow.{cumulative_at}
-use Rattle.theory.specs.RunsLaws.{ReleasesFitUpTo, StudyOk, engine-greatest, rivals-self, run-behind}
+use Rattle.theory.specs.RunsLaws.{ReleasesFitUpTo, StudyOk}
+use Rattle.theory.proofs.RunsLaws.{engine-greatest, rivals-self, run-behind}
 use Rattle.theory.specs.RulesLaws.{outflows-obey}
 use Rattle.theory.specs.Behind.{Behind}
 use Rattle.model.specs.Running.{run_fault, first_step, end_with, run_end}
 use Rattle.model.specs.Judging.{judge_fault, judge_end}
-use Rattle.theory.specs.SchedulesLaws.{step-within, step-before, end-all, end-state, run_fits, run-reached, judge-reached, obeys-faults, faults-obeys}
+use Rattle.theory.proofs.SchedulesLaws.{step-within, step-before, end-all, end-state, run_fits, run-reached, judge-reached, obeys-faults}
 use Rattle.model.specs.Demand.{Ahead, GreatestIn}
 
 -- if t is behind s, then s is ahead of t as `Demand` states it
@@ -28,10 +29,10 @@ behind-ahead r s t b = record {
 
 module _ (a : Study) (ok : StudyOk a) where
   -- the steps that running makes, and those that judging makes
-  abbrev K : ℕ
+  abbrev pub K : ℕ
   K = first_step (run_fault a) a.steps
 
-  abbrev J : List ℕ → ℕ
+  abbrev pub J : List ℕ → ℕ
   J zs = first_step (judge_fault a zs) a.steps
 
   fits : ReleasesFitUpTo a K
@@ -56,9 +57,6 @@ module _ (a : Study) (ok : StudyOk a) where
     pub own-greatest : (j : ℕ) → j < K → GreatestIn a out j
     own-greatest j l = rw (own-state j (omega arith), same j l) (engine-greatest a j (fits j l))
 
-    pub own-best : (zs : List ℕ) (k : ℕ) → k ≤ K → ObeysUpTo a (proposed_at a zs) k → Ahead a.road (scheduled_at a out k) (scheduled_at a zs k)
-    own-best zs k l h = rw (own-state k l) (engine-best zs k l h)
-
     -- judging accepts them if running was not refused
     pub own-judged : K ≡ a.steps → judge_end a out ≡ run_end a
     own-judged e =
@@ -78,9 +76,3 @@ module _ (a : Study) (ok : StudyOk a) where
   judge-done zs =
       ap (λ (u : State). u.done) (end-state a (judge_fault a zs) (scheduled_at a zs))
       ∙ (judge-reached a ok zs (J zs) (step-within (judge_fault a zs) a.steps) (step-before (judge_fault a zs) a.steps)).done
-
-  pub returned-ahead : (zs : List ℕ) → (run_end a).state.done ≡ (judge_end a zs).state.done → Ahead a.road (run_end a).state (judge_end a zs).state
-  returned-ahead zs e =
-      let k : K ≡ J zs = omega (arith, run-done, e, judge-done zs) in
-      rw (end-state a (run_fault a) (engine_after a), end-state a (judge_fault a zs) (scheduled_at a zs), ← k)
-      (engine-best zs K (le_refl K) (λ j l. faults-obeys a ok zs j (omega (arith, k))))

@@ -7,16 +7,17 @@ use Rattle.numbers.specs.Tests.{order}
 use Rattle.model.specs.Road.{total_of}
 use Rattle.model.specs.Schedules.{Study, table_size, engine_after}
 use Rattle.theory.specs.RunsLaws.{ReleasesFitUpTo, StudyOk}
-use Rattle.theory.specs.BetterRoad.{BetterRoad, better-behind}
+use Rattle.theory.specs.BetterRoad.{BetterRoad}
+use Rattle.theory.proofs.BetterRoad.{better-behind}
 use Rattle.model.specs.Reading.{reading_of, study_of}
 use Rattle.reading.specs.Numbers.{read-numbers}
 use Rattle.model.specs.Running.{run_fault, first_step, steps_made, running_of}
-use Rattle.theory.specs.SchedulesLaws.{step-within, step-before, end-made, end-state, run_fits}
-use Rattle.theory.specs.RunEnds.{runs-short, runs-long}
+use Rattle.theory.proofs.SchedulesLaws.{step-within, step-before, end-made, end-state, run_fits}
+use Rattle.theory.proofs.RunEnds.{runs-short, runs-long}
 use Rattle.theory.specs.Readable.{readable}
 use Rattle.model.specs.Demand.{Ahead, Openable}
-use Rattle.theory.specs.DemandLaws.{behind-ahead}
-use Rattle.theory.specs.DemandWhole.{demand-and-grounds}
+use Rattle.theory.proofs.DemandLaws.{behind-ahead}
+use Rattle.theory.proofs.DemandWhole.{demand-and-grounds}
 
 -- a record and a table to which no refusal applies
 module _ (bytes lanes : List ℕ) (openable : Openable bytes lanes) where

@@ -7,7 +7,7 @@ use Rattle.model.specs.Reading.{study_of}
 use Rattle.model.specs.WorkedRecord.{sample}
 use Rattle.model.specs.Running.{list_after}
 use Rattle.model.specs.Demand.{Ahead, Reaches}
-use Rattle.theory.specs.DemandWhole.{demand-and-grounds}
+use Rattle.theory.proofs.DemandWhole.{demand-and-grounds}
 use Rattle.model.specs.WorkedSchedule.{still, works}
 use Rattle.model.proofs.WorkedSchedule.{both, both-closed}
 

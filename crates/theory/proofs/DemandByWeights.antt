@@ -7,20 +7,21 @@ use native.Mathlib.Omega.{arith}
 use Rattle.std.proofs.Math.ListN.{length}
 use Rattle.numbers.specs.Tests.{order}
 use Rattle.model.specs.Schedules.{Study, table_size, schedule_after, engine_after, proposed_at, scheduled_at}
-use Rattle.theory.specs.RunsLaws.{ReleasesFitUpTo, StudyOk, rivals-self, run-weighted}
+use Rattle.theory.specs.RunsLaws.{ReleasesFitUpTo, StudyOk}
+use Rattle.theory.proofs.RunsLaws.{rivals-self, run-weighted}
 use Rattle.model.specs.Weights.{weighted_total, Falling, weighted_total_of_run, weighted_total_of_schedule}
 use Rattle.theory.specs.WeightsLaws.{weighted-total-same, weighted-total-none}
 use Rattle.model.specs.Reading.{reading_of, study_of}
 use Rattle.reading.specs.Numbers.{read-numbers}
 use Rattle.model.specs.Running.{run_fault, first_step, steps_made, opening_of, running_of, table_of, list_after}
 use Rattle.model.specs.Judging.{judge_fault, judging_of}
-use Rattle.theory.specs.SchedulesLaws.{step-before, end-made, run_fits}
-use Rattle.theory.specs.TableLaws.{table-row}
-use Rattle.theory.specs.RunEnds.{runs-unopened, runs-short, runs-long, writes-long, judges-length, judges-ends}
+use Rattle.theory.proofs.SchedulesLaws.{step-before, end-made, run_fits}
+use Rattle.theory.proofs.TableLaws.{table-row}
+use Rattle.theory.proofs.RunEnds.{runs-unopened, runs-short, runs-long, writes-long, judges-length, judges-ends}
 use Rattle.theory.specs.Readable.{readable}
 use Rattle.model.specs.Demand.{Reaches, Openable, WeightedDemand}
-use Rattle.theory.specs.DemandLaws.{own-state, run-done, judge-done}
-use Rattle.theory.specs.DemandWhole.{sized, demand-and-grounds}
+use Rattle.theory.proofs.DemandLaws.{own-state, run-done, judge-done}
+use Rattle.theory.proofs.DemandWhole.{sized, demand-and-grounds}
 
 module _ (bytes lanes : List ℕ) (openable : Openable bytes lanes) (list : List ℕ) where
   abbrev a : Study

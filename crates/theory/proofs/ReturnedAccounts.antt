@@ -6,8 +6,9 @@ use Rattle.model.specs.Reading.{study_of}
 use Rattle.model.specs.Demand.{Openable}
 use Rattle.model.specs.Running.{running_of, list_after, steps_made}
 use Rattle.model.specs.Judging.{judging_of}
-use Rattle.theory.specs.DemandWhole.{demand-and-grounds}
-use Rattle.theory.specs.Accounts.{Accounts, accounts}
+use Rattle.theory.proofs.DemandWhole.{demand-and-grounds}
+use Rattle.theory.specs.Accounts.{Accounts}
+use Rattle.theory.proofs.Accounts.{accounts}
 
 module _ (bytes lanes : List ℕ) (openable : Openable bytes lanes) where
   -- for the rows that running writes; if the run began, their last state is the one returned (`own_state` of `Grounds`)

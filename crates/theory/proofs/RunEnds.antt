@@ -8,9 +8,10 @@ use Rattle.model.specs.Reading.{ReadAnswer, refused_of, reading_of, study_of}
 use Rattle.model.specs.Demand.{Openable}
 use Rattle.model.specs.Running.{run_fault, no_state, lanes_fault, opening_of, run_end, running_of, table_of, list_after}
 use Rattle.model.specs.Judging.{judge_end, judging_of}
-use Rattle.theory.specs.SchedulesLaws.{run_table, end-made}
+use Rattle.theory.specs.SchedulesLaws.{run_table}
+use Rattle.theory.proofs.SchedulesLaws.{end-made}
 use Rattle.theory.specs.Opening.{opening-refused, opening-closed, openable-opening}
-use Rattle.theory.specs.TableLaws.{table_none}
+use Rattle.theory.proofs.TableLaws.{table_none}
 
 -- both give the same refusal for a record that isn't opened, and nothing is written
 module _ (bytes lanes : List ℕ) (h : (opening_of bytes lanes).number ≡ 0 → ⊥) where

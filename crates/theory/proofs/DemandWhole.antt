@@ -16,12 +16,14 @@ use Rattle.model.specs.Reading.{reading_of, study_of}
 use Rattle.reading.specs.Numbers.{read-numbers}
 use Rattle.model.specs.Running.{run_fault, first_step, EndAnswer, no_state, run_end, running_of, steps_made, table_of, list_after}
 use Rattle.model.specs.Judging.{judge_fault, judge_end, judging_of}
-use Rattle.theory.specs.TableLaws.{flows_of, length-flows, flows-row, table-row, table-front}
-use Rattle.theory.specs.SchedulesLaws.{step-within, end-made, end-state, end-road, end-number, run-began, obeys-faults, faults-obeys}
-use Rattle.theory.specs.RunEnds.{runs-short, runs-long, writes_short, writes-long, judges-length, judges-ends}
+use Rattle.theory.specs.TableLaws.{flows_of}
+use Rattle.theory.proofs.TableLaws.{length-flows, flows-row, table-row, table-front}
+use Rattle.theory.proofs.SchedulesLaws.{step-within, end-made, end-state, end-road, end-number, run-began, obeys-faults, faults-obeys}
+use Rattle.theory.proofs.RunEnds.{runs-short, runs-long, writes_short, writes-long, judges-length, judges-ends}
 use Rattle.theory.specs.Readable.{readable}
 use Rattle.model.specs.Demand.{Ahead, Reaches, Openable, Demand, Grounds, DemandAndGrounds}
-use Rattle.theory.specs.DemandLaws.{own-state, own-obeys, own-greatest, own-best, own-judged, run-done, judge-done, returned-ahead}
+use Rattle.theory.proofs.DemandLaws.{own-state, own-obeys, own-greatest, own-judged, run-done, judge-done}
+use Rattle.theory.proofs.OwnBest.{own-best, returned-ahead}
 
 -- a state with every F 0
 record Fresh (r : Road) (u : State) : Type 0 where

@@ -9,13 +9,13 @@ use Rattle.model.specs.Road.{total_of}
 use Rattle.model.specs.Schedules.{Study, proposed_at, scheduled_at}
 use Rattle.model.specs.Move.{held_sum, queue_sum, present_of}
 use Rattle.theory.specs.RulesLaws.{Sized}
-use Rattle.theory.specs.RunsLaws.{schedule-sized}
+use Rattle.theory.proofs.RunsLaws.{schedule-sized}
 use Rattle.model.specs.Weights.{weighted_present, weighted_total, weighted_total_of_schedule}
 use Rattle.theory.specs.WeightsLaws.{ones, none, gate_alone, cells_alone, weighted-ones, weighted-gate, weighted-cells, weighted-ramps}
 use Rattle.model.specs.Reading.{reading_of, study_of}
 use Rattle.theory.specs.Readable.{readable}
 use Rattle.model.specs.Demand.{Reaches, Openable}
-use Rattle.theory.specs.Accounts.{accounts}
+use Rattle.theory.proofs.Accounts.{accounts}
 
 -- for every schedule, after every step that it reaches; the rows of the run are such a schedule
 module _ (bytes lanes zs : List ℕ) (openable : Openable bytes lanes) (k : ℕ) (reach : Reaches (study_of bytes lanes) zs k) where
