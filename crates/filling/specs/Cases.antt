@@ -21,10 +21,10 @@ module _ (laws : List Law) (bytes lanes list : List ℕ) where
   finished = end_with 0 0 0 a.road (metered_after laws a a.steps).state
 
   -- an answer, with the record and the list that it leaves
-  pub record Leaves (answer : EndAnswer) (record-left List-left : List ℕ) : Type 0 where
+  pub record Leaves (answer : EndAnswer) (record-left list-left : List ℕ) : Type 0 where
     pub answers : filling_of laws bytes lanes list ≡ answer
     pub bytes-are : record_after laws bytes lanes list ≡ record-left
-    pub list-is : filled_list laws bytes lanes list ≡ List-left
+    pub list-is : filled_list laws bytes lanes list ≡ list-left
 
   -- a refusal leaves both unchanged
   pub refusal : (number place : ℕ) → (number ≡ 0 → ⊥) → filling_of laws bytes lanes list ≡ no_state number place → Leaves (no_state number place) bytes list

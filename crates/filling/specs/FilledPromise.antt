@@ -44,9 +44,9 @@ promise : {laws : List Law} {bytes lanes list : List ℕ} {e x : EndAnswer} {aft
 promise {laws} {bytes} {lanes} {list} {after = after} h ee ea eo =
     let answer = ee ∙ sym h.answers in
     let record-left = ea ∙ sym h.bytes-are in
-    let List-left = eo ∙ sym h.list-is in
+    let list-left = eo ∙ sym h.list-is in
     let releases : OnlyReleases bytes after = rw record-left (only-releases laws bytes lanes list) in
-    (answer, (record-left, (List-left, (λ openable. rw (answer, record-left, List-left) (filled-promised laws bytes lanes list openable), releases))))
+    (answer, (record-left, (list-left, (λ openable. rw (answer, record-left, list-left) (filled-promised laws bytes lanes list openable), releases))))
 
 module _ (laws : List Law) (bytes lanes list : List ℕ) {x : ReadAnswer} (h : FillReading laws bytes lanes x) where
   pub promise-refused : {e : EndAnswer} → (x.number ≡ 0 → ⊥) → e ≡ no_state x.number x.place → Promise laws bytes lanes list e bytes list

@@ -173,9 +173,9 @@ filled-alike-by laws s t lanes list first other h = go (case-of laws s lanes lis
         → EndsAlike d e → written ≡ out
         → (d.number ≡ 0 → (k : ℕ) → k < (study_of s lanes).steps → record_row left (study_of t lanes).road.n k ≡ record_row after (study_of s lanes).road.n k)
         → FilledAlike laws s t lanes list
-    by x y alike List-same rows_are = record {
+    by x y alike list-same rows_are = record {
       answer = rw (x.answers, y.answers) alike;
-      written = y.list-is ∙ List-same ∙ sym x.list-is;
+      written = y.list-is ∙ list-same ∙ sym x.list-is;
       rows = λ z k l. rw (x.bytes-are, y.bytes-are) (rows_are (ap (λ (e : EndAnswer). e.number) (sym x.answers) ∙ z) k l);
     }
 

@@ -56,15 +56,20 @@ use Rattle.model.specs.Weights.{weighted_total_of_run}
 use Rattle.theory.proofs.DemandByWeights as weighting
 use Rattle.theory.specs.WeightsUnread as unread
 use Rattle.theory.proofs.BetterRoadRuns as improving
-use Rattle.theory.specs.BetterRoadNotEmpty as worked
+use Rattle.theory.specs.BetterRoadNotEmpty.{FasterRoad}
+use Rattle.theory.proofs.BetterRoadNotEmpty as worked
+use Rattle.theory.specs.Accounts.{Accounts}
 use Rattle.theory.proofs.Accounts as accounting
-use Rattle.theory.proofs.JudgingExact as judged
+use Rattle.theory.proofs.AcceptsExactly as judged
+use Rattle.theory.specs.NoClosures.{plain_running, plain_judging, plain_list}
 use Rattle.theory.proofs.NoClosures as unclosed
 use Rattle.theory.specs.Finer.{scaled}
 use Rattle.theory.specs.WholeShares.{SharesWhole}
 use Rattle.theory.specs.AnyShares.{Most}
 use Rattle.theory.specs.NearRuns.{Deciding}
+use Rattle.theory.specs.Rounding as bounds
 use Rattle.theory.proofs.Rounding as rounds
+use Rattle.theory.specs.Totals.{SharesNotZero, NearTotal, AboveByShares}
 use Rattle.theory.proofs.Totals as totals
 use Rattle.model.specs.Filling.{MeterState}
 use Rattle.model.specs.Filling.{metered_from, filling_of, record_after, filled_list, OnlyReleases}
@@ -75,6 +80,7 @@ use Rattle.freeway.specs.WantedRun as wanted_run
 use Rattle.freeway.specs.WantedPut as wanted_put
 use Rattle.freeway.specs.JoinedRun as joined_run
 use Rattle.freeway.specs.GoingOnWhole as stretches
+use Rattle.theory.specs.GoingOn.{Rest, EndsAs}
 use Rattle.theory.proofs.GoingOn as onward
 
 -- 01, forms. Each case of an answer has its number and values, and no two cases have the same; the other types of answers are in `Answers`
@@ -107,43 +113,43 @@ read-within s h = within.read-within s (reading_of s) refl h
 
 -- 'the rounding decides where they say nothing': how far F is from that of the same study counted K times finer. After every step that both reach
 -- the difference is at most 2 k parts, divided by the part of the traffic that reaches the end; less if all that leaves a cell goes on
-pub rounding : (bytes lanes : List ℕ) → Openable bytes lanes → (K : ℕ) → 0 < K → rounds.Within lanes K → (k : ℕ)
+pub rounding : (bytes lanes : List ℕ) → Openable bytes lanes → (K : ℕ) → 0 < K → bounds.Within lanes K → (k : ℕ)
     → ReleasesFitUpTo (study_of bytes lanes) k → ReleasesFitUpTo (scaled K (study_of bytes lanes)) k
-    → rounds.Near K k (study_of bytes lanes).road (engine_after (study_of bytes lanes) k) (engine_after (scaled K (study_of bytes lanes)) k)
+    → bounds.Near K k (study_of bytes lanes).road (engine_after (study_of bytes lanes) k) (engine_after (scaled K (study_of bytes lanes)) k)
 rounding bytes lanes openable K some within k own fine = rounds.rounding (rounds.finer-ready bytes lanes openable K some within) k own fine
 
-pub rounding-whole : (bytes lanes : List ℕ) → Openable bytes lanes → (K : ℕ) → 0 < K → rounds.Within lanes K → (k : ℕ)
+pub rounding-whole : (bytes lanes : List ℕ) → Openable bytes lanes → (K : ℕ) → 0 < K → bounds.Within lanes K → (k : ℕ)
     → ReleasesFitUpTo (study_of bytes lanes) k → SharesWhole (study_of bytes lanes).road → ReleasesFitUpTo (scaled K (study_of bytes lanes)) k
-    → rounds.NearWhole K k (study_of bytes lanes).road (engine_after (study_of bytes lanes) k) (engine_after (scaled K (study_of bytes lanes)) k)
+    → bounds.NearWhole K k (study_of bytes lanes).road (engine_after (study_of bytes lanes) k) (engine_after (scaled K (study_of bytes lanes)) k)
 rounding-whole bytes lanes openable K some within k own on fine =
     rounds.rounding-whole (rounds.finer-ready bytes lanes openable K some within) k own on fine
 
 -- present and the total, if some of what leaves each cell goes on
-pub rounding-total : (bytes lanes : List ℕ) → Openable bytes lanes → (K : ℕ) → 0 < K → rounds.Within lanes K → totals.SharesNotZero (study_of bytes lanes).road
+pub rounding-total : (bytes lanes : List ℕ) → Openable bytes lanes → (K : ℕ) → 0 < K → bounds.Within lanes K → SharesNotZero (study_of bytes lanes).road
     → (k : ℕ) → ReleasesFitUpTo (study_of bytes lanes) k → ReleasesFitUpTo (scaled K (study_of bytes lanes)) k
-    → totals.NearTotal K k (study_of bytes lanes).road (engine_after (study_of bytes lanes) k) (engine_after (scaled K (study_of bytes lanes)) k)
+    → NearTotal K k (study_of bytes lanes).road (engine_after (study_of bytes lanes) k) (engine_after (scaled K (study_of bytes lanes)) k)
 rounding-total bytes lanes openable K some within on k own fine =
     totals.rounding-total (rounds.finer-ready bytes lanes openable K some within) on k own fine
 
 -- the same bound for every schedule of the finer study in which demand or room decides, as in the papers' rules
-pub rounding-papers : (bytes lanes : List ℕ) → Openable bytes lanes → (K : ℕ) → 0 < K → rounds.Within lanes K → (k : ℕ)
+pub rounding-papers : (bytes lanes : List ℕ) → Openable bytes lanes → (K : ℕ) → 0 < K → bounds.Within lanes K → (k : ℕ)
     → ReleasesFitUpTo (study_of bytes lanes) k → (zs : ℕ → List ℕ) → ObeysUpTo (scaled K (study_of bytes lanes)) zs k
     → Deciding (scaled K (study_of bytes lanes)) zs k
-    → rounds.Near K k (study_of bytes lanes).road (engine_after (study_of bytes lanes) k) (schedule_after (scaled K (study_of bytes lanes)) zs k)
+    → bounds.Near K k (study_of bytes lanes).road (engine_after (study_of bytes lanes) k) (schedule_after (scaled K (study_of bytes lanes)) zs k)
 rounding-papers bytes lanes openable K some within k own zs fine decide =
     rounds.papers-near (rounds.finer-ready bytes lanes openable K some within) k own zs fine decide
 
 -- demand 3 within that bound: no schedule of the finer study is further ahead
-pub rounding-schedules : (bytes lanes : List ℕ) → Openable bytes lanes → (K : ℕ) → 0 < K → rounds.Within lanes K → (k : ℕ)
+pub rounding-schedules : (bytes lanes : List ℕ) → Openable bytes lanes → (K : ℕ) → 0 < K → bounds.Within lanes K → (k : ℕ)
     → ReleasesFitUpTo (study_of bytes lanes) k → (zs : List ℕ) → Reaches (scaled K (study_of bytes lanes)) zs k
     → Most K (2 * k * K) (study_of bytes lanes).road (engine_after (study_of bytes lanes) k) (scheduled_at (scaled K (study_of bytes lanes)) zs k)
 rounding-schedules bytes lanes openable K some within k own zs reaches =
     rounds.finer-schedules (rounds.finer-ready bytes lanes openable K some within) k own zs reaches
 
-pub rounding-schedules-total : (bytes lanes : List ℕ) → Openable bytes lanes → (K : ℕ) → 0 < K → rounds.Within lanes K
-    → totals.SharesNotZero (study_of bytes lanes).road → (k : ℕ) → ReleasesFitUpTo (study_of bytes lanes) k
+pub rounding-schedules-total : (bytes lanes : List ℕ) → Openable bytes lanes → (K : ℕ) → 0 < K → bounds.Within lanes K
+    → SharesNotZero (study_of bytes lanes).road → (k : ℕ) → ReleasesFitUpTo (study_of bytes lanes) k
     → (zs : List ℕ) → Reaches (scaled K (study_of bytes lanes)) zs k
-    → totals.AboveByShares K k (study_of bytes lanes).road (engine_after (study_of bytes lanes) k) (scheduled_at (scaled K (study_of bytes lanes)) zs k)
+    → AboveByShares K k (study_of bytes lanes).road (engine_after (study_of bytes lanes) k) (scheduled_at (scaled K (study_of bytes lanes)) zs k)
 rounding-schedules-total bytes lanes openable K some within on k own zs reaches =
     totals.finer-schedules-total (rounds.finer-ready bytes lanes openable K some within) on k own zs reaches
 
@@ -152,7 +158,7 @@ pub accepts-exactly : (bytes lanes zs : List ℕ) → AcceptsExactly bytes lanes
 accepts-exactly bytes lanes zs = judged.accepts-exactly bytes lanes zs refl
 
 -- the times and the total are the sums of present over the steps done, for gate, road and ramps and together; start plus arrivals equals present plus exits
-pub accounts : (bytes lanes zs : List ℕ) → Openable bytes lanes → (k : ℕ) → Reaches (study_of bytes lanes) zs k → accounting.Accounts (study_of bytes lanes) zs k
+pub accounts : (bytes lanes zs : List ℕ) → Openable bytes lanes → (k : ℕ) → Reaches (study_of bytes lanes) zs k → Accounts (study_of bytes lanes) zs k
 accounts = accounting.accounts
 
 -- demand 3, for every record that reads and every schedule (`Demand`, with the meaning of its words)
@@ -210,8 +216,8 @@ division = paper.divided-is-greatest
 
 -- request 6. An empty table means that all lanes are open: running, judging and the list are those of a model without closures
 pub all-open : (bytes list zs : List ℕ)
-    → (running_of bytes [] list ≡ unclosed.plain_running bytes list)
-    × ((judging_of bytes [] zs ≡ unclosed.plain_judging bytes zs) × (list_after bytes [] list ≡ unclosed.plain_list bytes list))
+    → (running_of bytes [] list ≡ plain_running bytes list)
+    × ((judging_of bytes [] zs ≡ plain_judging bytes zs) × (list_after bytes [] list ≡ plain_list bytes list))
 all-open bytes list zs = (unclosed.empty_runs bytes list, (unclosed.empty-judges bytes zs, unclosed.empty-writes bytes list))
 
 -- request 7. A version 1 record reads as before; a reader that knows only version 1 refuses version 2 with 2, unless its length is refused
@@ -244,7 +250,7 @@ pub better-road-accepted : (s t lanes : List ℕ) → Openable s lanes → Opena
     → total_of (running_of t lanes out).state ≤ total_of (running_of s lanes list).state
 better-road-accepted = improving.better-accepted
 
-pub faster-road : worked.FasterRoad
+pub faster-road : FasterRoad
 faster-road = worked.faster-road
 
 -- request 9. The result reads without refusal, as upstream's cells, then downstream's, with the stated share at the joint
@@ -412,20 +418,20 @@ caller-larger = callers.within-larger
 
 -- going on from a state: b is the rest of a after k steps without a fault. Going on is not refused with 7 or 8, and the whole ends as the rest does.
 -- No schedule of the whole is ahead of a run in stretches
-pub stretch-starts : {a b : Study} {k : ℕ} → onward.Rest a b k → StudyOk a → ((j : ℕ) → j < k → (run_fault a j).number ≡ 0) → b.start ≡ engine_after a k
+pub stretch-starts : {a b : Study} {k : ℕ} → Rest a b k → StudyOk a → ((j : ℕ) → j < k → (run_fault a j).number ≡ 0) → b.start ≡ engine_after a k
     → state_fault b ≡ 0
 stretch-starts h ok none s = stretches.starts-rest h ok none s
 
-pub stretch-ends : {a b : Study} {k : ℕ} → onward.Rest a b k → b.start ≡ engine_after a k → ((j : ℕ) → j < k → (run_fault a j).number ≡ 0)
-    → onward.EndsAs a b k (run_end a) (run_end b)
+pub stretch-ends : {a b : Study} {k : ℕ} → Rest a b k → b.start ≡ engine_after a k → ((j : ℕ) → j < k → (run_fault a j).number ≡ 0)
+    → EndsAs a b k (run_end a) (run_end b)
 stretch-ends h s none = onward.run-rest h s none
 
-pub stretch-best : {a b : Study} {k : ℕ} → onward.Rest a b k → b.start ≡ engine_after a k → StudyOk a → ((j : ℕ) → j < k → (run_fault a j).number ≡ 0)
+pub stretch-best : {a b : Study} {k : ℕ} → Rest a b k → b.start ≡ engine_after a k → StudyOk a → ((j : ℕ) → j < k → (run_fault a j).number ≡ 0)
     → (zs : List ℕ) (j : ℕ) → j ≤ first_step (run_fault b) b.steps → ObeysUpTo a (proposed_at a zs) (k + j)
     → Ahead a.road (engine_after b j) (scheduled_at a zs (k + j))
 stretch-best h s ok none zs j l obeys = stretches.best-rest h s ok none zs j l obeys
 
 -- filling's wishes are computed from the same numbers in the rest as in the whole
-pub stretch-filled : {a b : Study} {k : ℕ} → onward.Rest a b k → (laws : List Law) (m p : MeterState) → p ≡ metered_from laws a m k
+pub stretch-filled : {a b : Study} {k : ℕ} → Rest a b k → (laws : List Law) (m p : MeterState) → p ≡ metered_from laws a m k
     → (j : ℕ) → j ≤ b.steps → metered_from laws b p j ≡ metered_from laws a m (k + j)
 stretch-filled = onward.metered-rest

@@ -30,3 +30,4 @@ pub mod StepKept
 pub mod OwnBest
 pub mod AcceptsExactly
 pub mod LessPresent
+pub mod BetterRoadNotEmpty

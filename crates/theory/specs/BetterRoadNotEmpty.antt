@@ -21,34 +21,6 @@ use Rattle.model.specs.WorkedRoads.{two, four, header, cell, row, list}
 unfoldable pub single : List ℕ → List ℕ
 single speed = header 80 1 ++ (cell speed (two 0 0) 0 1 0 ++ (cell (two 0 0) (two 0 0) 0 0 0 ++ row 0))
 
-faster : (i : ℕ) → i < 2 → at (study_of (single (two 1 244)) []).road.speed i ≤ at (study_of (single (two 3 232)) []).road.speed i
-unfolding single two four header cell row reading_by one_of number_of seconds_size fill_of list_of first_from first_of place_ok row_ok
-faster zero l = omega arith
-faster (suc zero) l = omega arith
-faster (suc (suc i)) l = absurd (omega arith)
-
-same_rows : (k : ℕ) → k < 1 → (study_of (single (two 3 232)) []).rows k ≡ (study_of (single (two 1 244)) []).rows k
-unfolding single two four header cell row reading_by one_of number_of seconds_size fill_of list_of first_from first_of place_ok row_ok
-same_rows zero l = refl
-same_rows (suc k) l = absurd (omega arith)
-
-better : BetterRoad (study_of (single (two 1 244)) []) (study_of (single (two 3 232)) [])
-unfolding single two four header cell row reading_by one_of number_of seconds_size fill_of list_of first_from first_of place_ok row_ok capacity_at
-better = record {
-  road = record {
-    alike = record { n = refl; share = λ i l. refl };
-    gate = omega arith;
-    speed = faster;
-    wave = λ i l. le_refl _;
-    jam = λ i l. le_refl _;
-    capacity = λ i l. le_refl _;
-  };
-  start = refl;
-  steps = refl;
-  rows = same_rows;
-  lanes = refl;
-}
-
 -- speed 500, and speed 1000
 pub record FasterRoad : Type 0 where
   pub first : Openable (single (two 1 244)) []
@@ -58,19 +30,3 @@ pub record FasterRoad : Type 0 where
   pub too : (running_of (single (two 3 232)) [] list).number ≡ 0
   pub before : total_of (running_of (single (two 1 244)) [] list).state ≡ 1
   pub after : total_of (running_of (single (two 3 232)) [] list).state ≡ 0
-
-pub faster-road : FasterRoad
-unfolding single two four header cell row reading_by one_of number_of seconds_size
-    thousandths_of demand_of gate_demand_of supply_of room_of onward_of entering_of greatest_of outflow_of
-    sum_of fill_of list_of first_from first_of first_fault place_ok row_ok
-    capacity_at demand_at most_release_at share_at cumulative_at moved_to counted_of outflows_of lowest_of
-    table_fault road_at engine_after end_of opening_of running_of
-faster-road = record {
-  first = record { reads = refl; opens = refl };
-  other = record { reads = refl; opens = refl };
-  pair = better;
-  accepts = refl;
-  too = refl;
-  before = refl;
-  after = refl;
-}
