@@ -9,7 +9,7 @@ import subprocess
 import pytest
 from test_cli import checkout  # noqa: F401
 
-FIRST = re.compile(r"nobyaluk: the engine is proved and built first: 2 crates, about half an hour\r?\n")
+FIRST = re.compile(r"nobyaluk: the engine is proved and built first: 2 crates, about eight minutes\r?\n")
 CRATE = "nobyaluk: crate 1 of at most 2: rows proved"
 
 

@@ -286,7 +286,7 @@ def test_front_door(checkout, tmp_path):
     assert [p.returncode for p in both] == [0, 0] and all("170.32 vehicle-hours" in out for out, _ in told)
     assert calls.read_text() == "lib --cpu x86-64\n"
     said = "".join(err for _, err in told)
-    assert re.search("nobyaluk: the engine is proved and built first: 2 crates, about half an hour\n", said)
+    assert re.search("nobyaluk: the engine is proved and built first: 2 crates, about eight minutes\n", said)
     assert "nobyaluk: crate 1 of at most 2: rows proved" in said and "another process proves and builds here; this one waits for it" in said
     again = subprocess.run(command, cwd=tmp_path, env=env, capture_output=True, text=True)
     assert again.returncode == 0 and again.stderr == "" and calls.read_text().count("\n") == 1
