@@ -13,7 +13,7 @@ test: ## tests everything except the proofs: reference, programs, C, Rust, Pytho
 	./run examples/printed-run.rec >/dev/null && ./run --exercise examples/printed-run.rec >/dev/null
 	bindings/check
 
-check: ## the checks that a change must pass before it lands: proofs from nothing, wrong programs, all tests; an hour or more from nothing
+check: ## the checks that a change must pass before it lands: proofs from nothing, wrong programs, all tests; about half an hour from nothing
 	.ci/run
 
 page: ## target/wasm/nobyaluk.html, one file for a browser
