@@ -3,7 +3,7 @@
 # and builds, which they keep in target/, this repository's own folder. They source it in the repository's root, in sh or bash, with `who` set to the
 # word before their messages. rt itself works in crates/NAME/out.
 
-# The archive is for every x86-64. rt builds programs for x86-64-v2, and they say so where they can't run.
+# Programs and archive are for every x86-64; left to itself, rt builds for x86-64-v2.
 cpu=x86-64
 
 # Waits until no other process proves and builds in this checkout, if flock is installed. The lock ends with the process that took it.
@@ -58,12 +58,10 @@ progress() {
 prove() {
     rm -f "$2.failed"
     : >"$2"
-    # without rt's stamp it proves the program again, over what it has kept, and says the verdict
-    grep -qs '^logic=proved ' "target/log/$1.out" || rm -f "crates/$1/out/$1.stamp"
     {
         if [ -e "crates/$1/src/main.rt" ]; then
             # rt's lines come on standard error, the program's on standard output
-            (cd "crates/$1" && exec ${3:+"$3"} rt run </dev/null 2>&1 >/dev/null) &
+            (cd "crates/$1" && exec ${3:+"$3"} rt run --cpu "$cpu" </dev/null 2>&1 >/dev/null) &
         else
             (cd "crates/$1" && exec ${3:+"$3"} rt lib --cpu "$cpu" </dev/null 2>&1) &
         fi
@@ -75,12 +73,15 @@ prove() {
     return 1
 }
 
+# find_kit: sets kit to the folder of the kit whose rt is on the PATH.
+find_kit() { kit=$(dirname "$(dirname "$(readlink -f "$(command -v rt)")")"); }
+
 # over_libraries VERB CRATE WORD...: the prover itself, called as rt calls it, over the crate's libraries as they are built; rt takes no other toolchain,
 # and after `rt ci` it would prove these libraries once more.
 over_libraries() {
     verb=$1 crate=$2
     shift 2
-    kit=$(dirname "$(dirname "$(readlink -f "$(command -v rt)")")")
+    find_kit
     top=lib
     if [ -e "crates/$crate/src/main.rt" ]; then top=main; fi
     set -- "$verb" --crate-name "$crate" "src/$top.rt" --extern "std=$kit/rlibs/std.rlib" -L "dependency=$kit/rlibs" \
@@ -102,6 +103,15 @@ over_libraries() {
 # without a stamp, but it puts those of an earlier `rt check` or `rt lib` back, which may be of other sources.
 is_proved() {
     [ -n "${NOBYALUK_PROVED:-}" ] && is_first
+}
+
+# make_program NAME LOG: proves a program over its libraries, and builds it into crates/NAME/out as rt does.
+make_program() {
+    find_kit
+    mkdir -p "crates/$1/out"
+    over_libraries build "$1" --cpu "$cpu" --toolchain "$kit/toolchain" -o "out/$1.o" >"$2" 2>&1 </dev/null || { cat "$2" >&2 && return 1; }
+    "$kit/bin/rattle-link" --target x86_64-unknown-linux-gnu --toolchain "$kit/toolchain" -o "crates/$1/out/$1" "crates/$1/out/$1.o" \
+        "$kit/c/libos_c.a" "$kit/c/liblibc_c.a"
 }
 
 # make_archive LOG TOOLCHAIN: proves exports over its libraries and makes target/staticlib/libexports.a by this toolchain.
