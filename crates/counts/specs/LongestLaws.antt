@@ -8,15 +8,15 @@ use native.Mathlib.Omega.{arith}
 use Rattle.std.proofs.Math.ListN.{length}
 use Rattle.model.specs.Numbers.{at, fill_of}
 use Rattle.numbers.specs.Tests.{order}
-use Rattle.numbers.specs.RowsLaws.{length-fill, fill-at, fill-past, fill-same, fill-own}
+use Rattle.numbers.specs.RowsLaws.{length_fill, fill_at, fill_past, fill_same, fill_own}
 use Rattle.model.specs.declared.Road.{Road}
 use Rattle.model.specs.declared.State.{State}
 use Rattle.model.specs.Road.{most_cells, zeros}
-use Rattle.numbers.specs.Zeros.{length-zeros, zeros-at}
+use Rattle.numbers.specs.Zeros.{length_zeros, zeros_at}
 use Rattle.model.specs.Flow.{gate_arrivals}
 use Rattle.model.specs.Move.{moved_to, counted_of, next_of}
 use Rattle.model.specs.Schedules.{Obeys}
-use Rattle.theory.specs.RulesLaws.{demand-at-gate}
+use Rattle.theory.specs.RulesLaws.{demand_at_gate}
 use Rattle.passes.specs.Supplies.{FilledTo}
 use Rattle.model.specs.Longest.{maximum_of, stayed_of, Queues, queues_of, longest_of}
 use Rattle.counts.specs.Longest.{no_queues}
@@ -62,43 +62,43 @@ module _ (f : ℕ → ℕ) where
 
 -- so each of the longest queues is the greatest over the states after the steps
 module _ (n : ℕ) (after : ℕ → State) (k : ℕ) where
-  pub longest-gate : Greatest (λ j. (after (suc j)).gate_queue) k (longest_of n after k).gate
+  pub longest_gate : Greatest (λ j. (after (suc j)).gate_queue) k (longest_of n after k).gate
   unfolding longest_of
-  longest-gate = greatest (λ j. (after (suc j)).gate_queue) k
+  longest_gate = greatest (λ j. (after (suc j)).gate_queue) k
 
-  pub longest-waiting : Greatest (λ j. stayed_of (after j) (after (suc j))) k (longest_of n after k).waiting
+  pub longest_waiting : Greatest (λ j. stayed_of (after j) (after (suc j))) k (longest_of n after k).waiting
   unfolding longest_of
-  longest-waiting = greatest (λ j. stayed_of (after j) (after (suc j))) k
+  longest_waiting = greatest (λ j. stayed_of (after j) (after (suc j))) k
 
   module _ (few : n ≤ most_cells) where
-    pub longest-ramp : (i : ℕ) → i < n → Greatest (λ j. at (after (suc j)).queue i) k (at (longest_of n after k).ramps i)
+    pub longest_ramp : (i : ℕ) → i < n → Greatest (λ j. at (after (suc j)).queue i) k (at (longest_of n after k).ramps i)
     unfolding longest_of
-    longest-ramp i l =
-        rw (fill-at (λ i. maximum_of (λ j. at (after (suc j)).queue i) k) n zeros i l (omega (arith, length-zeros)))
+    longest_ramp i l =
+        rw (fill_at (λ i. maximum_of (λ j. at (after (suc j)).queue i) k) n zeros i l (omega (arith, length_zeros)))
         (greatest (λ j. at (after (suc j)).queue i) k)
 
-    pub longest-past : (i : ℕ) → n ≤ i → at (longest_of n after k).ramps i ≡ 0
+    pub longest_past : (i : ℕ) → n ≤ i → at (longest_of n after k).ramps i ≡ 0
     unfolding longest_of
-    longest-past i l = fill-past (λ i. maximum_of (λ j. at (after (suc j)).queue i) k) n zeros i l ∙ zeros-at i
+    longest_past i l = fill_past (λ i. maximum_of (λ j. at (after (suc j)).queue i) k) n zeros i l ∙ zeros_at i
 
 -- the queue after a step is what stayed at the gate plus the step's arrivals
-pub stayed-arrivals : (r : Road) (s : State) (row y : List ℕ) → Obeys r s row y
+pub stayed_arrivals : (r : Road) (s : State) (row y : List ℕ) → Obeys r s row y
     → (next_of r s row y).gate_queue ≡ stayed_of s (next_of r s row y) + gate_arrivals row
 unfolding counted_of moved_to
-stayed-arrivals r s row y ok = omega (arith, ok.demand 0 (omega arith), demand-at-gate r s)
+stayed_arrivals r s row y ok = omega (arith, ok.demand 0 (omega arith), demand_at_gate r s)
 
 -- entries that are filled again
-fill-over : (f g : ℕ → ℕ) (n : ℕ) (l : List ℕ) → n ≤ length l → fill_of g n (fill_of f n l) ≡ fill_of g n l
-fill-over f g n l m =
-    let kept = length-fill f n l in
-    ext_get_or 0 (fill_of g n (fill_of f n l)) (fill_of g n l) (length-fill g n (fill_of f n l) ∙ kept ∙ sym (length-fill g n l)) (λ i b. ⊎_elim
-    (λ (h : n ≤ i). fill-past g n (fill_of f n l) i h ∙ fill-past f n l i h ∙ sym (fill-past g n l i h))
-    (λ (h : i < n). fill-at g n (fill_of f n l) i h (omega (arith, kept)) ∙ sym (fill-at g n l i h m))
+fill_over : (f g : ℕ → ℕ) (n : ℕ) (l : List ℕ) → n ≤ length l → fill_of g n (fill_of f n l) ≡ fill_of g n l
+fill_over f g n l m =
+    let kept = length_fill f n l in
+    ext_get_or 0 (fill_of g n (fill_of f n l)) (fill_of g n l) (length_fill g n (fill_of f n l) ∙ kept ∙ sym (length_fill g n l)) (λ i b. ⊎_elim
+    (λ (h : n ≤ i). fill_past g n (fill_of f n l) i h ∙ fill_past f n l i h ∙ sym (fill_past g n l i h))
+    (λ (h : i < n). fill_at g n (fill_of f n l) i h (omega (arith, kept)) ∙ sym (fill_at g n l i h m))
     (order n i))
 
 -- the entry that a pass reaches is still unchanged
 pub entry_kept : {f : ℕ → ℕ} {n : ℕ} {l x : List ℕ} {i : ℕ} → FilledTo f n l x i → at x i ≡ at l i
-entry_kept {f} {l = l} {i = i} h = ap (λ (y : List ℕ). at y i) h.filled ∙ fill-past f i l i (le_refl i)
+entry_kept {f} {l = l} {i = i} h = ap (λ (y : List ℕ). at y i) h.filled ∙ fill_past f i l i (le_refl i)
 
 -- the longest queues after one more step: raised by what stayed at the gate, by its queue and by the ramps' queues
 abbrev pub longest_after : ℕ → Queues → ℕ → ℕ → List ℕ → Queues
@@ -106,25 +106,25 @@ longest_after n q stayed gate queue =
     queues_of (max q.gate gate) (max q.waiting stayed) (fill_of (λ i. max (at q.ramps i) (at queue i)) n q.ramps)
 
 -- the code's longest queues
-pub longest-after : (n : ℕ) (q : Queues) (stayed gate : ℕ) (queue : List ℕ) {g w : ℕ} {ramps : List ℕ} → g ≡ max q.gate gate
+pub longest_after_lem : (n : ℕ) (q : Queues) (stayed gate : ℕ) (queue : List ℕ) {g w : ℕ} {ramps : List ℕ} → g ≡ max q.gate gate
     → w ≡ max q.waiting stayed → ramps ≡ fill_of (λ i. max (at q.ramps i) (at queue i)) n q.ramps
     → queues_of g w ramps ≡ longest_after n q stayed gate queue
-longest-after n q stayed gate queue eg ew er = rw (eg, ew, er) refl
+longest_after_lem n q stayed gate queue eg ew er = rw (eg, ew, er) refl
 
 module _ (n : ℕ) (after : ℕ → State) where
-  pub longest-none : longest_of n after 0 ≡ no_queues
+  pub longest_none : longest_of n after 0 ≡ no_queues
   unfolding longest_of maximum_of
-  longest-none = ap (queues_of 0 0) (fill-same (λ i. 0) (at zeros) n zeros (λ i l. sym (zeros-at i)) ∙ fill-own zeros n)
+  longest_none = ap (queues_of 0 0) (fill_same (λ i. 0) (at zeros) n zeros (λ i l. sym (zeros_at i)) ∙ fill_own zeros n)
 
-  pub longest-more : (k : ℕ) → n ≤ most_cells
+  pub longest_more : (k : ℕ) → n ≤ most_cells
       → longest_of n after (suc k)
       ≡ longest_after n (longest_of n after k) (stayed_of (after k) (after (suc k))) (after (suc k)).gate_queue (after (suc k)).queue
   unfolding longest_of maximum_of
-  longest-more k few =
-      let long : n ≤ length zeros = omega (arith, length-zeros) in
+  longest_more k few =
+      let long : n ≤ length zeros = omega (arith, length_zeros) in
       let f : ℕ → ℕ = λ i. maximum_of (λ j. at (after (suc j)).queue i) k in
       let g : ℕ → ℕ = λ i. max (f i) (at (after (suc k)).queue i) in
       let h : ℕ → ℕ = λ i. max (at (fill_of f n zeros) i) (at (after (suc k)).queue i) in
       ap (queues_of _ _)
-      (sym (fill-over f g n zeros long)
-      ∙ fill-same g h n (fill_of f n zeros) (λ i l. ap (λ (x : ℕ). max x (at (after (suc k)).queue i)) (sym (fill-at f n zeros i l long))))
+      (sym (fill_over f g n zeros long)
+      ∙ fill_same g h n (fill_of f n zeros) (λ i l. ap (λ (x : ℕ). max x (at (after (suc k)).queue i)) (sym (fill_at f n zeros i l long))))

@@ -22,16 +22,16 @@ module _ (bytes : List ℕ) (release : ℕ) (list target : List ℕ) {x : ReadAn
   stored = rw (taken, e) refl
 
   -- the list has no number 4
-  pub left-short : length list ≤ 4 → length rows ≤ 4 → Left bytes release list target 0 rows target
-  left-short l m =
+  pub left_short : length list ≤ 4 → length rows ≤ 4 → Left bytes release list target 0 rows target
+  left_short l m =
       let s : rows ≡ released_rows bytes release list = sym (set_out rows 4 release m) ∙ stored in
       (rw (le-leb (length list) 4 l) refl, (s, rw (le-leb (length list) 4 l) refl))
 
   -- the list has a number 4, and the record is written
-  pub left-written : 4 < length list → {a : WriteAnswer} {after : List ℕ} → a ≡ writing_of x.road x.steps (start_in x.state) (set rows 4 release) target
+  pub left_written : 4 < length list → {a : WriteAnswer} {after : List ℕ} → a ≡ writing_of x.road x.steps (start_in x.state) (set rows 4 release) target
       → after ≡ target_after x.road x.steps (start_in x.state) (set rows 4 release) target
       → Left bytes release list target a.count (set rows 4 release) after
-  left-written l f g = (
+  left_written l f g = (
     rw (lt-leb (length list) 4 l, ← stored, ← e) (ap (λ (y : WriteAnswer). y.count) f),
     (stored, rw (lt-leb (length list) 4 l, ← stored, ← e) g),
   )

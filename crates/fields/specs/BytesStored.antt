@@ -2,9 +2,9 @@
 use Rattle.std.specs.Prelude.{◌≡◌, refl, List, ℕ, suc, ◌+◌, ◌/◌, ◌%◌, length, set}
 use Rattle.std.proofs.Common.{sym, add-one, arith}
 use Rattle.model.specs.Numbers.{placed}
-use Rattle.numbers.specs.PlacedText.{placed-none, length-placed, Puts}
+use Rattle.numbers.specs.PlacedText.{placed_none, length_placed, Puts}
 use Rattle.model.specs.Record.{bytes_of}
-use Rattle.fields.specs.BytesLaws.{length-bytes}
+use Rattle.fields.specs.BytesLaws.{length_bytes}
 
 -- `after` is `before` with the w bytes of x from `at` on, and `end` is the index after them
 pub record StoredBytes (before : List ℕ) (at w x : ℕ) (after : List ℕ) (end : ℕ) : Type 0 where
@@ -13,15 +13,15 @@ pub record StoredBytes (before : List ℕ) (at w x : ℕ) (after : List ℕ) (en
   pub bytes : after ≡ placed before at (bytes_of w x)
 
 pub stored : (before : List ℕ) (at w x : ℕ) (after : List ℕ) → after ≡ placed before at (bytes_of w x) → StoredBytes before at w x after (at + w)
-stored before at w x after e = record { next = refl; same = rw e (length-placed before at (bytes_of w x)); bytes = e }
+stored before at w x after e = record { next = refl; same = rw e (length_placed before at (bytes_of w x)); bytes = e }
 
 -- a number of 0 bytes changes nothing
-pub stored-none : (before : List ℕ) (at x : ℕ) {w : ℕ} → w ≡ 0 → StoredBytes before at w x before at
+pub stored_none : (before : List ℕ) (at x : ℕ) {w : ℕ} → w ≡ 0 → StoredBytes before at w x before at
 unfolding bytes_of
-stored-none before at x e = rw e (record { next = omega arith; same = refl; bytes = sym (placed-none before at) })
+stored_none before at x e = rw e (record { next = omega arith; same = refl; bytes = sym (placed_none before at) })
 
-pub stored-puts : {before : List ℕ} {at w x : ℕ} {after : List ℕ} {end : ℕ} → StoredBytes before at w x after end → Puts before at (bytes_of w x) after end
-stored-puts {w = w} {x = x} h = (omega (arith, h.next, length-bytes w x), h.bytes)
+pub stored_puts : {before : List ℕ} {at w x : ℕ} {after : List ℕ} {end : ℕ} → StoredBytes before at w x after end → Puts before at (bytes_of w x) after end
+stored_puts {w = w} {x = x} h = (omega (arith, h.next, length_bytes w x), h.bytes)
 
 module _ (l : List ℕ) (at x : ℕ) where
   two : at + 2 ≡ suc (suc at)

@@ -4,7 +4,7 @@ use Rattle.std.proofs.Math.Path.{refl}
 use Rattle.std.proofs.Common.{ap, ⊎_elim, arith}
 use borrow.Author.Tests.{eq-eqb, ne_eqb, le-leb, lt-leb}
 use Rattle.model.specs.Numbers.{unless}
-use Rattle.numbers.specs.Tests.{fault-elim, order}
+use Rattle.numbers.specs.Tests.{fault_elim, order}
 use Rattle.model.specs.Schedules.{Study, table_size}
 use Rattle.model.specs.declared.Law.{Law}
 use Rattle.model.specs.Reading.{reading_of, study_of}
@@ -21,48 +21,48 @@ module _ (laws : List Law) (bytes lanes list : List ℕ) where
   finished = end_with 0 0 0 a.road (metered_after laws a a.steps).state
 
   -- an answer, with the record and the list that it leaves
-  pub record Leaves (answer : EndAnswer) (record-left list-left : List ℕ) : Type 0 where
+  pub record Leaves (answer : EndAnswer) (record_left list_left : List ℕ) : Type 0 where
     pub answers : filling_of laws bytes lanes list ≡ answer
-    pub bytes-are : record_after laws bytes lanes list ≡ record-left
-    pub list-is : filled_list laws bytes lanes list ≡ list-left
+    pub bytes_are : record_after laws bytes lanes list ≡ record_left
+    pub list_is : filled_list laws bytes lanes list ≡ list_left
 
   -- a refusal leaves both unchanged
   pub refusal : (number place : ℕ) → (number ≡ 0 → ⊥) → filling_of laws bytes lanes list ≡ no_state number place → Leaves (no_state number place) bytes list
   unfolding record_after filled_list
-  refusal number place d e = record { answers = e; bytes-are = rw (e, ne_eqb number 0 d) refl; list-is = rw (e, ne_eqb number 0 d) refl }
+  refusal number place d e = record { answers = e; bytes_are = rw (e, ne_eqb number 0 d) refl; list_is = rw (e, ne_eqb number 0 d) refl }
 
   -- the refusals of reading
-  pub fills-refused : ((reading_of bytes).number ≡ 0 → ⊥) → Leaves (no_state (reading_of bytes).number (reading_of bytes).place) bytes list
+  pub fills_refused : ((reading_of bytes).number ≡ 0 → ⊥) → Leaves (no_state (reading_of bytes).number (reading_of bytes).place) bytes list
   unfolding filling_of
-  fills-refused h = refusal (reading_of bytes).number (reading_of bytes).place h (rw (ne_eqb (reading_of bytes).number 0 h) refl)
+  fills_refused h = refusal (reading_of bytes).number (reading_of bytes).place h (rw (ne_eqb (reading_of bytes).number 0 h) refl)
 
   module _ (reads : (reading_of bytes).number ≡ 0) where
     -- 16
-    pub fills-law : (law_place laws a ≡ 0 → ⊥) → Leaves (no_state 16 (law_place laws a)) bytes list
+    pub fills_law : (law_place laws a ≡ 0 → ⊥) → Leaves (no_state 16 (law_place laws a)) bytes list
     unfolding filling_of
-    fills-law h = refusal 16 (law_place laws a) (λ e. omega arith) (rw (eq-eqb (reading_of bytes).number 0 reads, ne_eqb (law_place laws a) 0 h) refl)
+    fills_law h = refusal 16 (law_place laws a) (λ e. omega arith) (rw (eq-eqb (reading_of bytes).number 0 reads, ne_eqb (law_place laws a) 0 h) refl)
 
     module _ (finite : law_place laws a ≡ 0) where
       -- 17 and 18
-      pub fills-closed : ((lanes_fault a).number ≡ 0 → ⊥) → Leaves (no_state (lanes_fault a).number (lanes_fault a).place) bytes list
+      pub fills_closed : ((lanes_fault a).number ≡ 0 → ⊥) → Leaves (no_state (lanes_fault a).number (lanes_fault a).place) bytes list
       unfolding filling_of
-      fills-closed h =
+      fills_closed h =
           refusal (lanes_fault a).number (lanes_fault a).place h
           (rw (eq-eqb (reading_of bytes).number 0 reads, eq-eqb (law_place laws a) 0 finite, ne_eqb (lanes_fault a).number 0 h) refl)
 
       module _ (opens : (lanes_fault a).number ≡ 0) where
         -- 11
-        pub fills-short : length list < table_size a → Leaves (no_state 11 0) bytes list
+        pub fills_short : length list < table_size a → Leaves (no_state 11 0) bytes list
         unfolding filling_of
-        fills-short l =
+        fills_short l =
             refusal 11 0 (λ e. omega arith)
             (rw (eq-eqb (reading_of bytes).number 0 reads, eq-eqb (law_place laws a) 0 finite, eq-eqb (lanes_fault a).number 0 opens)
             (ap (λ (b : Bool). unless b (no_state 11 0) finished) (lt-leb (table_size a) (length list) l)))
 
         -- all steps are made
-        pub fills-all : table_size a ≤ length list → Leaves finished (filled_bytes laws bytes lanes) (table_of (filled_study laws a) list a.steps)
+        pub fills_all : table_size a ≤ length list → Leaves finished (filled_bytes laws bytes lanes) (table_of (filled_study laws a) list a.steps)
         unfolding filling_of record_after filled_list
-        fills-all l =
+        fills_all l =
             let e : filling_of laws bytes lanes list ≡ finished =
             rw (
               eq-eqb (reading_of bytes).number 0 reads,
@@ -70,7 +70,7 @@ module _ (laws : List Law) (bytes lanes list : List ℕ) where
               eq-eqb (lanes_fault a).number 0 opens,
               le-leb (table_size a) (length list) l,
             ) in
-            record { answers = e; bytes-are = rw e; list-is = rw e }
+            record { answers = e; bytes_are = rw e; list_is = rw e }
 
   -- which of the five cases applies
   pub data Case : Type 0 where
@@ -80,10 +80,10 @@ module _ (laws : List Law) (bytes lanes list : List ℕ) where
     short : Openable bytes lanes → law_place laws a ≡ 0 → length list < table_size a → Case
     all : Openable bytes lanes → law_place laws a ≡ 0 → table_size a ≤ length list → Case
 
-  pub case-of : Case
-  case-of =
-      fault-elim (reading_of bytes).number refused (λ reads.
-      fault-elim (law_place laws a) (law reads) (λ finite.
-      fault-elim (lanes_fault a).number (closed reads finite) (λ opens.
+  pub case_of : Case
+  case_of =
+      fault_elim (reading_of bytes).number refused (λ reads.
+      fault_elim (law_place laws a) (law reads) (λ finite.
+      fault_elim (lanes_fault a).number (closed reads finite) (λ opens.
       let openable : Openable bytes lanes = record { reads = reads; opens = opens } in
       ⊎_elim (all openable finite) (short openable finite) (order (table_size a) (length list)))))

@@ -10,7 +10,7 @@ use Rattle.model.specs.Stepping.{table_fault}
 use Rattle.model.specs.Reading.{ReadAnswer, refused_of, reading_of, study_by, study_of}
 use Rattle.model.specs.Running.{EndAnswer, no_state, lanes_fault}
 use Rattle.model.specs.Filling.{law_place}
-use Rattle.theory.specs.StepLaws.{number-of}
+use Rattle.theory.specs.StepLaws.{number_of_lem}
 use Rattle.theory.specs.Readable.{Readable, readable}
 
 -- these refusals, or else e
@@ -39,8 +39,8 @@ module _ (laws : List Law) (bytes lanes : List ℕ) {x : ReadAnswer} (ex : x ≡
   abbrev a : Study
   a = study_of bytes lanes
 
-  pub reading-refused : (x.number ≡ 0 → ⊥) → FillReading laws bytes lanes x
-  reading-refused h =
+  pub reading_refused : (x.number ≡ 0 → ⊥) → FillReading laws bytes lanes x
+  reading_refused h =
       let n : (reading_of bytes).number ≡ 0 → ⊥ = rw ex at h in
       record { refused = λ _ e. rw (ex, ne_eqb (reading_of bytes).number 0 n) refl; passed = λ z. absurd (h z) }
 
@@ -48,45 +48,45 @@ module _ (laws : List Law) (bytes lanes : List ℕ) {x : ReadAnswer} (ex : x ≡
     well : (reading_of bytes).number ≡ 0
     well = rw ex at h
 
-    law-is : place ≡ law_place laws (study_of bytes lanes)
-    law-is = rw ex at ep
+    law_is : place ≡ law_place laws (study_of bytes lanes)
+    law_is = rw ex at ep
 
-    pub reading-law : (place ≡ 0 → ⊥) → {y : ReadAnswer} → y ≡ refused_of 16 place → FillReading laws bytes lanes y
-    reading-law d ey =
-        let n : law_place laws a ≡ 0 → ⊥ = λ z. d (law-is ∙ z) in
+    pub reading_law : (place ≡ 0 → ⊥) → {y : ReadAnswer} → y ≡ refused_of 16 place → FillReading laws bytes lanes y
+    reading_law d ey =
+        let n : law_place laws a ≡ 0 → ⊥ = λ z. d (law_is ∙ z) in
         rw ey (record {
-          refused = λ _ e. rw (eq-eqb (reading_of bytes).number 0 well, ne_eqb (law_place laws a) 0 n, law-is) refl;
+          refused = λ _ e. rw (eq-eqb (reading_of bytes).number 0 well, ne_eqb (law_place laws a) 0 n, law_is) refl;
           passed = λ z. absurd (omega arith);
         })
 
     -- no law has a fault, and f is the code's fault of the table
     module _ (none : place ≡ 0) {f : FaultAnswer} (ef : f ≡ table_fault lanes x.road.n x.steps) where
-      no-law : law_place laws (study_of bytes lanes) ≡ 0
-      no-law = sym law-is ∙ none
+      no_law : law_place laws (study_of bytes lanes) ≡ 0
+      no_law = sym law_is ∙ none
 
       found : f ≡ lanes_fault (study_of bytes lanes)
       found = rw ex at ef
 
-      pub reading-closed : (f.number ≡ 0 → ⊥) → {y : ReadAnswer} → y ≡ refused_of f.number f.place → FillReading laws bytes lanes y
-      reading-closed d ey =
+      pub reading_closed : (f.number ≡ 0 → ⊥) → {y : ReadAnswer} → y ≡ refused_of f.number f.place → FillReading laws bytes lanes y
+      reading_closed d ey =
           let n : (lanes_fault a).number ≡ 0 → ⊥ = rw found at d in
           rw ey (record {
             refused = λ _ e.
-                rw (eq-eqb (reading_of bytes).number 0 well, eq-eqb (law_place laws a) 0 no-law, ne_eqb (lanes_fault a).number 0 n, found) refl;
+                rw (eq-eqb (reading_of bytes).number 0 well, eq-eqb (law_place laws a) 0 no_law, ne_eqb (lanes_fault a).number 0 n, found) refl;
             passed = λ z. absurd (d z);
           })
 
-      pub reading-whole : f.number ≡ 0 → FillReading laws bytes lanes x
-      reading-whole z =
+      pub reading_whole : f.number ≡ 0 → FillReading laws bytes lanes x
+      reading_whole z =
           let opens : (lanes_fault a).number ≡ 0 = rw found at z in
           record {
             refused = λ n e. absurd (n h);
             passed = λ _. record {
               same = ex;
               reads = well;
-              finite = no-law;
+              finite = no_law;
               opens = opens;
-              none = λ e. rw (eq-eqb (reading_of bytes).number 0 well, eq-eqb (law_place laws a) 0 no-law, eq-eqb (lanes_fault a).number 0 opens) refl;
-              held = readable bytes lanes x ex h (sym (number-of ef) ∙ z);
+              none = λ e. rw (eq-eqb (reading_of bytes).number 0 well, eq-eqb (law_place laws a) 0 no_law, eq-eqb (lanes_fault a).number 0 opens) refl;
+              held = readable bytes lanes x ex h (sym (number_of_lem ef) ∙ z);
             };
           }

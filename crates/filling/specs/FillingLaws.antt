@@ -14,24 +14,24 @@ abbrev pub filled_rows : List Law → Study → ℕ → List ℕ
 filled_rows laws a k = rows_from laws a (meter_start a.start) k
 
 module _ (laws : List Law) (a : Study) where
-  pub filled-road : (k : ℕ) → road_at (filled_study laws a) k ≡ road_at a k
-  filled-road = from.filled-road laws a (meter_start a.start) refl
+  pub filled_road : (k : ℕ) → road_at (filled_study laws a) k ≡ road_at a k
+  filled_road = from.filled_road laws a (meter_start a.start) refl
 
-  pub filled-run : (k : ℕ) → engine_after (filled_study laws a) k ≡ (metered_after laws a k).state
-  filled-run = from.filled-run laws a (meter_start a.start) refl
+  pub filled_run : (k : ℕ) → engine_after (filled_study laws a) k ≡ (metered_after laws a k).state
+  filled_run = from.filled_run laws a (meter_start a.start) refl
 
-  pub releases-small : (t i : ℕ) → granted_in laws a t i < 2 ^ 32
-  releases-small = from.releases-small laws a (meter_start a.start) refl
+  pub releases_small : (t i : ℕ) → granted_in laws a t i < 2 ^ 32
+  releases_small = from.releases_small laws a (meter_start a.start) refl
 
   module _ (ok : StudyOk a) where
     pub filled_ok : StudyOk (filled_study laws a)
     filled_ok = from.filled_ok laws a (meter_start a.start) refl ok
 
-    pub filled-released : (k : ℕ) → k < a.steps → ReleasesFit (road_at a k) (metered_after laws a k).state (filled_rows laws a k)
-    filled-released = from.filled-released laws a (meter_start a.start) refl ok
+    pub filled_released : (k : ℕ) → k < a.steps → ReleasesFit (road_at a k) (metered_after laws a k).state (filled_rows laws a k)
+    filled_released = from.filled_released laws a (meter_start a.start) refl ok
 
-    pub filled-passes : (k : ℕ) → k < a.steps → run_fault (filled_study laws a) k ≡ fault 0 0
-    filled-passes = from.filled-passes laws a (meter_start a.start) refl ok
+    pub filled_passes : (k : ℕ) → k < a.steps → run_fault (filled_study laws a) k ≡ fault 0 0
+    filled_passes = from.filled_passes laws a (meter_start a.start) refl ok
 
-    pub filled-reached : (k : ℕ) → k ≤ a.steps → ReachedState (filled_study laws a) (engine_after (filled_study laws a) k) k
-    filled-reached = from.filled-reached laws a (meter_start a.start) refl ok
+    pub filled_reached : (k : ℕ) → k ≤ a.steps → ReachedState (filled_study laws a) (engine_after (filled_study laws a) k) k
+    filled_reached = from.filled_reached laws a (meter_start a.start) refl ok

@@ -4,8 +4,8 @@ use Rattle.std.proofs.Math.Path.{sym, ap}
 use Rattle.std.proofs.Common.{subst, ◌∙◌, add-one, arith}
 use Rattle.std.proofs.lemmas.List.{length-replicate}
 use Rattle.model.specs.Numbers.{at, fill_of}
-use Rattle.numbers.specs.RowsLaws.{fill-at, length-fill}
-use Rattle.numbers.specs.Zeros.{length-zeros}
+use Rattle.numbers.specs.RowsLaws.{fill_at, length_fill}
+use Rattle.numbers.specs.Zeros.{length_zeros}
 use Rattle.model.specs.Road.{zeros}
 use Rattle.outflows.specs.declared.Ledger.{Ledger}
 use Rattle.passes.specs.Tables.{Table, state_in}
@@ -13,8 +13,8 @@ use Rattle.passes.specs.Rest.{rest_in}
 use Rattle.passes.specs.Supplies.{NoRamp}
 use Rattle.passes.specs.RampList.{Listed, AtRamps}
 use Rattle.ramps.specs.Grants.{meter_in}
-use Rattle.ramps.specs.LastStep.{came_in, CameRequires, lasts-known}
-use Rattle.numbers.specs.TablesLaws.{row_ends, mul-more}
+use Rattle.ramps.specs.LastStep.{came_in, CameRequires, lasts_known}
+use Rattle.numbers.specs.TablesLaws.{row_ends, mul_more}
 use Rattle.model.specs.declared.Road.{Road}
 use Rattle.model.specs.declared.State.{State}
 use Rattle.model.specs.Schedules.{Study, road_at, places, table_size, outflows_of, outflows_at}
@@ -23,15 +23,15 @@ use Rattle.model.specs.declared.Law.{Law}
 use Rattle.meter.specs.LawColumns.{InColumns}
 use Rattle.theory.specs.Roads.{StepRoad, step_row}
 use Rattle.theory.specs.RunsLaws.{ReachedState, StepOf}
-use Rattle.theory.proofs.RunsLaws.{step-input, step-sized, step_left}
+use Rattle.theory.proofs.RunsLaws.{step_input, step_sized, step_left}
 use Rattle.model.specs.Filling.{MeterState, meter_state, granted_at, filled_row, metered_of}
 use Rattle.model.specs.Put.{put_releases, put_table}
-use Rattle.put.specs.ReleasesLaws.{PutTable, put-table}
+use Rattle.put.specs.ReleasesLaws.{PutTable, put_table_lem}
 use Rattle.model.specs.Running.{table_of}
-use Rattle.theory.proofs.TableLaws.{length-table, table_none, table_more}
+use Rattle.theory.proofs.TableLaws.{length_table, table_none, table_more}
 use Rattle.theory.specs.Readable.{Readable}
 use Rattle.model.specs.Filling.{metered_from, granted_from, rows_from, filled_from}
-use Rattle.filling.specs.FillingFrom.{filled-road, filled-run, releases-small, filled_ok, filled-released, filled-reached}
+use Rattle.filling.specs.FillingFrom.{filled_road, filled_run, releases_small, filled_ok, filled_released, filled_reached}
 use Rattle.filling.specs.Turn.{ArraysOk, kept_on, FillRequires, FillGives}
 
 -- what filling step by step requires: a record that reads, whose rows are the study's, and a list that is long enough
@@ -57,9 +57,9 @@ pub record FillableFrom (bytes : List ℕ) (a : Study) (m : MeterState) (list : 
   pub long_releases : a.road.n ≤ length m.releases
   pub long_entries : a.road.n ≤ length m.entries
 
-pub came-ready : {bytes : List ℕ} {a : Study} {m : MeterState} {list : List ℕ} → FillableFrom bytes a m list
+pub came_ready : {bytes : List ℕ} {a : Study} {m : MeterState} {list : List ℕ} → FillableFrom bytes a m list
     → CameRequires a.road.n a.start.held a.start.cumulative m.entries
-came-ready h =
+came_ready h =
     let ok = h.fillable.readable.ok in
     record {
       cells = ok.road.cells;
@@ -78,30 +78,30 @@ work_from n ramps cell m =
     ∷ fill_of (came_in m.state.held m.state.cumulative m.entries) n empty_column ∷ []
 
 -- the tables before the first step
-pub kept-start : (r : Road) {m : MeterState} {ramps : ℕ} {cell : List ℕ} {state work : Table} → CameRequires r.n m.state.held m.state.cumulative m.entries
+pub kept_start : (r : Road) {m : MeterState} {ramps : ℕ} {cell : List ℕ} {state work : Table} → CameRequires r.n m.state.held m.state.cumulative m.entries
     → r.n ≤ length m.releases → r.n ≤ length m.entries → Listed (NoRamp r.ramp) r.n ramps cell × AtRamps r.ramp ramps cell
     → state ≡ m.state.held ∷ m.state.queue ∷ m.state.cumulative ∷ fill_of (rest_in r.share m.state.cumulative) r.n zeros ∷ []
     → work ≡ work_from r.n ramps cell m → ArraysOk r.n r.share r.ramp m ramps cell state work
-kept-start r {m} {ramps} {cell} ready long_r long_e at-ramps es ew =
-    let short : r.n ≤ length zeros = omega (arith, length-zeros, ready.cells) in
+kept_start r {m} {ramps} {cell} ready long_r long_e at_ramps_lem es ew =
+    let short : r.n ≤ length zeros = omega (arith, length_zeros, ready.cells) in
     let long : r.n ≤ length empty_column = omega (arith, length-replicate {A = ℕ} 65 0, ready.cells) in
     let f = rest_in r.share m.state.cumulative in
     let came = came_in m.state.held m.state.cumulative m.entries in
     rw (es, ew) (record {
-      listed = at-ramps.0;
-      ramped = at-ramps.1;
-      lasts = lasts-known empty_column empty_column at-ramps.0 ready refl long refl long;
+      listed = at_ramps_lem.0;
+      ramped = at_ramps_lem.1;
+      lasts = lasts_known empty_column empty_column at_ramps_lem.0 ready refl long refl long;
       columns = refl;
-      rests = record { are = λ i l. fill-at f r.n zeros i l short; long = omega (arith, length-fill f r.n zeros, short) };
+      rests = record { are = λ i l. fill_at f r.n zeros i l short; long = omega (arith, length_fill f r.n zeros, short) };
       long_releases = long_r;
       long_entries = long_e;
       long = record {
         columns = refl;
         room = long;
-        release = omega (arith, length-fill (λ j. at m.releases (at cell j)) ramps empty_column, long);
+        release = omega (arith, length_fill (λ j. at m.releases (at cell j)) ramps empty_column, long);
         waiting = long;
         demand = long;
-        came = omega (arith, length-fill came r.n empty_column, long);
+        came = omega (arith, length_fill came r.n empty_column, long);
       };
     })
 
@@ -128,20 +128,20 @@ module _ {laws : List Law} {bytes : List ℕ} {a : Study} {m₀ : MeterState} {l
     put : PutTable bytes now a.road.n (granted_from laws a m₀) k
     put =
         rw h.releases
-        (put-table bytes a.road.n (granted_from laws a m₀) k (λ t l. ok.readable.row t (omega (arith, h.within))) (λ t i l j. releases-small laws a m₀ starts t i))
+        (put_table_lem bytes a.road.n (granted_from laws a m₀) k (λ t l. ok.readable.row t (omega (arith, h.within))) (λ t i l j. releases_small laws a m₀ starts t i))
 
     pub same_bytes : length now ≡ length bytes
     same_bytes = put.size
 
-    pub same-list : length out ≡ length list
-    same-list = ap length h.written ∙ length-table (filled_from laws a m₀) (filled_ok laws a m₀ starts ok.readable.ok) list k h.within ok.long
+    pub same_list : length out ≡ length list
+    same_list = ap length h.written ∙ length_table (filled_from laws a m₀) (filled_ok laws a m₀ starts ok.readable.ok) list k h.within ok.long
 
     -- the next row of outflows is within every bound of the table
-    pub row-ends-by : (most : ℕ) → table_size a ≤ most → k < a.steps → to + places a ≤ most
-    row-ends-by most l e = omega (arith, row_ends k a.steps (places a) e, h.place)
+    pub row_ends_by : (most : ℕ) → table_size a ≤ most → k < a.steps → to + places a ≤ most
+    row_ends_by most l e = omega (arith, row_ends k a.steps (places a) e, h.place)
 
     pub row_fits : k < a.steps → to + places a ≤ length out
-    row_fits l = omega (arith, row-ends-by (length list) ok.long l, same-list)
+    row_fits l = omega (arith, row_ends_by (length list) ok.long l, same_list)
 
     -- a turn: q is the road of step k, and its wishes are computed from the last releases and entries
     module _ {q : Road} {releases entries : List ℕ} (l : k < a.steps) (e : q ≡ road_at a k)
@@ -157,14 +157,14 @@ module _ {laws : List Law} {bytes : List ℕ} {a : Study} {m₀ : MeterState} {l
       row_now = rw (roads.n, ok.rows k) (put.later k (omega arith))
 
       reached : ReachedState (filled_from laws a m₀) m.state k
-      reached = subst (λ (s : State). ReachedState (filled_from laws a m₀) s k) (filled-run laws a m₀ starts k ∙ sym h.state)
-          (filled-reached laws a m₀ starts ok.readable.ok k h.within)
+      reached = subst (λ (s : State). ReachedState (filled_from laws a m₀) s k) (filled_run laws a m₀ starts k ∙ sym h.state)
+          (filled_reached laws a m₀ starts ok.readable.ok k h.within)
 
-      this-step : StepOf (filled_from laws a m₀) q m.state (rows_from laws a m₀ k) k
-      this-step = record {
+      this_step : StepOf (filled_from laws a m₀) q m.state (rows_from laws a m₀ k) k
+      this_step = record {
         ok = filled_ok laws a m₀ starts ok.readable.ok;
         left = l;
-        road = e ∙ sym (filled-road laws a m₀ starts k);
+        road = e ∙ sym (filled_road laws a m₀ starts k);
         numbers = refl;
         reached = reached;
       }
@@ -181,10 +181,10 @@ module _ {laws : List Law} {bytes : List ℕ} {a : Study} {m₀ : MeterState} {l
         };
         row = rw (row_now, e) (step_row (ok.readable.ok.roads k) (a.rows k) (ok.readable.ok.row k l));
         step = rw row_is (record {
-          input = step-input this-step;
-          sized = step-sized this-step;
-          released = rw (e, h.state) (filled-released laws a m₀ starts ok.readable.ok k l);
-          left = step_left this-step;
+          input = step_input this_step;
+          sized = step_sized this_step;
+          released = rw (e, h.state) (filled_released laws a m₀ starts ok.readable.ok k l);
+          left = step_left this_step;
         });
         columns = columns;
         kept = kept_on roads.n roads.share roads.ramp em h.kept;
@@ -204,7 +204,7 @@ module _ {laws : List Law} {bytes : List ℕ} {a : Study} {m₀ : MeterState} {l
           ∙ rw (h.releases, em, e)
 
       outflows : {part : List ℕ} → part ≡ outflows_of q m.state (filled_row laws q m (record_row now q.n k)) → part ≡ outflows_at (filled_from laws a m₀) k
-      outflows ey = ey ∙ rw (row_is, e, h.state, filled-run laws a m₀ starts k, filled-road laws a m₀ starts k)
+      outflows ey = ey ∙ rw (row_is, e, h.state, filled_run laws a m₀ starts k, filled_road laws a m₀ starts k)
 
       pub filled_more : {next : List ℕ} {t : Ledger} {state₁ work₁ : Table} {part : List ℕ}
           → FillGives laws now q u state releases entries k next t state₁ ramps cell work₁ part
@@ -215,20 +215,20 @@ module _ {laws : List Law} {bytes : List ℕ} {a : Study} {m₀ : MeterState} {l
         releases = rw (add-one k) (f.releases ∙ puts);
         state = f.state ∙ ap (λ (x : MeterState). x.state) after;
         kept = kept_on (sym roads.n) (sym roads.share) (sym roads.ramp) (sym after) f.kept;
-        place = omega (arith, h.place, mul-more k (places a));
+        place = omega (arith, h.place, mul_more k (places a));
         written = table_more (filled_from laws a m₀) (filled_ok laws a m₀ starts ok.readable.ok) list k out part to h.written (outflows f.row) h.place;
       }
 
     -- all steps are filled
     module _ (end : a.steps ≤ k) where
-      pub all-filled : k ≡ a.steps
-      all-filled = omega (arith, h.within)
+      pub all_filled : k ≡ a.steps
+      all_filled = omega (arith, h.within)
 
-      pub filled-bytes : now ≡ put_table bytes a.road.n (granted_from laws a m₀) a.steps
-      filled-bytes = h.releases ∙ ap (put_table bytes a.road.n (granted_from laws a m₀)) all-filled
+      pub filled_bytes_lem : now ≡ put_table bytes a.road.n (granted_from laws a m₀) a.steps
+      filled_bytes_lem = h.releases ∙ ap (put_table bytes a.road.n (granted_from laws a m₀)) all_filled
 
-      pub filled-list : out ≡ table_of (filled_from laws a m₀) list a.steps
-      filled-list = h.written ∙ ap (table_of (filled_from laws a m₀) list) all-filled
+      pub filled_list_lem : out ≡ table_of (filled_from laws a m₀) list a.steps
+      filled_list_lem = h.written ∙ ap (table_of (filled_from laws a m₀) list) all_filled
 
-      pub filled-state : {t : State} → t ≡ state_in u state → t ≡ (metered_from laws a m₀ a.steps).state
-      filled-state e = e ∙ h.state ∙ ap (λ (j : ℕ). (metered_from laws a m₀ j).state) all-filled
+      pub filled_state : {t : State} → t ≡ state_in u state → t ≡ (metered_from laws a m₀ a.steps).state
+      filled_state e = e ∙ h.state ∙ ap (λ (j : ℕ). (metered_from laws a m₀ j).state) all_filled

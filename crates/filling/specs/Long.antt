@@ -24,9 +24,9 @@ pub record ProgressOk (bytes : List ℕ) (a : Study) (m : MeterState) : Type 0 w
   pub releases : a.road.n ≤ length m.releases
   pub entries : a.road.n ≤ length m.entries
 
-pub progress-fillable : {bytes : List ℕ} {a : Study} {m : MeterState} {list : List ℕ} → ProgressOk bytes a m
+pub progress_fillable : {bytes : List ℕ} {a : Study} {m : MeterState} {list : List ℕ} → ProgressOk bytes a m
     → ((k : ℕ) → a.rows k ≡ record_row bytes a.road.n k) → table_size a ≤ length list → FillableFrom bytes a m list
-progress-fillable h rows long = record {
+progress_fillable h rows long = record {
   fillable = record { readable = h.readable; rows = rows; long = long };
   entered = h.entered;
   long_releases = h.releases;

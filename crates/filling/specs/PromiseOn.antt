@@ -5,14 +5,14 @@ use Rattle.std.proofs.Common.{◌∙◌, arith}
 use Rattle.std.proofs.Math.Dec.{leb}
 use Rattle.std.proofs.Math.ListN.{length}
 use borrow.Author.Tests.{leb-true, eq-eqb, ne_eqb, le-leb, lt-leb}
-use Rattle.numbers.specs.Tests.{and-true, unless-elim}
-use Rattle.numbers.specs.FirstLaws.{all-at}
+use Rattle.numbers.specs.Tests.{and_true, unless_elim}
+use Rattle.numbers.specs.FirstLaws.{all_at}
 use Rattle.model.specs.Numbers.{at, unless, all_of}
 use Rattle.model.specs.Road.{most_steps, zeros, empty_state}
 use Rattle.model.specs.declared.State.{State}
 use Rattle.model.specs.declared.Law.{Law}
 use Rattle.model.specs.Limits.{state_ok}
-use Rattle.limits.specs.LimitsLaws.{state-facts}
+use Rattle.limits.specs.LimitsLaws.{state_facts}
 use Rattle.model.specs.Schedules.{Study, table_size}
 use Rattle.model.specs.Reading.{ReadAnswer, reading_of, study_by}
 use Rattle.model.specs.Running.{EndAnswer, end_with, no_state, steps_made, table_of}
@@ -23,7 +23,7 @@ use Rattle.model.specs.Longest.{Queues, longest_of}
 use Rattle.model.specs.GoingOn.{study_after, entries_ok, progress_fault, filling_on, progress_on, record_on, filled_list_on, longest_fill_on}
 use Rattle.theory.specs.StartingState.{StartOk}
 use Rattle.counts.specs.Longest.{no_queues}
-use Rattle.counts.specs.LongestLaws.{longest-none}
+use Rattle.counts.specs.LongestLaws.{longest_none}
 use Rattle.filling.specs.FillReading.{NoRefusal, FillReading}
 use Rattle.filling.specs.LongestFill.{longest_from}
 
@@ -58,7 +58,7 @@ module _ (laws : List Law) (bytes lanes : List ℕ) (m : MeterState) (list : Lis
           (
             rw (ef, ne_eqb number 0 d) refl,
             (
-              eq ∙ sym (ap (longest_of a.road.n (λ k. (metered_from laws a m k).state)) none ∙ longest-none a.road.n (λ k. (metered_from laws a m k).state)),
+              eq ∙ sym (ap (longest_of a.road.n (λ k. (metered_from laws a m k).state)) none ∙ longest_none a.road.n (λ k. (metered_from laws a m k).state)),
               ep ∙ rw (ef, ne_eqb number 0 d) refl,
             ),
           ),
@@ -66,10 +66,10 @@ module _ (laws : List Law) (bytes lanes : List ℕ) (m : MeterState) (list : Lis
       )
 
   module _ {x : ReadAnswer} (h : FillReading laws bytes lanes x) where
-    pub on-refused : {e : EndAnswer} {q : Queues} {p : MeterState} → (x.number ≡ 0 → ⊥) → e ≡ no_state x.number x.place → q ≡ no_queues
+    pub on_refused : {e : EndAnswer} {q : Queues} {p : MeterState} → (x.number ≡ 0 → ⊥) → e ≡ no_state x.number x.place → q ≡ no_queues
         → p ≡ meter_start empty_state → PromiseOn e bytes list q p
     unfolding filling_on
-    on-refused n ee eq ep = refusal x.number x.place n (h.refused n _) ee eq ep
+    on_refused n ee eq ep = refusal x.number x.place n (h.refused n _) ee eq ep
 
     -- nothing is refused so far, and g is the code's refusal of the start
     module _ (well : x.number ≡ 0) {t u : Bool} {g : ℕ} (et : t ≡ state_ok x.road m.state)
@@ -86,10 +86,10 @@ module _ (laws : List Law) (bytes lanes : List ℕ) (m : MeterState) (list : Lis
           ∙ ap (λ (y : ReadAnswer). unless (state_ok y.road m.state && all_of (λ i. leb (at m.entries i) (at m.state.held i)) y.road.n) 7
           (unless (leb (m.state.done + y.steps) most_steps) 8 0)) w.same
 
-      pub on-start : {e : EndAnswer} {q : Queues} {p : MeterState} → (g ≡ 0 → ⊥) → e ≡ no_state g 0 → q ≡ no_queues
+      pub on_start : {e : EndAnswer} {q : Queues} {p : MeterState} → (g ≡ 0 → ⊥) → e ≡ no_state g 0 → q ≡ no_queues
           → p ≡ meter_start empty_state → PromiseOn e bytes list q p
       unfolding filling_on
-      on-start d ee eq ep =
+      on_start d ee eq ep =
           let n : progress_fault a m ≡ 0 → ⊥ = λ z. d (start_is ∙ z) in
           refusal (progress_fault a m) 0 n
           (w.none _ ∙ rw (ne_eqb (progress_fault a m) 0 n) refl)
@@ -100,40 +100,40 @@ module _ (laws : List Law) (bytes lanes : List ℕ) (m : MeterState) (list : Lis
         starts = sym start_is ∙ z
 
         -- the start is within its limits, and so are the last entries
-        begins-on : StartOk (study_after bytes lanes m) × ((i : ℕ) → i < (reading_of bytes).road.n → at m.entries i ≤ at m.state.held i)
+        begins_on : StartOk (study_after bytes lanes m) × ((i : ℕ) → i < (reading_of bytes).road.n → at m.entries i ≤ at m.state.held i)
         unfolding progress_fault entries_ok
-        begins-on =
+        begins_on =
             let P = StartOk a × ((i : ℕ) → i < (reading_of bytes).road.n → at m.entries i ≤ at m.state.held i) in
             let test = state_ok a.road m.state && all_of (λ i. leb (at m.entries i) (at m.state.held i)) a.road.n in
-            unless-elim (λ (k : ℕ). k ≡ 0 → P) test (λ _ e. absurd (omega arith)) (λ y.
-            unless-elim (λ (k : ℕ). k ≡ 0 → P) (leb (a.start.done + a.steps) most_steps) (λ _ e. absurd (omega arith)) (λ l e.
-            let b = and-true _ _ y in (
-              record { state = state-facts a.road m.state b.0; steps = leb-true _ _ l },
-              λ i less. leb-true _ _ (all-at (λ j. leb (at m.entries j) (at m.state.held j)) a.road.n b.1 i less),
+            unless_elim (λ (k : ℕ). k ≡ 0 → P) test (λ _ e. absurd (omega arith)) (λ y.
+            unless_elim (λ (k : ℕ). k ≡ 0 → P) (leb (a.start.done + a.steps) most_steps) (λ _ e. absurd (omega arith)) (λ l e.
+            let b = and_true _ _ y in (
+              record { state = state_facts a.road m.state b.0; steps = leb-true _ _ l },
+              λ i less. leb-true _ _ (all_at (λ j. leb (at m.entries j) (at m.state.held j)) a.road.n b.1 i less),
             ))) starts
 
-        pub starts-found : StartOk (study_by bytes lanes x.road m.state x.steps)
+        pub starts_found : StartOk (study_by bytes lanes x.road m.state x.steps)
             × ((i : ℕ) → i < x.road.n → at m.entries i ≤ at m.state.held i)
-        starts-found = rw w.same begins-on
+        starts_found = rw w.same begins_on
 
-        pub on-short : {e : EndAnswer} {q : Queues} {p : MeterState} → length list < table_size (study_by bytes lanes x.road m.state x.steps)
+        pub on_short : {e : EndAnswer} {q : Queues} {p : MeterState} → length list < table_size (study_by bytes lanes x.road m.state x.steps)
             → e ≡ no_state 11 0 → q ≡ no_queues → p ≡ meter_start empty_state → PromiseOn e bytes list q p
         unfolding filling_on
-        on-short l ee eq ep =
+        on_short l ee eq ep =
             let n : length list < table_size a = rw w.same at l in
             refusal 11 0 (λ z. omega arith)
             (w.none _ ∙ rw (eq-eqb (progress_fault a m) 0 starts)
             (ap (λ (b : Bool). unless b (no_state 11 0) finished) (lt-leb (table_size a) (length list) n)))
             ee eq ep
 
-        pub on-all : {e : EndAnswer} {after out : List ℕ} {q : Queues} {p : MeterState} → table_size (study_by bytes lanes x.road m.state x.steps) ≤ length list
+        pub on_all : {e : EndAnswer} {after out : List ℕ} {q : Queues} {p : MeterState} → table_size (study_by bytes lanes x.road m.state x.steps) ≤ length list
             → e ≡ end_with 0 0 0 x.road (metered_from laws (study_by bytes lanes x.road m.state x.steps) m x.steps).state
             → after ≡ put_table bytes x.road.n (granted_from laws (study_by bytes lanes x.road m.state x.steps) m) x.steps
             → out ≡ table_of (filled_from laws (study_by bytes lanes x.road m.state x.steps) m) list x.steps
             → q ≡ longest_from laws (study_by bytes lanes x.road m.state x.steps) m
             → p ≡ metered_from laws (study_by bytes lanes x.road m.state x.steps) m x.steps → PromiseOn e after out q p
         unfolding filling_on record_on filled_list_on longest_fill_on progress_on
-        on-all l ee ea eo eq ep =
+        on_all l ee ea eo eq ep =
             let n : table_size a ≤ length list = rw w.same at l in
             let all : filling_on laws bytes lanes m list ≡ finished =
             w.none _ ∙ rw (eq-eqb (progress_fault a m) 0 starts, le-leb (table_size a) (length list) n) in (

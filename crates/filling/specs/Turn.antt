@@ -5,30 +5,30 @@ use Rattle.std.proofs.Common.{◌∙◌, le_refl, add-one}
 use native.Mathlib.Omega.{arith}
 use Rattle.std.proofs.Math.ListN.{length}
 use Rattle.model.specs.Numbers.{at, fill_of}
-use Rattle.numbers.specs.RowsLaws.{fill-at, length-fill}
+use Rattle.numbers.specs.RowsLaws.{fill_at, length_fill}
 use Rattle.model.specs.declared.Road.{Road}
 use Rattle.limits.specs.LimitsLaws.{RowOk}
 use Rattle.model.specs.Record.{number_size, number_of, version_of, row_start, record_row}
-use Rattle.fields.specs.FieldsLaws.{HoldsRow, row-at}
+use Rattle.fields.specs.FieldsLaws.{HoldsRow, row_at_lem}
 use Rattle.model.specs.declared.Law.{Law}
 use Rattle.meter.specs.LawColumns.{InColumns}
 use Rattle.model.specs.Flow.{gate_arrivals, entering_at}
 use Rattle.model.specs.Move.{held_of, cumulative_of, moved_to, counted_of}
 use Rattle.model.specs.Schedules.{outflows_of}
-use Rattle.theory.specs.RulesLaws.{outflows-obey, demand-at-cell}
+use Rattle.theory.specs.RulesLaws.{outflows_obey, demand_at_cell}
 use Rattle.outflows.specs.declared.Ledger.{Ledger}
 use Rattle.stepping.specs.StepNeeds.{Steppable}
 use Rattle.passes.specs.declared.columns.Size.{Size}
 use Rattle.passes.specs.Tables.{Table, road_in, state_in, cell_col, held_col, room_col, demand_col, came_col, LongColumns}
-use Rattle.passes.specs.Tables.{StoredRooms, store-rooms, StoredDemands, store-demands}
+use Rattle.passes.specs.Tables.{StoredRooms, store_rooms, StoredDemands, store_demands}
 use Rattle.passes.specs.Rest.{Remainders}
-use Rattle.passes.specs.Supplies.{NoRamp, SuppliesRequire, supply_in, supply-model, demand_in}
+use Rattle.passes.specs.Supplies.{NoRamp, SuppliesRequire, supply_in, supply_model, demand_in}
 use Rattle.passes.specs.RampList.{Listed, AtRamps}
-use Rattle.passes.specs.Next.{NextRequires, demands-are, NextGives}
+use Rattle.passes.specs.Next.{NextRequires, demands_are, NextGives}
 use Rattle.model.specs.Filling.{MeterState, granted_at, filled_row, metered_of}
 use Rattle.model.specs.Put.{put_releases}
-use Rattle.put.specs.ReleasesLaws.{PutRow, put-releases}
-use Rattle.ramps.specs.RampsLaws.{granted-small, filled-release, last-release, last_entry_lem}
+use Rattle.put.specs.ReleasesLaws.{PutRow, put_releases_lem}
+use Rattle.ramps.specs.RampsLaws.{granted_small, filled_release, last_release_lem, last_entry_lem}
 use Rattle.ramps.specs.Grants.{meter_in, Lasts, GrantRequires, GrantGives}
 
 -- what is kept from step to step: the cells with a ramp are listed, with what the last step left there; the remainders are those of b × F; each
@@ -92,8 +92,8 @@ module _ {laws : List Law} {bytes : List ℕ} {q : Road} {l₀ : Ledger} {state�
   y = outflows_of q m.state filled
 
   -- the supplies, and then granting, have no further precondition
-  pub supplies-ready : SuppliesRequire q.n q.wave q.jam m.state.held
-  supplies-ready = record {
+  pub supplies_ready : SuppliesRequire q.n q.wave q.jam m.state.held
+  supplies_ready = record {
     cells = f.step.input.road.cells;
     waves = f.step.input.road.wave;
     jams = f.step.input.road.jam;
@@ -106,10 +106,10 @@ module _ {laws : List Law} {bytes : List ℕ} {q : Road} {l₀ : Ledger} {state�
     supply = supply_in q.wave q.jam q.capacity (held_col state₀)
 
     supplied : StoredRooms work₀ (set work₀ 0 room₁) room₁
-    supplied = store-rooms work₀ f.kept.long.columns room₁
+    supplied = store_rooms work₀ f.kept.long.columns room₁
 
-    pub grant-ready : GrantRequires laws q (meter_in l₀ state₀ releases₀ entries₀) bytes k start ramps cell kinds numbers (set work₀ 0 room₁)
-    grant-ready =
+    pub grant_ready : GrantRequires laws q (meter_in l₀ state₀ releases₀ entries₀) bytes k start ramps cell kinds numbers (set work₀ 0 room₁)
+    grant_ready =
         let w = f.kept.long in
         record {
           step = f.step;
@@ -121,10 +121,10 @@ module _ {laws : List Law} {bytes : List ℕ} {q : Road} {l₀ : Ledger} {state�
           columns = f.columns;
           lasts = record { releases = rw supplied.releases f.kept.lasts.releases; entries = rw supplied.came f.kept.lasts.entries };
           supplies = λ i l.
-              ap (λ (x : List ℕ). at x i) (supplied.rooms ∙ er) ∙ fill-at supply q.n (room_col work₀) i l w.room ∙ supply-model q m.state i;
+              ap (λ (x : List ℕ). at x i) (supplied.rooms ∙ er) ∙ fill_at supply q.n (room_col work₀) i l w.room ∙ supply_model q m.state i;
           long = record {
             columns = supplied.columns;
-            room = omega (arith, ap length (supplied.rooms ∙ er), length-fill supply q.n (room_col work₀), w.room);
+            room = omega (arith, ap length (supplied.rooms ∙ er), length_fill supply q.n (room_col work₀), w.room);
             release = omega (arith, ap length supplied.releases, w.release);
             waiting = omega (arith, ap length supplied.waits, w.waiting);
             demand = omega (arith, ap length supplied.demands, w.demand);
@@ -136,17 +136,17 @@ module _ {laws : List Law} {bytes : List ℕ} {q : Road} {l₀ : Ledger} {state�
     module _ {put : List ℕ} {work₁ : Table} (g : GrantGives laws q (meter_in l₀ state₀ releases₀ entries₀) bytes k ramps cell put work₁) where
       changed : PutRow bytes put q.n k (granted_at laws q m row) q.n
       changed =
-          rw g.puts (put-releases bytes q.n k (granted_at laws q m row) q.n (le_refl q.n) f.held (λ i _. granted-small laws q m row i))
+          rw g.puts (put_releases_lem bytes q.n k (granted_at laws q m row) q.n (le_refl q.n) f.held (λ i _. granted_small laws q m row i))
 
       -- the bytes hold the filled row, and its gate arrivals
-      pub gate-there : start + number_size ≤ length put
-      gate-there = omega (arith, es, f.held.row, changed.size)
+      pub gate_there : start + number_size ≤ length put
+      gate_there = omega (arith, es, f.held.row, changed.size)
 
-      gate-is : number_of put start number_size ≡ gate_arrivals filled
+      gate_is : number_of put start number_size ≡ gate_arrivals filled
       unfolding filled_row
-      gate-is =
+      gate_is =
           let e : start ≡ row_start (version_of put) q.n k + number_size * 0 = omega (arith, es, ap (λ (v : ℕ). row_start v q.n k) changed.version) in
-          ap (λ (p : ℕ). number_of put p number_size) e ∙ sym (row-at put q.n k 0 (omega arith)) ∙ ap gate_arrivals changed.row
+          ap (λ (p : ℕ). number_of put p number_size) e ∙ sym (row_at_lem put q.n k 0 (omega arith)) ∙ ap gate_arrivals changed.row
 
       -- all that has come into a cell, with its release and with what enters, is the cell's held count plus F afterwards
       entered : (j : ℕ) → j < ramps →
@@ -157,8 +157,8 @@ module _ {laws : List Law} {bytes : List ℕ} {q : Road} {l₀ : Ledger} {state�
           let i = at cell j in
           let inside = f.kept.listed.within j l in
           let s = f.step.sized in
-          let hold = fill-at (held_of q m.state filled y) q.n m.state.held i inside s.held in
-          let sent = fill-at (cumulative_of m.state y) q.n m.state.cumulative i inside s.cumulative in
+          let hold = fill_at (held_of q m.state filled y) q.n m.state.held i inside s.held in
+          let sent = fill_at (cumulative_of m.state y) q.n m.state.cumulative i inside s.cumulative in
           let one : at y (i + 1) ≡ at y (suc i) = ap (at y) (add-one i) in
           omega (
             arith,
@@ -167,9 +167,9 @@ module _ {laws : List Law} {bytes : List ℕ} {q : Road} {l₀ : Ledger} {state�
             hold,
             sent,
             one,
-            filled-release laws q m row f.row.numbers i inside,
-            (outflows-obey q m.state filled f.step.released).demand (suc i) inside,
-            demand-at-cell q f.step.input.road m.state i inside,
+            filled_release laws q m row f.row.numbers i inside,
+            (outflows_obey q m.state filled f.step.released).demand (suc i) inside,
+            demand_at_cell q f.step.input.road m.state i inside,
           )
 
       -- so with the demands the step is ready
@@ -178,29 +178,29 @@ module _ {laws : List Law} {bytes : List ℕ} {q : Road} {l₀ : Ledger} {state�
         work = set work₁ 3 demand
 
         demanded : StoredDemands work₁ work demand
-        demanded = store-demands work₁ g.long.columns demand
+        demanded = store_demands work₁ g.long.columns demand
 
-        pub step-ready : {arrivals : ℕ} → arrivals ≡ number_of put start number_size
+        pub step_ready : {arrivals : ℕ} → arrivals ≡ number_of put start number_size
             → NextRequires q l₀ state₀ (filled_row laws q (meter_in l₀ state₀ releases₀ entries₀) (record_row bytes q.n k)) ramps arrivals cell (set work₁ 3 demand)
-        step-ready e = record {
+        step_ready e = record {
           columns = f.kept.columns;
           steppable = f.step;
           listed = f.kept.listed;
           releases = rw demanded.releases
-              (λ j l. g.releases j l ∙ sym (filled-release laws q m row f.row.numbers (at cell j) (f.kept.listed.within j l)));
+              (λ j l. g.releases j l ∙ sym (filled_release laws q m row f.row.numbers (at cell j) (f.kept.listed.within j l)));
           waits = rw demanded.waits g.waiting;
           rooms = rw demanded.rooms g.rooms;
           rests = f.kept.rests;
-          demands = demands-are q m.state (demand_col work₁) g.long.demand (demanded.demands ∙ ed);
-          gate = e ∙ gate-is;
+          demands = demands_are q m.state (demand_col work₁) g.long.demand (demanded.demands ∙ ed);
+          gate = e ∙ gate_is;
         }
 
         -- after it the step is filled
-        pub row-filled : {t : Ledger} {state : Table} {y : List ℕ}
+        pub row_filled : {t : Ledger} {state : Table} {y : List ℕ}
             → NextGives q (state_in l₀ state₀) (filled_row laws q (meter_in l₀ state₀ releases₀ entries₀) (record_row bytes q.n k)) t state y
             → FillGives laws bytes q l₀ state₀ releases₀ entries₀ k put t state ramps cell (set work₁ 3 demand) y
         unfolding metered_of
-        row-filled st = record {
+        row_filled st = record {
           releases = g.puts;
           state = st.next;
           row = st.outflows;
@@ -209,13 +209,13 @@ module _ {laws : List Law} {bytes : List ℕ} {q : Road} {l₀ : Ledger} {state�
             ramped = f.kept.ramped;
             lasts = record {
               releases = rw demanded.releases
-                  (λ j l. g.releases j l ∙ sym (last-release laws q m row f.kept.long_releases (at cell j) (f.kept.listed.within j l)));
+                  (λ j l. g.releases j l ∙ sym (last_release_lem laws q m row f.kept.long_releases (at cell j) (f.kept.listed.within j l)));
               entries = rw demanded.came entered;
             };
             columns = st.columns;
             rests = st.rests;
-            long_releases = omega (arith, length-fill (granted_at laws q m row) q.n releases₀, f.kept.long_releases);
-            long_entries = omega (arith, length-fill (entering_at q m.state y) q.n entries₀, f.kept.long_entries);
+            long_releases = omega (arith, length_fill (granted_at laws q m row) q.n releases₀, f.kept.long_releases);
+            long_entries = omega (arith, length_fill (entering_at q m.state y) q.n entries₀, f.kept.long_entries);
             long = record {
               columns = demanded.columns;
               room = omega (arith, ap length demanded.rooms, g.long.room);
@@ -224,7 +224,7 @@ module _ {laws : List Law} {bytes : List ℕ} {q : Road} {l₀ : Ledger} {state�
               demand = omega (
                 arith,
                 ap length (demanded.demands ∙ ed),
-                length-fill (demand_in q.speed q.capacity (held_col state₀)) q.n (demand_col work₁),
+                length_fill (demand_in q.speed q.capacity (held_col state₀)) q.n (demand_col work₁),
                 g.long.demand,
               );
               came = omega (arith, ap length demanded.came, g.long.came);

@@ -3,7 +3,7 @@
 use Rattle.std.specs.Prelude.{ℕ, zero, suc, ◌+◌, ◌-◌, ◌*◌, ◌/◌, min, ◌≤◌, ◌<◌, ◌≡◌, refl}
 use Rattle.std.proofs.Common.{arith}
 use Rattle.model.specs.Flow.{whole, onward_of, thousandths_of, entering_of, outflow_of}
-use Rattle.flow.specs.FlowLaws.{onward-within, within-onward, onward-entering, outflow-unique, outflow-exit}
+use Rattle.flow.specs.FlowLaws.{onward_within, within_onward, onward_entering, outflow_unique, outflow_exit}
 
 -- the outflow by one division, as on paper: the smaller of the demand and (1,000 × (onward total + room) + 999) ÷ share rounded down,
 -- less F (never below 0); with share 0, the demand
@@ -14,30 +14,30 @@ divided_of (suc b) cumulative room demand =
     min demand ((whole * (onward_of share cumulative + room) + 999) / share - cumulative)
 
 -- the table of examples/classroom.md
-on-paper : (divided_of 500 0 50000 40000 ≡ 40000)
+on_paper : (divided_of 500 0 50000 40000 ≡ 40000)
     × ((divided_of 500 720000 17500 40000 ≡ 35001) × ((divided_of 750 934 700 1283 ≡ 933) × (divided_of 750 0 0 1283 ≡ 1)))
 unfolding divided_of onward_of thousandths_of
-on-paper = (refl, (refl, (refl, refl)))
+on_paper = (refl, (refl, (refl, refl)))
 
 -- this number is the outflow: the greatest that the demand and the room allow
-pub divided-is-greatest : (share F room demand : ℕ) → divided_of share F room demand ≡ outflow_of share F room demand
+pub divided_is_greatest : (share F room demand : ℕ) → divided_of share F room demand ≡ outflow_of share F room demand
 unfolding divided_of
-divided-is-greatest zero F room demand = omega (arith, outflow-exit F room demand)
-divided-is-greatest (suc b) F room demand =
+divided_is_greatest zero F room demand = omega (arith, outflow_exit F room demand)
+divided_is_greatest (suc b) F room demand =
     let share : ℕ = suc b in
     let some : 0 < share = omega arith in
     let most : ℕ = onward_of share F + room in
     let r : ℕ = divided_of share F room demand in
-    let within : F + r ≤ (whole * most + 999) / share = omega (arith, within-onward share F most some (omega arith)) in
-    let fits : entering_of share F r ≤ room = omega (arith, onward-within share (F + r) most some within, onward-entering share F r) in
-    outflow-unique share F room demand r (omega arith) fits
-    (λ y above below enters. omega (arith, within-onward share (F + y) most some (omega (arith, onward-entering share F y))))
+    let within : F + r ≤ (whole * most + 999) / share = omega (arith, within_onward share F most some (omega arith)) in
+    let fits : entering_of share F r ≤ room = omega (arith, onward_within share (F + r) most some within, onward_entering share F r) in
+    outflow_unique share F room demand r (omega arith) fits
+    (λ y above below enters. omega (arith, within_onward share (F + y) most some (omega (arith, onward_entering share F y))))
 
 -- the same for a function that computes the formula with a share other than 0
-pub line-is-greatest : (share F room demand most r : ℕ) → 0 < share → most ≡ onward_of share F + room
+pub line_is_greatest : (share F room demand most r : ℕ) → 0 < share → most ≡ onward_of share F + room
     → r ≡ min demand ((whole * most + 999) / share - F) → r ≡ outflow_of share F room demand
 unfolding divided_of
-line-is-greatest zero F room demand most r some m e = absurd (omega arith)
-line-is-greatest (suc b) F room demand most r some m e =
+line_is_greatest zero F room demand most r some m e = absurd (omega arith)
+line_is_greatest (suc b) F room demand most r some m e =
     let line : min demand ((whole * most + 999) / suc b - F) ≡ divided_of (suc b) F room demand = rw m in
-    omega (arith, divided-is-greatest (suc b) F room demand)
+    omega (arith, divided_is_greatest (suc b) F room demand)

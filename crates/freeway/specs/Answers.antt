@@ -68,17 +68,17 @@ read_back refusal.CallerLimits = refl
 read_back refusal.ManyLengths = refl
 
 -- two refusals with the same number are the same refusal
-pub refusal-same : (q p : Refusal) → refusal_number q ≡ refusal_number p → q ≡ p
-refusal-same = same refusal_number refusal_with read_back
+pub refusal_same : (q p : Refusal) → refusal_number q ≡ refusal_number p → q ≡ p
+refusal_same = same refusal_number refusal_with read_back
 
 -- the answer of putting a release
-pub fault-same : (x y : Fault) → fault_answer x ≡ fault_answer y → x ≡ y
-fault-same =
+pub fault_same : (x y : Fault) → fault_answer x ≡ fault_answer y → x ≡ y
+fault_same =
     same fault_answer (λ (a : FaultAnswer). record { refusal = refusal_with a.number; place = a.place })
     (λ x. ap (λ (q : Refusal). record { refusal = q; place = x.place }) (read_back x.refusal))
 
-pub reading-same : (x y : Reading) → read_answer x ≡ read_answer y → x ≡ y
-reading-same =
+pub reading_same : (x y : Reading) → read_answer x ≡ read_answer y → x ≡ y
+reading_same =
     same read_answer
     (λ (a : ReadAnswer). record { refusal = refusal_with a.number; place = a.place; steps = a.steps; road = a.road; state = a.state })
     (λ x. ap (λ (q : Refusal). record { refusal = q; place = x.place; steps = x.steps; road = x.road; state = x.state }) (read_back x.refusal))
@@ -101,14 +101,14 @@ written_same =
     same write_answer (λ (a : WriteAnswer). record { refusal = refusal_with a.number; place = a.place; count = a.count })
     (λ x. ap (λ (q : Refusal). record { refusal = q; place = x.place; count = x.count }) (read_back x.refusal))
 
-pub loaded-same : (x y : Loaded) → load_answer x ≡ load_answer y → x ≡ y
-loaded-same =
+pub loaded_same : (x y : Loaded) → load_answer x ≡ load_answer y → x ≡ y
+loaded_same =
     same load_answer (λ (a : LoadAnswer). record { refusal = refusal_with a.number; last = a.last })
     (λ x. ap (λ (q : Refusal). record { refusal = q; last = x.last }) (read_back x.refusal))
 
 -- the answer of the search for a wanted queue: the answer none is not a refusal without a number
-pub wanted-same : (x y : Wanted) → wanted_answer x ≡ wanted_answer y → x ≡ y
-wanted-same = same wanted_answer back reads
+pub wanted_same : (x y : Wanted) → wanted_answer x ≡ wanted_answer y → x ≡ y
+wanted_same = same wanted_answer back reads
   where
     back : WantedAnswer → Wanted
     back a = cond a.searched (cond a.found wanted.Found wanted.None) (wanted.Refused (refusal_with a.number))

@@ -14,15 +14,15 @@ use Rattle.model.specs.declared.State.{State}
 use Rattle.model.specs.declared.Law.{Law}
 use Rattle.model.specs.Road.{most_cells, most_steps, zeros}
 use Rattle.model.specs.Limits.{state_ok}
-use Rattle.numbers.specs.Tests.{unless-elim}
+use Rattle.numbers.specs.Tests.{unless_elim}
 use Rattle.numbers.specs.FirstLaws.{all_true}
-use Rattle.numbers.specs.RowsLaws.{fill-at, length-fill}
+use Rattle.numbers.specs.RowsLaws.{fill_at, length_fill}
 use Rattle.model.specs.Flow.{gate_arrivals, arrivals_at, entering_at}
-use Rattle.limits.specs.LimitsLaws.{RoadOk, StateOk, RowOk, state-ok, row-ok}
+use Rattle.limits.specs.LimitsLaws.{RoadOk, StateOk, RowOk, state_ok_lem, row_ok_lem}
 use Rattle.model.specs.Schedules.{Study, road_at, outflows_of, engine_after, ObeysUpTo, proposed_at, scheduled_at}
 use Rattle.model.specs.Reading.{reading_of, study_of}
-use Rattle.reading.specs.Within.{read-within}
-use Rattle.reading.specs.Numbers.{read-numbers}
+use Rattle.reading.specs.Within.{read_within_lem}
+use Rattle.reading.specs.Numbers.{read_numbers}
 use Rattle.model.specs.Running.{EndAnswer, run_fault, first_step, lanes_fault, running_of}
 use Rattle.model.specs.GoingOn.{study_after, state_fault, running_on, judging_on, entries_ok, progress_fault, filling_on, record_on}
 use Rattle.model.specs.Judging.{judging_of}
@@ -33,71 +33,71 @@ use Rattle.model.specs.Filling.{metered_from, granted_from, rows_from, filled_fr
 use Rattle.model.specs.Weights.{weighted_present, weighted_total}
 use Rattle.model.specs.Longest.{maximum_of, stayed_of, Queues, longest_of}
 use Rattle.model.specs.Demand.{Openable, Ahead}
-use Rattle.numbers.specs.Zeros.{length-zeros, zeros-at}
-use Rattle.theory.specs.RulesLaws.{Sized, demand-at-cell, outflows-obey}
-use Rattle.theory.specs.MoveLaws.{next-held}
-use Rattle.theory.specs.Roads.{StepRoad, step-alike, step_row, row_back, sized-alike}
+use Rattle.numbers.specs.Zeros.{length_zeros, zeros_at}
+use Rattle.theory.specs.RulesLaws.{Sized, demand_at_cell, outflows_obey}
+use Rattle.theory.specs.MoveLaws.{next_held}
+use Rattle.theory.specs.Roads.{StepRoad, step_alike, step_row, row_back, sized_alike}
 use Rattle.theory.specs.Readable.{Readable, readable}
-use Rattle.theory.specs.StartingState.{same-roads}
+use Rattle.theory.specs.StartingState.{same_roads}
 use Rattle.theory.specs.RunsLaws.{StudyOk}
-use Rattle.theory.proofs.SchedulesLaws.{run-reached, step-within}
-use Rattle.theory.specs.WeightsLaws.{weighted-total-none, weighted-total-more}
-use Rattle.theory.proofs.DemandLaws.{engine-best}
+use Rattle.theory.proofs.SchedulesLaws.{run_reached, step_within}
+use Rattle.theory.specs.WeightsLaws.{weighted_total_none, weighted_total_more}
+use Rattle.theory.proofs.DemandLaws.{engine_best}
 use Rattle.theory.specs.GoingOn.{Rest}
-use Rattle.theory.proofs.GoingOn.{first_rest, metered-rest, engine-rest, faults-rest}
-use Rattle.put.specs.ReleasesLaws.{PutTable, put-table, table-head}
+use Rattle.theory.proofs.GoingOn.{first_rest, metered_rest, engine_rest, faults_rest}
+use Rattle.put.specs.ReleasesLaws.{PutTable, put_table_lem, table_head}
 use Rattle.put.specs.SameReading.{rows_replaced}
-use Rattle.ramps.specs.RampsLaws.{filled-gate, filled-arrivals, filled_row_lem}
-use Rattle.filling.specs.FillingFrom.{filled-run, releases-small, filled-released, filled-reached}
+use Rattle.ramps.specs.RampsLaws.{filled_gate, filled_arrivals, filled_row_lem}
+use Rattle.filling.specs.FillingFrom.{filled_run, releases_small, filled_released, filled_reached}
 
 -- within the limits neither 7 nor 8 applies
-starts-within : (b : Study) → RoadOk b.road → StateOk b.road b.start → b.start.done + b.steps ≤ most_steps → state_fault b ≡ 0
+starts_within : (b : Study) → RoadOk b.road → StateOk b.road b.start → b.start.done + b.steps ≤ most_steps → state_fault b ≡ 0
 unfolding state_fault
-starts-within b road state few = rw (state-ok b.road b.start road state, le-leb (b.start.done + b.steps) most_steps few) refl
+starts_within b road state few = rw (state_ok_lem b.road b.start road state, le-leb (b.start.done + b.steps) most_steps few) refl
 
 -- filling releases does not change the road of a step
-filled-roads : (laws : List Law) (a : Study) (m : MeterState) (j : ℕ) → road_at (filled_from laws a m) j ≡ road_at a j
+filled_roads : (laws : List Law) (a : Study) (m : MeterState) (j : ℕ) → road_at (filled_from laws a m) j ≡ road_at a j
 unfolding road_at
-filled-roads laws a m j = refl
+filled_roads laws a m j = refl
 
 module _ {a b : Study} {k : ℕ} (h : Rest a b k) where
   -- going on from the run's own state is never refused with 7 or 8
-  pub starts-rest : StudyOk a → ((j : ℕ) → j < k → (run_fault a j).number ≡ 0) → b.start ≡ engine_after a k → state_fault b ≡ 0
-  starts-rest ok none s =
-      let r = run-reached a ok k (omega (arith, h.steps)) none in
+  pub starts_rest : StudyOk a → ((j : ℕ) → j < k → (run_fault a j).number ≡ 0) → b.start ≡ engine_after a k → state_fault b ≡ 0
+  starts_rest ok none s =
+      let r = run_reached a ok k (omega (arith, h.steps)) none in
       let done : b.start.done ≡ a.start.done + k = ap (λ (u : State). u.done) s ∙ r.done in
-      starts-within b (subst⁻¹ RoadOk h.road ok.road)
+      starts_within b (subst⁻¹ RoadOk h.road ok.road)
       (subst⁻¹ (λ (q : Road). StateOk q b.start) h.road (subst⁻¹ (StateOk a.road) s r.state))
       (omega (arith, done, h.steps, ok.steps))
 
   -- the rest of a filled study is the study that filling gives when it goes on
-  pub filled-rest : (laws : List Law) (m p : MeterState) → p ≡ metered_from laws a m k → Rest (filled_from laws a m) (filled_from laws b p) k
-  filled-rest laws m p e = record {
+  pub filled_rest : (laws : List Law) (m p : MeterState) → p ≡ metered_from laws a m k → Rest (filled_from laws a m) (filled_from laws b p) k
+  filled_rest laws m p e = record {
     road = h.road;
     steps = h.steps;
-    roads = λ j l. filled-roads laws b p j ∙ h.roads j l ∙ sym (filled-roads laws a m (k + j));
-    rows = λ j l. rw (metered-rest h laws m p e j (omega arith), h.roads j l, h.rows j l);
+    roads = λ j l. filled_roads laws b p j ∙ h.roads j l ∙ sym (filled_roads laws a m (k + j));
+    rows = λ j l. rw (metered_rest h laws m p e j (omega arith), h.roads j l, h.rows j l);
   }
 
 -- states that go on after k steps, up to step T of the rest
 module _ (after then : ℕ → State) (k T : ℕ) (states : (j : ℕ) → j ≤ T → then j ≡ after (k + j)) where
   -- the weighted total is the sum over both stretches
-  pub weighted-states : (w u : ℕ → ℕ) (n j : ℕ) → j ≤ T → weighted_total w u n after (k + j) ≡ weighted_total w u n after k + weighted_total w u n then j
-  weighted-states w u n zero l =
-      ap (weighted_total w u n after) (add-zero k) ∙ omega (arith, weighted-total-none w u n then)
-  weighted-states w u n (suc j) l =
+  pub weighted_states : (w u : ℕ → ℕ) (n j : ℕ) → j ≤ T → weighted_total w u n after (k + j) ≡ weighted_total w u n after k + weighted_total w u n then j
+  weighted_states w u n zero l =
+      ap (weighted_total w u n after) (add-zero k) ∙ omega (arith, weighted_total_none w u n then)
+  weighted_states w u n (suc j) l =
       let e : weighted_present w u n (after (suc (k + j))) ≡ weighted_present w u n (then (suc j)) =
       ap (λ (i : ℕ). weighted_present w u n (after i)) (sym (add-suc k j)) ∙ ap (weighted_present w u n) (sym (states (suc j) l)) in
       ap (weighted_total w u n after) (add-suc k j)
-      ∙ omega (arith, weighted-total-more w u n after (k + j), weighted-total-more w u n then j, weighted-states w u n j (omega arith), e)
+      ∙ omega (arith, weighted_total_more w u n after (k + j), weighted_total_more w u n then j, weighted_states w u n j (omega arith), e)
 
 -- the greatest of the first k + j values is the greater of two: of the first k, and of the j after them
-pub greatest-rest : (f g : ℕ → ℕ) (k j : ℕ) → ((i : ℕ) → i < j → g i ≡ f (k + i)) → maximum_of f (k + j) ≡ max (maximum_of f k) (maximum_of g j)
+pub greatest_rest : (f g : ℕ → ℕ) (k j : ℕ) → ((i : ℕ) → i < j → g i ≡ f (k + i)) → maximum_of f (k + j) ≡ max (maximum_of f k) (maximum_of g j)
 unfolding maximum_of
-greatest-rest f g k zero same = ap (maximum_of f) (add-zero k) ∙ omega arith
-greatest-rest f g k (suc j) same =
+greatest_rest f g k zero same = ap (maximum_of f) (add-zero k) ∙ omega arith
+greatest_rest f g k (suc j) same =
     ap (maximum_of f) (add-suc k j)
-    ∙ omega (arith, greatest-rest f g k j (λ i l. same i (omega arith)), same j (le_refl (suc j)))
+    ∙ omega (arith, greatest_rest f g k j (λ i l. same i (omega arith)), same j (le_refl (suc j)))
 
 -- each of the longest queues is the greater of two
 pub record Greater (n : ℕ) (whole first rest : Queues) : Type 0 where
@@ -109,92 +109,92 @@ module _ (after then : ℕ → State) (k T : ℕ) (states : (j : ℕ) → j ≤ 
   next : (i : ℕ) → suc i ≤ T → then (suc i) ≡ after (suc (k + i))
   next i l = states (suc i) l ∙ ap after (add-suc k i)
 
-  ramp-of : (n : ℕ) → n ≤ most_cells → (s : ℕ → State) (m i : ℕ) → i < n → at (longest_of n s m).ramps i ≡ maximum_of (λ j. at (s (suc j)).queue i) m
+  ramp_of : (n : ℕ) → n ≤ most_cells → (s : ℕ → State) (m i : ℕ) → i < n → at (longest_of n s m).ramps i ≡ maximum_of (λ j. at (s (suc j)).queue i) m
   unfolding longest_of
-  ramp-of n few s m i l = fill-at (λ i. maximum_of (λ j. at (s (suc j)).queue i) m) n zeros i l (omega (arith, length-zeros))
+  ramp_of n few s m i l = fill_at (λ i. maximum_of (λ j. at (s (suc j)).queue i) m) n zeros i l (omega (arith, length_zeros))
 
   -- the longest queues of the whole
-  pub longest-states : (n j : ℕ) → n ≤ most_cells → j ≤ T → Greater n (longest_of n after (k + j)) (longest_of n after k) (longest_of n then j)
+  pub longest_states : (n j : ℕ) → n ≤ most_cells → j ≤ T → Greater n (longest_of n after (k + j)) (longest_of n after k) (longest_of n then j)
   unfolding longest_of
-  longest-states n j few l = record {
-    gate = greatest-rest (λ i. (after (suc i)).gate_queue) (λ i. (then (suc i)).gate_queue) k j
+  longest_states n j few l = record {
+    gate = greatest_rest (λ i. (after (suc i)).gate_queue) (λ i. (then (suc i)).gate_queue) k j
         (λ i m. ap (λ (s : State). s.gate_queue) (next i (omega arith)));
-    waiting = greatest-rest (λ i. stayed_of (after i) (after (suc i))) (λ i. stayed_of (then i) (then (suc i))) k j
+    waiting = greatest_rest (λ i. stayed_of (after i) (after (suc i))) (λ i. stayed_of (then i) (then (suc i))) k j
         (λ i m. ap (λ (s : State). stayed_of s (then (suc i))) (states i (omega arith)) ∙ ap (stayed_of (after (k + i))) (next i (omega arith)));
     ramp = λ i m.
-        ramp-of n few after (k + j) i m
-        ∙ greatest-rest (λ t. at (after (suc t)).queue i) (λ t. at (then (suc t)).queue i) k j
+        ramp_of n few after (k + j) i m
+        ∙ greatest_rest (λ t. at (after (suc t)).queue i) (λ t. at (then (suc t)).queue i) k j
         (λ t o. ap (λ (s : State). at s.queue i) (next t (omega arith)))
-        ∙ ap (λ (x : ℕ). max x (maximum_of (λ t. at (then (suc t)).queue i) j)) (sym (ramp-of n few after k i m))
-        ∙ ap (max (at (longest_of n after k).ramps i)) (sym (ramp-of n few then j i m));
+        ∙ ap (λ (x : ℕ). max x (maximum_of (λ t. at (then (suc t)).queue i) j)) (sym (ramp_of n few after k i m))
+        ∙ ap (max (at (longest_of n after k).ramps i)) (sym (ramp_of n few then j i m));
   }
 
 module _ {a b : Study} {k : ℕ} (h : Rest a b k) (s : b.start ≡ engine_after a k) where
-  pub weighted-rest : (w u : ℕ → ℕ) (n j : ℕ) → j ≤ b.steps
+  pub weighted_rest : (w u : ℕ → ℕ) (n j : ℕ) → j ≤ b.steps
       → weighted_total w u n (engine_after a) (k + j) ≡ weighted_total w u n (engine_after a) k + weighted_total w u n (engine_after b) j
-  weighted-rest = weighted-states (engine_after a) (engine_after b) k b.steps (engine-rest h s)
+  weighted_rest = weighted_states (engine_after a) (engine_after b) k b.steps (engine_rest h s)
 
-  pub longest-rest : (n j : ℕ) → n ≤ most_cells → j ≤ b.steps
+  pub longest_rest : (n j : ℕ) → n ≤ most_cells → j ≤ b.steps
       → Greater n (longest_of n (engine_after a) (k + j)) (longest_of n (engine_after a) k) (longest_of n (engine_after b) j)
-  longest-rest = longest-states (engine_after a) (engine_after b) k b.steps (engine-rest h s)
+  longest_rest = longest_states (engine_after a) (engine_after b) k b.steps (engine_rest h s)
 
   -- demand 3: no schedule of the whole study is ahead of a run in stretches, after k + j steps that both reach
-  pub best-rest : StudyOk a → ((j : ℕ) → j < k → (run_fault a j).number ≡ 0) → (zs : List ℕ) (j : ℕ) → j ≤ first_step (run_fault b) b.steps
+  pub best_rest : StudyOk a → ((j : ℕ) → j < k → (run_fault a j).number ≡ 0) → (zs : List ℕ) (j : ℕ) → j ≤ first_step (run_fault b) b.steps
       → ObeysUpTo a (proposed_at a zs) (k + j) → Ahead a.road (engine_after b j) (scheduled_at a zs (k + j))
-  best-rest ok none zs j l obeys =
-      let e = first_rest h (run_fault a) (run_fault b) (engine_after a) (engine_after b) none (faults-rest h s) (engine-rest h s) in
-      subst⁻¹ (λ (u : State). Ahead a.road u (scheduled_at a zs (k + j))) (engine-rest h s j (omega (arith, step-within (run_fault b) b.steps)))
-      (engine-best a ok zs (k + j) (omega (arith, e)) obeys)
+  best_rest ok none zs j l obeys =
+      let e = first_rest h (run_fault a) (run_fault b) (engine_after a) (engine_after b) none (faults_rest h s) (engine_rest h s) in
+      subst⁻¹ (λ (u : State). Ahead a.road u (scheduled_at a zs (k + j))) (engine_rest h s j (omega (arith, step_within (run_fault b) b.steps)))
+      (engine_best a ok zs (k + j) (omega (arith, e)) obeys)
 
 -- the same for filling, whose states go on from a progress
 module _ {a b : Study} {k : ℕ} (h : Rest a b k) (laws : List Law) (m p : MeterState) (e : p ≡ metered_from laws a m k) where
-  pub longest-filled : (n j : ℕ) → n ≤ most_cells → j ≤ b.steps
+  pub longest_filled : (n j : ℕ) → n ≤ most_cells → j ≤ b.steps
       → Greater n (longest_of n (λ i. (metered_from laws a m i).state) (k + j)) (longest_of n (λ i. (metered_from laws a m i).state) k)
       (longest_of n (λ i. (metered_from laws b p i).state) j)
-  longest-filled = longest-states (λ i. (metered_from laws a m i).state) (λ i. (metered_from laws b p i).state) k b.steps
-      (λ j l. ap (λ (x : MeterState). x.state) (metered-rest h laws m p e j l))
+  longest_filled = longest_states (λ i. (metered_from laws a m i).state) (λ i. (metered_from laws b p i).state) k b.steps
+      (λ j l. ap (λ (x : MeterState). x.state) (metered_rest h laws m p e j l))
 
 -- from a record's own start, going on is running, judging and filling
 module _ (bytes lanes : List ℕ) (reads : (reading_of bytes).number ≡ 0) where
   few : (reading_of bytes).state.done + (reading_of bytes).steps ≤ most_steps
-  few = omega (arith, (read-within bytes (reading_of bytes) refl reads).steps, (read-numbers bytes (reading_of bytes) refl reads).done)
+  few = omega (arith, (read_within_lem bytes (reading_of bytes) refl reads).steps, (read_numbers bytes (reading_of bytes) refl reads).done)
 
-  state-within : state_ok (reading_of bytes).road (reading_of bytes).state ≡ true
-  state-within =
-      let w = read-within bytes (reading_of bytes) refl reads in
-      state-ok (reading_of bytes).road (reading_of bytes).state w.road w.state
+  state_within_lem : state_ok (reading_of bytes).road (reading_of bytes).state ≡ true
+  state_within_lem =
+      let w = read_within_lem bytes (reading_of bytes) refl reads in
+      state_ok_lem (reading_of bytes).road (reading_of bytes).state w.road w.state
 
-  starts-fresh : state_fault (study_of bytes lanes) ≡ 0
+  starts_fresh : state_fault (study_of bytes lanes) ≡ 0
   unfolding state_fault
-  starts-fresh = rw (state-within, le-leb ((reading_of bytes).state.done + (reading_of bytes).steps) most_steps few) refl
+  starts_fresh = rw (state_within_lem, le-leb ((reading_of bytes).state.done + (reading_of bytes).steps) most_steps few) refl
 
-  entries-fresh : entries_ok (meter_start (reading_of bytes).state) (reading_of bytes).road.n ≡ true
+  entries_fresh : entries_ok (meter_start (reading_of bytes).state) (reading_of bytes).road.n ≡ true
   unfolding entries_ok
-  entries-fresh = all_true _ (reading_of bytes).road.n (λ i l. le-leb (at zeros i) (at (reading_of bytes).state.held i) (omega (arith, zeros-at i)))
+  entries_fresh = all_true _ (reading_of bytes).road.n (λ i l. le-leb (at zeros i) (at (reading_of bytes).state.held i) (omega (arith, zeros_at i)))
 
-  progress-fresh : progress_fault (study_of bytes lanes) (meter_start (reading_of bytes).state) ≡ 0
+  progress_fresh : progress_fault (study_of bytes lanes) (meter_start (reading_of bytes).state) ≡ 0
   unfolding progress_fault
-  progress-fresh = rw (state-within, entries-fresh, le-leb ((reading_of bytes).state.done + (reading_of bytes).steps) most_steps few) refl
+  progress_fresh = rw (state_within_lem, entries_fresh, le-leb ((reading_of bytes).state.done + (reading_of bytes).steps) most_steps few) refl
 
-  pub fresh-run : (list : List ℕ) → running_on bytes lanes (reading_of bytes).state list ≡ running_of bytes lanes list
+  pub fresh_run : (list : List ℕ) → running_on bytes lanes (reading_of bytes).state list ≡ running_of bytes lanes list
   unfolding running_on running_of
-  fresh-run list = rw (eq-eqb (state_fault (study_of bytes lanes)) 0 starts-fresh) refl
+  fresh_run list = rw (eq-eqb (state_fault (study_of bytes lanes)) 0 starts_fresh) refl
 
-  pub fresh-judge : (zs : List ℕ) → judging_on bytes lanes (reading_of bytes).state zs ≡ judging_of bytes lanes zs
+  pub fresh_judge : (zs : List ℕ) → judging_on bytes lanes (reading_of bytes).state zs ≡ judging_of bytes lanes zs
   unfolding judging_on judging_of
-  fresh-judge zs = rw (eq-eqb (state_fault (study_of bytes lanes)) 0 starts-fresh) refl
+  fresh_judge zs = rw (eq-eqb (state_fault (study_of bytes lanes)) 0 starts_fresh) refl
 
-  pub fresh-fill : (laws : List Law) (list : List ℕ)
+  pub fresh_fill : (laws : List Law) (list : List ℕ)
       → filling_on laws bytes lanes (meter_start (reading_of bytes).state) list ≡ filling_of laws bytes lanes list
   unfolding filling_on filling_of
-  fresh-fill laws list = rw (eq-eqb (progress_fault (study_of bytes lanes) (meter_start (reading_of bytes).state)) 0 progress-fresh) refl
+  fresh_fill laws list = rw (eq-eqb (progress_fault (study_of bytes lanes) (meter_start (reading_of bytes).state)) 0 progress_fresh) refl
 
 -- filling that goes on is not refused: what entered a cell in a step is at most what the cell then holds
 module _ (laws : List Law) (a : Study) (m : MeterState) (starts : a.start ≡ m.state) (ok : StudyOk a) (long : a.road.n ≤ length m.entries) where
-  entries-long : (k : ℕ) → length (metered_from laws a m k).entries ≡ length m.entries
+  entries_long : (k : ℕ) → length (metered_from laws a m k).entries ≡ length m.entries
   unfolding metered_from metered_of
-  entries-long zero = refl
-  entries-long (suc k) = length-fill _ _ _ ∙ entries-long k
+  entries_long zero = refl
+  entries_long (suc k) = length_fill _ _ _ ∙ entries_long k
 
   module _ (k : ℕ) (left : k < a.steps) where
     abbrev q : Road
@@ -211,40 +211,40 @@ module _ (laws : List Law) (a : Study) (m : MeterState) (starts : a.start ≡ m.
 
     sized : Sized (road_at a k) (metered_from laws a m k).state
     sized =
-        sized-alike a.road q (step-alike (ok.roads k)) M.state
-        (rw (filled-run laws a m starts k) at (filled-reached laws a m starts ok k (omega arith)).sized)
+        sized_alike a.road q (step_alike (ok.roads k)) M.state
+        (rw (filled_run laws a m starts k) at (filled_reached laws a m starts ok k (omega arith)).sized)
 
-    entry-within : (i : ℕ) → i < a.road.n → at (metered_from laws a m (suc k)).entries i ≤ at (metered_from laws a m (suc k)).state.held i
+    entry_within : (i : ℕ) → i < a.road.n → at (metered_from laws a m (suc k)).entries i ≤ at (metered_from laws a m (suc k)).state.held i
     unfolding metered_from metered_of
-    entry-within i l =
+    entry_within i l =
         let n : q.n ≡ a.road.n = (ok.roads k).n in
         let less : i < q.n = omega (arith, n) in
-        let obeys = outflows-obey q M.state row (filled-released laws a m starts ok k left) in
+        let obeys = outflows_obey q M.state row (filled_released laws a m starts ok k left) in
         omega (
           arith,
-          fill-at (entering_at q M.state y) q.n M.entries i less (omega (arith, n, long, entries-long k)),
-          next-held q M.state row y sized i less,
+          fill_at (entering_at q M.state y) q.n M.entries i less (omega (arith, n, long, entries_long k)),
+          next_held q M.state row y sized i less,
           obeys.demand (suc i) less,
-          demand-at-cell q (ok.roads k).ok M.state i less,
+          demand_at_cell q (ok.roads k).ok M.state i less,
         )
 
-    pub entries-rest : entries_ok (metered_from laws a m (suc k)) a.road.n ≡ true
+    pub entries_rest : entries_ok (metered_from laws a m (suc k)) a.road.n ≡ true
     unfolding entries_ok
-    entries-rest = all_true _ a.road.n (λ i l. le-leb _ _ (entry-within i l))
+    entries_rest = all_true _ a.road.n (λ i l. le-leb _ _ (entry_within i l))
 
 -- so 7 and 8 never apply to a progress that filling left
-pub progress-rest : {a b : Study} {k : ℕ} → Rest a b (suc k) → StudyOk a → (laws : List Law) (m p : MeterState) → a.start ≡ m.state → b.start ≡ p.state
+pub progress_rest : {a b : Study} {k : ℕ} → Rest a b (suc k) → StudyOk a → (laws : List Law) (m p : MeterState) → a.start ≡ m.state → b.start ≡ p.state
     → a.road.n ≤ length m.entries → p ≡ metered_from laws a m (suc k) → progress_fault b p ≡ 0
 unfolding progress_fault
-progress-rest {a} {b} {k} h ok laws m p starts s long e =
+progress_rest {a} {b} {k} h ok laws m p starts s long e =
     let left : suc k ≤ a.steps = omega (arith, h.steps) in
-    let r = filled-reached laws a m starts ok (suc k) left in
-    let own : p.state ≡ engine_after (filled_from laws a m) (suc k) = ap (λ (x : MeterState). x.state) e ∙ sym (filled-run laws a m starts (suc k)) in
+    let r = filled_reached laws a m starts ok (suc k) left in
+    let own : p.state ≡ engine_after (filled_from laws a m) (suc k) = ap (λ (x : MeterState). x.state) e ∙ sym (filled_run laws a m starts (suc k)) in
     let done : b.start.done ≡ a.start.done + suc k = ap (λ (u : State). u.done) (s ∙ own) ∙ r.done in
     let state : state_ok b.road p.state ≡ true =
-    ap (λ (x : Road). state_ok x p.state) h.road ∙ state-ok a.road p.state ok.road (subst⁻¹ (StateOk a.road) own r.state) in
+    ap (λ (x : Road). state_ok x p.state) h.road ∙ state_ok_lem a.road p.state ok.road (subst⁻¹ (StateOk a.road) own r.state) in
     let entries : entries_ok p b.road.n ≡ true =
-    ap (λ (x : Road). entries_ok p x.n) h.road ∙ ap (λ (x : MeterState). entries_ok x a.road.n) e ∙ entries-rest laws a m starts ok long k left in
+    ap (λ (x : Road). entries_ok p x.n) h.road ∙ ap (λ (x : MeterState). entries_ok x a.road.n) e ∙ entries_rest laws a m starts ok long k left in
     rw (state, entries, le-leb (b.start.done + b.steps) most_steps (omega (arith, done, h.steps, ok.steps))) refl
 
 -- filling that goes on changes only the record's releases
@@ -261,47 +261,47 @@ module _ (laws : List Law) (bytes lanes : List ℕ) (m : MeterState) (openable :
   read : Readable bytes (study_of bytes lanes)
   read = readable bytes lanes (reading_of bytes) refl openable.reads openable.opens
 
-  road-of : (k : ℕ) → StepRoad (reading_of bytes).road (road_at (study_after bytes lanes m) k)
-  road-of k = rw (← same-roads (study_of bytes lanes) m.state k) (read.ok.roads k)
+  road_of_lem : (k : ℕ) → StepRoad (reading_of bytes).road (road_at (study_after bytes lanes m) k)
+  road_of_lem k = rw (← same_roads (study_of bytes lanes) m.state k) (read.ok.roads k)
 
   put_on : PutTable bytes (put_table bytes (reading_of bytes).road.n (granted_from laws (study_after bytes lanes m) m) (reading_of bytes).steps)
       (reading_of bytes).road.n (granted_from laws (study_after bytes lanes m) m) (reading_of bytes).steps
-  put_on = put-table bytes (reading_of bytes).road.n (granted_from laws a m) (reading_of bytes).steps read.row (λ t i l o. releases-small laws a m refl t i)
+  put_on = put_table_lem bytes (reading_of bytes).road.n (granted_from laws a m) (reading_of bytes).steps read.row (λ t i l o. releases_small laws a m refl t i)
 
   rows_on : (t : ℕ) → t < (reading_of bytes).steps → record_row filled (reading_of bytes).road.n t ≡ rows_from laws (study_after bytes lanes m) m t
   unfolding filled_row
   rows_on t l =
-      put_on.row t l ∙ ap (λ (n : ℕ). released_row (granted_from laws a m t) n (record_row bytes (reading_of bytes).road.n t)) (sym (road-of t).n)
+      put_on.row t l ∙ ap (λ (n : ℕ). released_row (granted_from laws a m t) n (record_row bytes (reading_of bytes).road.n t)) (sym (road_of_lem t).n)
 
   within_on : (t : ℕ) → t < (reading_of bytes).steps → RowOk (reading_of bytes).road (rows_from laws (study_after bytes lanes m) m t)
   within_on t l =
-      row_back (road-of t) (rows_from laws a m t)
-      (filled_row_lem laws (road_at a t) (metered_from laws a m t) (a.rows t) (step_row (road-of t) (a.rows t) (read.ok.row t l)))
+      row_back (road_of_lem t) (rows_from laws a m t)
+      (filled_row_lem laws (road_at a t) (metered_from laws a m t) (a.rows t) (step_row (road_of_lem t) (a.rows t) (read.ok.row t l)))
 
   filled_on : OnlyReleases bytes (put_table bytes (reading_of bytes).road.n (granted_from laws (study_after bytes lanes m) m) (reading_of bytes).steps)
   filled_on = record {
     size = put_on.size;
     byte = put_on.byte;
-    reads = rows_replaced bytes filled put_on.size openable.reads (table-head put_on)
-        (λ t l. rw (rows_on t l) (row-ok (reading_of bytes).road (rows_from laws a m t) read.ok.road (within_on t l)));
-    gate = λ t l. ap gate_arrivals (rows_on t l) ∙ filled-gate laws (road_at a t) (metered_from laws a m t) (a.rows t);
+    reads = rows_replaced bytes filled put_on.size openable.reads (table_head put_on)
+        (λ t l. rw (rows_on t l) (row_ok_lem (reading_of bytes).road (rows_from laws a m t) read.ok.road (within_on t l)));
+    gate = λ t l. ap gate_arrivals (rows_on t l) ∙ filled_gate laws (road_at a t) (metered_from laws a m t) (a.rows t);
     arrivals = λ t i l.
-        ap (λ (x : List ℕ). arrivals_at x i) (rows_on t l) ∙ filled-arrivals laws (road_at a t) (metered_from laws a m t) (a.rows t) i;
+        ap (λ (x : List ℕ). arrivals_at x i) (rows_on t l) ∙ filled_arrivals laws (road_at a t) (metered_from laws a m t) (a.rows t) i;
   }
 
 -- if it is not refused, no refusal of the record or the table applies
-openable-on : (laws : List Law) (bytes lanes : List ℕ) (m : MeterState) (list : List ℕ) → (filling_on laws bytes lanes m list).number ≡ 0 → Openable bytes lanes
+openable_on : (laws : List Law) (bytes lanes : List ℕ) (m : MeterState) (list : List ℕ) → (filling_on laws bytes lanes m list).number ≡ 0 → Openable bytes lanes
 unfolding filling_on
-openable-on laws bytes lanes m list =
+openable_on laws bytes lanes m list =
     let a = study_after bytes lanes m in
     let P : EndAnswer → Type 0 = λ (e : EndAnswer). e.number ≡ 0 → Openable bytes lanes in
-    unless-elim P (eqb (reading_of bytes).number 0) (λ f z. absurd (eqb-false (reading_of bytes).number 0 f z)) (λ r.
-    unless-elim P (eqb (law_place laws a) 0) (λ _ z. absurd (omega arith)) (λ _.
-    unless-elim P (eqb (lanes_fault a).number 0) (λ f z. absurd (eqb-false (lanes_fault a).number 0 f z)) (λ o _.
+    unless_elim P (eqb (reading_of bytes).number 0) (λ f z. absurd (eqb-false (reading_of bytes).number 0 f z)) (λ r.
+    unless_elim P (eqb (law_place laws a) 0) (λ _ z. absurd (omega arith)) (λ _.
+    unless_elim P (eqb (lanes_fault a).number 0) (λ f z. absurd (eqb-false (lanes_fault a).number 0 f z)) (λ o _.
     record { reads = eqb-true (reading_of bytes).number 0 r; opens = eqb-true (lanes_fault a).number 0 o })))
 
-pub only-releases-on : (laws : List Law) (bytes lanes : List ℕ) (m : MeterState) (list : List ℕ) → OnlyReleases bytes (record_on laws bytes lanes m list)
+pub only_releases_on : (laws : List Law) (bytes lanes : List ℕ) (m : MeterState) (list : List ℕ) → OnlyReleases bytes (record_on laws bytes lanes m list)
 unfolding record_on
-only-releases-on laws bytes lanes m list =
-    unless-elim (OnlyReleases bytes) (eqb (filling_on laws bytes lanes m list).number 0) (λ _. unchanged bytes)
-    (λ e. filled_on laws bytes lanes m (openable-on laws bytes lanes m list (eqb-true (filling_on laws bytes lanes m list).number 0 e)))
+only_releases_on laws bytes lanes m list =
+    unless_elim (OnlyReleases bytes) (eqb (filling_on laws bytes lanes m list).number 0) (λ _. unchanged bytes)
+    (λ e. filled_on laws bytes lanes m (openable_on laws bytes lanes m list (eqb-true (filling_on laws bytes lanes m list).number 0 e)))

@@ -5,15 +5,15 @@ use Rattle.std.proofs.Math.Path.{refl, subst⁻¹}
 use Rattle.std.proofs.Common.{sym, ap, ◌∙◌, ⊎_elim, le_refl, eq-or-lt_of_le, le_of_suc-le-suc, arith, get_or-set_same, get_or-set_other}
 use Prim.Native.Nat.{ℕ, zero, suc, ◌+◌, ◌-◌, ◌*◌, ◌≤◌, ◌<◌}
 use Rattle.model.specs.Numbers.{at, list_of}
-use Rattle.numbers.specs.RowsLaws.{length-list, list_at}
+use Rattle.numbers.specs.RowsLaws.{length_list, list_at}
 use Rattle.model.specs.Road.{most_rate}
 use Rattle.model.specs.Refusals.{FaultAnswer, fault}
 use Rattle.model.specs.Schedules.{Study, schedule_after}
 use Rattle.model.specs.Wanted.{TableObeys, wanted_of, table_after}
-use Rattle.wanted.proofs.Theorems.{found-least, found-request}
+use Rattle.wanted.proofs.Theorems.{found_least, found_request}
 use Rattle.model.specs.Flow.{arrivals_at, release_at}
 use Rattle.model.specs.Record.{number_size, version_of, entry_start, record_row}
-use Rattle.fields.specs.FieldsLaws.{length-row}
+use Rattle.fields.specs.FieldsLaws.{length_row}
 use Rattle.model.specs.Reading.{ReadAnswer, reading_of, study_by, study_of}
 use Rattle.model.specs.Put.{Outside}
 use Rattle.model.specs.Put.{putting_of, released_record, Ramp, ReleasePut}
@@ -21,7 +21,7 @@ use Rattle.put.specs.Theorems.{puts, put_if}
 use Rattle.model.specs.Running.{running_of}
 use Rattle.model.specs.Demand.{Openable}
 use Rattle.theory.specs.Readable.{readable}
-use Rattle.freeway.specs.WantedRun.{Follows, ceiling-kept, running-never-nine}
+use Rattle.freeway.specs.WantedRun.{Follows, ceiling_kept, running_never_nine}
 
 -- a record after the releases of k steps were put at one cell, one after the other
 unfoldable pub put_steps : List ℕ → ℕ → List ℕ → ℕ → List ℕ
@@ -43,9 +43,9 @@ module _ (bytes : List ℕ) (cell : ℕ) (table : List ℕ) (reads : (reading_of
     (ramp : Ramp (reading_of bytes).road.ramp (reading_of bytes).road.n cell)
     (rates : (t : ℕ) → t < (reading_of bytes).steps → at table t ≤ most_rate) where
   -- one more put
-  put-more : (k : ℕ) → k < (reading_of bytes).steps → {u : List ℕ} → u ≡ put_steps bytes cell table k → PutSteps bytes cell table k u
+  put_more : (k : ℕ) → k < (reading_of bytes).steps → {u : List ℕ} → u ≡ put_steps bytes cell table k → PutSteps bytes cell table k u
       → PutSteps bytes cell table (suc k) (released_record u k cell (at table k))
-  put-more k l {u} e p =
+  put_more k l {u} e p =
       let same = p.reads in
       let ok : putting_of u k cell (at table k) ≡ fault 0 0 =
       put_if u k cell (at table k) (record {
@@ -73,9 +73,9 @@ module _ (bytes : List ℕ) (cell : ℕ) (table : List ℕ) (reads : (reading_of
       }
 
   -- at most as many puts as the record has steps
-  pub steps-put : (k : ℕ) → k ≤ (reading_of bytes).steps → PutSteps bytes cell table k (put_steps bytes cell table k)
+  pub steps_put : (k : ℕ) → k ≤ (reading_of bytes).steps → PutSteps bytes cell table k (put_steps bytes cell table k)
   unfolding put_steps
-  steps-put zero l = record {
+  steps_put zero l = record {
     accepted = λ t m. absurd (omega arith);
     reads = refl;
     version = refl;
@@ -83,7 +83,7 @@ module _ (bytes : List ℕ) (cell : ℕ) (table : List ℕ) (reads : (reading_of
     later = λ t m. refl;
     byte = λ b o. refl;
   }
-  steps-put (suc k) l = put-more k l refl (steps-put k (omega arith))
+  steps_put (suc k) l = put_more k l refl (steps_put k (omega arith))
 
 -- the arrivals of the ramp of the cell at i in every step of a record
 unfoldable pub ramp_arrivals : List ℕ → ℕ → List ℕ
@@ -103,13 +103,13 @@ module _ (bytes lanes : List ℕ) (openable : Openable bytes lanes) (i : ℕ)
   abbrev n : ℕ
   n = (reading_of bytes).road.n
 
-  arrivals-length : length (ramp_arrivals bytes i) ≡ (reading_of bytes).steps
+  arrivals_length : length (ramp_arrivals bytes i) ≡ (reading_of bytes).steps
   unfolding ramp_arrivals
-  arrivals-length = length-list _ _
+  arrivals_length = length_list _ _
 
-  arrivals-at : (k : ℕ) → k < (reading_of bytes).steps → at (ramp_arrivals bytes i) k ≡ arrivals_at (record_row bytes (reading_of bytes).road.n k) i
+  arrivals_at_lem : (k : ℕ) → k < (reading_of bytes).steps → at (ramp_arrivals bytes i) k ≡ arrivals_at (record_row bytes (reading_of bytes).road.n k) i
   unfolding ramp_arrivals
-  arrivals-at k l = list_at (λ j. arrivals_at (record_row bytes n j) i) (reading_of bytes).steps k l
+  arrivals_at_lem k l = list_at (λ j. arrivals_at (record_row bytes n j) i) (reading_of bytes).steps k l
 
   -- T puts of any table of rates give a record that follows the table
   module _ (table after : List ℕ) (p : PutSteps bytes (i + 1) table (reading_of bytes).steps after) where
@@ -117,23 +117,23 @@ module _ (bytes lanes : List ℕ) (openable : Openable bytes lanes) (i : ℕ)
     comes k l =
         ap (λ (row : List ℕ). arrivals_at row i) (p.row k l)
         ∙ get_or-set_other (record_row bytes n k) (2 * (i + 1)) (2 * i + 1) (at table k) 0 (λ e. omega arith)
-        ∙ sym (arrivals-at k l)
+        ∙ sym (arrivals_at_lem k l)
 
     goes : (k : ℕ) → k < (reading_of bytes).steps → release_at (record_row after (reading_of bytes).road.n k) i ≡ at table k
     goes k l =
         let e : 2 * i + 2 ≡ 2 * (i + 1) = omega arith in
         ap (λ (row : List ℕ). at row (2 * i + 2)) (p.row k l)
         ∙ ap (at (set (record_row bytes n k) (2 * (i + 1)) (at table k))) e
-        ∙ get_or-set_same (record_row bytes n k) (2 * (i + 1)) (at table k) 0 (omega (arith, ramp.within, length-row bytes n k))
+        ∙ get_or-set_same (record_row bytes n k) (2 * (i + 1)) (at table k) 0 (omega (arith, ramp.within, length_row bytes n k))
 
-    pub puts-follow : Follows (study_of after lanes) i (at (reading_of bytes).state.queue i) (ramp_arrivals bytes i) table
-    puts-follow =
+    pub puts_follow : Follows (study_of after lanes) i (at (reading_of bytes).state.queue i) (ramp_arrivals bytes i) table
+    puts_follow =
         subst⁻¹ (λ (x : ReadAnswer). Follows (study_by after lanes x.road x.state x.steps) i
         (at (reading_of bytes).state.queue i) (ramp_arrivals bytes i) table) p.reads
-        (record { cell = omega (arith, ramp.within); steps = arrivals-length; queue = refl; comes = comes; goes = goes })
+        (record { cell = omega (arith, ramp.within); steps = arrivals_length; queue = refl; comes = comes; goes = goes })
 
-    pub puts-openable : Openable after lanes
-    puts-openable = record {
+    pub puts_openable : Openable after lanes
+    puts_openable = record {
       reads = ap (λ (x : ReadAnswer). x.number) p.reads ∙ openable.reads;
       opens = rw p.reads openable.opens;
     }
@@ -152,27 +152,27 @@ module _ (bytes lanes : List ℕ) (openable : Openable bytes lanes) (i : ℕ)
 
     obeys : TableObeys (at (reading_of bytes).state.queue i) ceiling rate (ramp_arrivals bytes i)
         (table_after (at (reading_of bytes).state.queue i) ceiling rate (ramp_arrivals bytes i) lent)
-    obeys = (found-least start ceiling rate arrivals lent found).obeys
+    obeys = (found_least start ceiling rate arrivals lent found).obeys
 
     rates : (t : ℕ) → t < (reading_of bytes).steps
         → at (table_after (at (reading_of bytes).state.queue i) ceiling rate (ramp_arrivals bytes i) lent) t ≤ most_rate
     rates t l =
-        omega (arith, obeys.slow t (omega (arith, arrivals-length)), (found-request start ceiling rate arrivals lent found).limits.rates)
+        omega (arith, obeys.slow t (omega (arith, arrivals_length)), (found_request start ceiling rate arrivals lent found).limits.rates)
 
-    pub found-kept : QueueKept bytes lanes i ceiling
+    pub found_kept : QueueKept bytes lanes i ceiling
         (table_after (at (reading_of bytes).state.queue i) ceiling rate (ramp_arrivals bytes i) lent)
         (put_steps bytes (i + 1) (table_after (at (reading_of bytes).state.queue i) ceiling rate (ramp_arrivals bytes i) lent) (reading_of bytes).steps)
-    found-kept =
+    found_kept =
         let T = (reading_of bytes).steps in
         let after = put_steps bytes (i + 1) table T in
-        let p = steps-put bytes (i + 1) table openable.reads ramp rates T (le_refl T) in
-        let f = puts-follow table after p in
-        let t = puts-openable table after p in
+        let p = steps_put bytes (i + 1) table openable.reads ramp rates T (le_refl T) in
+        let f = puts_follow table after p in
+        let t = puts_openable table after p in
         record {
           put = p;
           openable = t;
           follows = f;
-          under = ceiling-kept (study_of after lanes) (readable after lanes (reading_of after) refl t.reads t.opens).ok
+          under = ceiling_kept (study_of after lanes) (readable after lanes (reading_of after) refl t.reads t.opens).ok
               i start ceiling rate arrivals table f obeys;
-          no_nine = running-never-nine after lanes t i start ceiling rate arrivals table f obeys;
+          no_nine = running_never_nine after lanes t i start ceiling rate arrivals table f obeys;
         }

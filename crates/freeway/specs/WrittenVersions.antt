@@ -6,12 +6,12 @@ use Rattle.model.specs.declared.Start.{Start}
 use Rattle.model.specs.Reading.{ReadAnswer, study_of}
 use Rattle.theory.specs.VersionUnread.{with_version, OtherVersion}
 use Rattle.model.specs.Writing.{writing_of}
-use Rattle.writing.specs.Theorems.{SavedRecord, saved_of, saved-record, saved_rows}
+use Rattle.writing.specs.Theorems.{SavedRecord, saved_of, saved_record, saved_rows}
 use Rattle.model.specs.Running.{running_of, list_after}
 use Rattle.model.specs.Judging.{judging_of}
 use Rattle.model.specs.Demand.{Openable}
 use Rattle.theory.specs.VersionsAlike.{EndsAlike}
-use Rattle.theory.proofs.VersionsAlike.{runs-alike, judges-alike, same-list}
+use Rattle.theory.proofs.VersionsAlike.{runs_alike, judges_alike, same_list}
 
 -- the same road in another version and with other seconds; both are written without a refusal into any targets
 module _ (road : Road) (version seconds T : ℕ) (start : Start) (rows target other lanes : List ℕ)
@@ -23,14 +23,14 @@ module _ (road : Road) (version seconds T : ℕ) (start : Start) (rows target ot
   t = saved_of (with_version version seconds road) T start rows other
 
   kept_s : SavedRecord road T start rows target
-  kept_s = saved-record road T start rows target first
+  kept_s = saved_record road T start rows target first
 
   kept_t : SavedRecord (with_version version seconds road) T start rows other
-  kept_t = saved-record (with_version version seconds road) T start rows other second
+  kept_t = saved_record (with_version version seconds road) T start rows other second
 
   -- the records differ only in version and seconds
-  pub written-other-version : OtherVersion (study_of (saved_of road T start rows target) lanes) (study_of (saved_of (with_version version seconds road) T start rows other) lanes)
-  written-other-version = record {
+  pub written_other_version : OtherVersion (study_of (saved_of road T start rows target) lanes) (study_of (saved_of (with_version version seconds road) T start rows other) lanes)
+  written_other_version = record {
     road = rw (kept_s.back.reads, kept_t.back.reads) refl;
     start = rw (kept_s.back.reads, kept_t.back.reads) refl;
     steps = rw (kept_s.back.reads, kept_t.back.reads) refl;
@@ -49,14 +49,14 @@ module _ (road : Road) (version seconds T : ℕ) (start : Start) (rows target ot
 
   -- they are run and judged alike
   module _ (h : Openable (saved_of road T start rows target) lanes) where
-    pub versions-run : (list : List ℕ)
+    pub versions_run : (list : List ℕ)
         → EndsAlike (running_of (saved_of road T start rows target) lanes list) (running_of (saved_of (with_version version seconds road) T start rows other) lanes list)
-    versions-run list = runs-alike s t lanes h (openable_t h) written-other-version list
+    versions_run list = runs_alike s t lanes h (openable_t h) written_other_version list
 
-    pub versions-write : (list : List ℕ)
+    pub versions_write : (list : List ℕ)
         → list_after (saved_of (with_version version seconds road) T start rows other) lanes list ≡ list_after (saved_of road T start rows target) lanes list
-    versions-write list = same-list s t lanes h (openable_t h) written-other-version list
+    versions_write list = same_list s t lanes h (openable_t h) written_other_version list
 
-    pub versions-judged : (list zs : List ℕ)
+    pub versions_judged : (list zs : List ℕ)
         → EndsAlike (judging_of (saved_of road T start rows target) lanes zs) (judging_of (saved_of (with_version version seconds road) T start rows other) lanes zs)
-    versions-judged list zs = judges-alike s t lanes h (openable_t h) written-other-version list zs
+    versions_judged list zs = judges_alike s t lanes h (openable_t h) written_other_version list zs

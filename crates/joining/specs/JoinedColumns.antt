@@ -5,9 +5,9 @@ use Rattle.std.proofs.Math.ListN.{get_or-append}
 use Rattle.std.proofs.lemmas.Bool.{lt-leb}
 use Rattle.model.specs.Numbers.{at, fill_of}
 use Rattle.numbers.specs.Tests.{order}
-use Rattle.numbers.specs.RowsLaws.{fill-at, fill-past, fill-same}
+use Rattle.numbers.specs.RowsLaws.{fill_at, fill_past, fill_same}
 use Rattle.model.specs.Road.{most_cells, zeros}
-use Rattle.numbers.specs.Zeros.{length-zeros, zeros-at}
+use Rattle.numbers.specs.Zeros.{length_zeros, zeros_at}
 use Rattle.model.specs.Record.{row_numbers}
 use Rattle.model.specs.Writing.{cut_of}
 use Rattle.model.specs.Joining.{joined_entry, joined_column, joined_share, joined_row}
@@ -42,24 +42,24 @@ pub record JoinedNumbers (n m : ℕ) (up down l : List ℕ) : Type 0 where
   pub lower_release : (i : ℕ) → i < m → at l (2 * (n + i) + 2) ≡ at down (2 * i + 2)
 
 module _ (n : ℕ) (up down : List ℕ) where
-  pub entry-up : (i : ℕ) → i < n → joined_entry n up down i ≡ at up i
-  entry-up i l = rw (le-leb (i + 1) n (omega arith))
+  pub entry_up : (i : ℕ) → i < n → joined_entry n up down i ≡ at up i
+  entry_up i l = rw (le-leb (i + 1) n (omega arith))
 
-  pub entry-down : (i : ℕ) → joined_entry n up down (n + i) ≡ at down i
-  entry-down i = let e : n + i - n ≡ i = omega arith in rw (lt-leb (n + i + 1) n (omega arith), e)
+  pub entry_down : (i : ℕ) → joined_entry n up down (n + i) ≡ at down i
+  entry_down i = let e : n + i - n ≡ i = omega arith in rw (lt-leb (n + i + 1) n (omega arith), e)
 
 module _ (n m : ℕ) (most : n + m ≤ most_cells) (up down : List ℕ) where
   -- an entry, from the function that gives it
   given : (f : ℕ → ℕ) (i : ℕ) → i < n + m → at (fill_of f (n + m) zeros) i ≡ f i
-  given f i l = fill-at f (n + m) zeros i l (omega (arith, length-zeros))
+  given f i l = fill_at f (n + m) zeros i l (omega (arith, length_zeros))
 
   none : (f : ℕ → ℕ) (i : ℕ) → n + m ≤ i → at (fill_of f (n + m) zeros) i ≡ 0
-  none f i l = fill-past f (n + m) zeros i l ∙ zeros-at i
+  none f i l = fill_past f (n + m) zeros i l ∙ zeros_at i
 
-  pub column-joined : ColumnJoined n m up down (joined_column n m up down)
-  column-joined = record {
-    upper = λ i l. given (joined_entry n up down) i (omega arith) ∙ entry-up n up down i l;
-    lower = λ i l. given (joined_entry n up down) (n + i) (omega arith) ∙ entry-down n up down i;
+  pub column_joined : ColumnJoined n m up down (joined_column n m up down)
+  column_joined = record {
+    upper = λ i l. given (joined_entry n up down) i (omega arith) ∙ entry_up n up down i l;
+    lower = λ i l. given (joined_entry n up down) (n + i) (omega arith) ∙ entry_down n up down i;
     past = λ i l. none (joined_entry n up down) i l;
   }
 
@@ -70,34 +70,34 @@ module _ (n m : ℕ) (most : n + m ≤ most_cells) (up down : List ℕ) where
     other : (i : ℕ) → (i + 1 ≡ n → ⊥) → joined_share share n up down i ≡ joined_entry n up down i
     other i h = rw (ne_eqb (i + 1) n h)
 
-    pub shares-joined : JoinedShares share n m up down (fill_of (joined_share share n up down) (n + m) zeros)
-    shares-joined = record {
-      upper = λ i l. given f i (omega arith) ∙ other i (λ e. omega arith) ∙ entry-up n up down i (omega arith);
+    pub shares_joined : JoinedShares share n m up down (fill_of (joined_share share n up down) (n + m) zeros)
+    shares_joined = record {
+      upper = λ i l. given f i (omega arith) ∙ other i (λ e. omega arith) ∙ entry_up n up down i (omega arith);
       joint = λ i e. given f i (omega arith) ∙ rw (eq-eqb (i + 1) n e);
-      lower = λ i l. given f (n + i) (omega arith) ∙ other (n + i) (λ e. omega arith) ∙ entry-down n up down i;
+      lower = λ i l. given f (n + i) (omega arith) ∙ other (n + i) (λ e. omega arith) ∙ entry_down n up down i;
       past = λ i l. none f i l;
     }
 
 -- cutting a column that is 0 past its cells changes nothing
-pub cut-own : (f : ℕ → ℕ) (n : ℕ) → n ≤ most_cells → cut_of n (fill_of f n zeros) ≡ fill_of f n zeros
-cut-own f n h = fill-same (λ i. at (fill_of f n zeros) i) f n zeros (λ i l. fill-at f n zeros i l (omega (arith, length-zeros)))
+pub cut_own : (f : ℕ → ℕ) (n : ℕ) → n ≤ most_cells → cut_of n (fill_of f n zeros) ≡ fill_of f n zeros
+cut_own f n h = fill_same (λ i. at (fill_of f n zeros) i) f n zeros (λ i l. fill_at f n zeros i l (omega (arith, length_zeros)))
 
 -- a row
 module _ (n m : ℕ) (up down : List ℕ) (eu : length up ≡ row_numbers n) (ed : length down ≡ row_numbers m) where
   row_up : (k : ℕ) → k < row_numbers n → at (joined_row up down) k ≡ at up k
   row_up k l = get_or-append up (drop 1 down) 0 k (omega arith)
 
-  row-down : (i k j : ℕ) → k ≡ row_numbers n + j → i ≡ 1 + j → at (joined_row up down) k ≡ at down i
-  row-down i k j ek ei =
+  row_down : (i k j : ℕ) → k ≡ row_numbers n + j → i ≡ 1 + j → at (joined_row up down) k ≡ at down i
+  row_down i k j ek ei =
       let e : k ≡ length up + j = omega arith in
       rw e (get_or-append-add up (drop 1 down) j 0 ∙ get_or-drop 1 down j 0 ∙ ap (at down) (sym ei))
 
-  pub row-joined : JoinedNumbers n m up down (joined_row up down)
-  row-joined = record {
+  pub row_joined : JoinedNumbers n m up down (joined_row up down)
+  row_joined = record {
     numbers = length-append up (drop 1 down) ∙ omega (arith, length-drop 1 down);
     gate = row_up 0 (omega arith);
     upper_arrivals = λ i l. row_up (2 * i + 1) (omega arith);
     upper_release = λ i l. row_up (2 * i + 2) (omega arith);
-    lower_arrivals = λ i l. row-down (2 * i + 1) (2 * (n + i) + 1) (2 * i) (omega arith) (omega arith);
-    lower_release = λ i l. row-down (2 * i + 2) (2 * (n + i) + 2) (2 * i + 1) (omega arith) (omega arith);
+    lower_arrivals = λ i l. row_down (2 * i + 1) (2 * (n + i) + 1) (2 * i) (omega arith) (omega arith);
+    lower_release = λ i l. row_down (2 * i + 2) (2 * (n + i) + 2) (2 * i + 1) (omega arith) (omega arith);
   }

@@ -3,26 +3,26 @@ use Rattle.std.specs.Prelude.{◌≡◌, refl, List, [], ◌∷◌, ℕ, suc, �
 use Rattle.std.proofs.Common.{sym, ap, subst, ◌∙◌, ⊎_elim, mul-le-mul_left, arith, length-drop, length-take-le, get_or-take, get_or-drop, eq-eqb, ne_eqb}
 use Rattle.model.specs.Numbers.{at, fill_of}
 use Rattle.numbers.specs.Tests.{order}
-use Rattle.numbers.specs.RowsLaws.{fill-at}
+use Rattle.numbers.specs.RowsLaws.{fill_at}
 use Rattle.model.specs.Flow.{whole}
 use Rattle.model.specs.declared.Road.{Road}
 use Rattle.model.specs.Road.{most_cells, most_bytes, zeros}
-use Rattle.numbers.specs.Zeros.{length-zeros}
+use Rattle.numbers.specs.Zeros.{length_zeros}
 use Rattle.model.specs.Schedules.{Study}
 use Rattle.model.specs.Record.{row_numbers, row_size, record_row}
-use Rattle.fields.specs.FieldsLaws.{length-row}
+use Rattle.fields.specs.FieldsLaws.{length_row}
 use Rattle.limits.specs.LimitsLaws.{RowOk}
 use Rattle.model.specs.Reading.{size_of, ReadAnswer, accepted_of, reading_of, study_of}
-use Rattle.reading.specs.Numbers.{Numbers, read-numbers}
+use Rattle.reading.specs.Numbers.{Numbers, read_numbers}
 use Rattle.model.specs.Encoding.{record_of}
 use Rattle.model.specs.Writing.{written_count}
-use Rattle.writing.specs.ReadBack.{Recordable, reads-back, rows-read}
-use Rattle.writing.specs.ReadStudy.{read-recordable, read_kept}
+use Rattle.writing.specs.ReadBack.{Recordable, reads_back, rows_read}
+use Rattle.writing.specs.ReadStudy.{read_recordable, read_kept}
 use Rattle.model.specs.Joining.{joining_of, joined_target}
 use Rattle.joining.specs.JoinedColumns.{ColumnJoined, JoinedShares, JoinedNumbers}
 use Rattle.joining.specs.Theorems.{JoinedReading}
-use Rattle.joining.specs.JoinedParts.{Parts, parts-answer, parts-joined}
-use Rattle.joining.specs.RoadParts.{part_of, upper_share, part_road, part_start, upper_of, lower_of, part_at, start-part, part-road, part-start, part-row, part_cut}
+use Rattle.joining.specs.JoinedParts.{Parts, parts_answer, parts_joined}
+use Rattle.joining.specs.RoadParts.{part_of, upper_share, part_road, part_start, upper_of, lower_of, part_at, start_part, part_road_lem, part_start_lem, part_row, part_cut}
 
 -- a record that reads, of more than k cells
 module _ (s : List ℕ) (reads : (reading_of s).number ≡ 0) (k : ℕ) (some : 1 ≤ k) (less : k < (reading_of s).road.n) where
@@ -44,109 +44,109 @@ module _ (s : List ℕ) (reads : (reading_of s).number ≡ 0) (k : ℕ) (some : 
   abbrev lower_shares : List ℕ
   lower_shares = part_of k m r.share
 
-  whole-ok : Recordable (study_of s [])
-  whole-ok = read-recordable s reads []
+  whole_ok : Recordable (study_of s [])
+  whole_ok = read_recordable s reads []
 
   cells : (reading_of s).road.n ≤ most_cells
-  cells = whole-ok.road.cells
+  cells = whole_ok.road.cells
 
   -- the shares of both parts
-  upper-share : (i : ℕ) → i < k → at (fill_of (upper_share k (reading_of s).road.share) k zeros) i ≡ upper_share k (reading_of s).road.share i
-  upper-share i l = fill-at (upper_share k r.share) k zeros i l (omega (arith, length-zeros, cells, less))
+  upper_share_lem : (i : ℕ) → i < k → at (fill_of (upper_share k (reading_of s).road.share) k zeros) i ≡ upper_share k (reading_of s).road.share i
+  upper_share_lem i l = fill_at (upper_share k r.share) k zeros i l (omega (arith, length_zeros, cells, less))
 
-  upper-last : (i : ℕ) → i + 1 ≡ k → at (fill_of (upper_share k (reading_of s).road.share) k zeros) i ≡ 0
-  upper-last i e = upper-share i (omega arith) ∙ rw (eq-eqb (i + 1) k e)
+  upper_last : (i : ℕ) → i + 1 ≡ k → at (fill_of (upper_share k (reading_of s).road.share) k zeros) i ≡ 0
+  upper_last i e = upper_share_lem i (omega arith) ∙ rw (eq-eqb (i + 1) k e)
 
-  upper-other : (i : ℕ) → i + 1 < k → at (fill_of (upper_share k (reading_of s).road.share) k zeros) i ≡ at (reading_of s).road.share i
-  upper-other i l =
+  upper_other : (i : ℕ) → i + 1 < k → at (fill_of (upper_share k (reading_of s).road.share) k zeros) i ≡ at (reading_of s).road.share i
+  upper_other i l =
       let e : 0 + i ≡ i = omega arith in
-      upper-share i (omega arith) ∙ rw (ne_eqb (i + 1) k (λ e. omega arith), e)
+      upper_share_lem i (omega arith) ∙ rw (ne_eqb (i + 1) k (λ e. omega arith), e)
 
-  upper-most : (i : ℕ) → i < k → at (fill_of (upper_share k (reading_of s).road.share) k zeros) i ≤ whole
-  upper-most i l = ⊎_elim
-      (λ (h : k ≤ i + 1). omega (arith, upper-last i (omega arith)))
-      (λ (h : i + 1 < k). omega (arith, upper-other i h, whole-ok.road.share i (omega (arith, less))))
+  upper_most : (i : ℕ) → i < k → at (fill_of (upper_share k (reading_of s).road.share) k zeros) i ≤ whole
+  upper_most i l = ⊎_elim
+      (λ (h : k ≤ i + 1). omega (arith, upper_last i (omega arith)))
+      (λ (h : i + 1 < k). omega (arith, upper_other i h, whole_ok.road.share i (omega (arith, less))))
       (order k (i + 1))
 
-  lower-share : (i : ℕ) → i < (reading_of s).road.n - k → at (part_of k ((reading_of s).road.n - k) (reading_of s).road.share) i ≡ at (reading_of s).road.share (k + i)
-  lower-share = part_at k m r.share (omega (arith, cells))
+  lower_share : (i : ℕ) → i < (reading_of s).road.n - k → at (part_of k ((reading_of s).road.n - k) (reading_of s).road.share) i ≡ at (reading_of s).road.share (k + i)
+  lower_share = part_at k m r.share (omega (arith, cells))
 
   lower_last : (i : ℕ) → i + 1 ≡ (reading_of s).road.n - k → at (part_of k ((reading_of s).road.n - k) (reading_of s).road.share) i ≡ 0
-  lower_last i e = lower-share i (omega arith) ∙ whole-ok.road.last (k + i) (omega (arith, less))
+  lower_last i e = lower_share i (omega arith) ∙ whole_ok.road.last (k + i) (omega (arith, less))
 
-  lower-most : (i : ℕ) → i < (reading_of s).road.n - k → at (part_of k ((reading_of s).road.n - k) (reading_of s).road.share) i ≤ whole
-  lower-most i l = omega (arith, lower-share i l, whole-ok.road.share (k + i) (omega arith))
+  lower_most : (i : ℕ) → i < (reading_of s).road.n - k → at (part_of k ((reading_of s).road.n - k) (reading_of s).road.share) i ≤ whole
+  lower_most i l = omega (arith, lower_share i l, whole_ok.road.share (k + i) (omega arith))
 
   -- fewer cells need fewer bytes
   fewer : (c : ℕ) → c ≤ (reading_of s).road.n → size_of (reading_of s).road.version c (reading_of s).steps ≤ most_bytes
   fewer c l =
       let w : row_size c ≤ row_size r.n = omega arith in
-      omega (arith, whole-ok.size, mul-le-mul_left z.steps w)
+      omega (arith, whole_ok.size, mul-le-mul_left z.steps w)
 
   -- the rows of both parts
-  upper-row : (t : ℕ) → t < (reading_of s).steps
+  upper_row : (t : ℕ) → t < (reading_of s).steps
       → RowOk (part_road 0 k (reading_of s).road.gate_capacity (fill_of (upper_share k (reading_of s).road.share) k zeros) (reading_of s).road)
       (take (row_numbers k) (record_row s (reading_of s).road.n t))
-  upper-row t l =
+  upper_row t l =
       let all = record_row s r.n t in
-      let h = whole-ok.row t l in
+      let h = whole_ok.row t l in
       let first : at (take (row_numbers k) all) 0 ≡ at all 0 = get_or-take (row_numbers k) all 0 0 (omega arith) in
-      part-row r whole-ok.road 0 k r.gate_capacity upper_shares some (omega (arith, less)) whole-ok.road.gate upper-most upper-last
+      part_row r whole_ok.road 0 k r.gate_capacity upper_shares some (omega (arith, less)) whole_ok.road.gate upper_most upper_last
       (take (row_numbers k) all) all h (length-take-le (row_numbers k) all (omega (arith, h.numbers, less)))
       (omega (arith, first, h.gate))
       (λ j b.
       let e : 1 + j ≡ 1 + 2 * 0 + j = omega arith in
       get_or-take (row_numbers k) all (1 + j) 0 (omega arith) ∙ ap (at all) e)
 
-  lower-number : (t j : ℕ) → at (0 ∷ drop (row_numbers k) (record_row s (reading_of s).road.n t)) (1 + j) ≡ at (record_row s (reading_of s).road.n t) (1 + 2 * k + j)
-  lower-number t j =
+  lower_number : (t j : ℕ) → at (0 ∷ drop (row_numbers k) (record_row s (reading_of s).road.n t)) (1 + j) ≡ at (record_row s (reading_of s).road.n t) (1 + 2 * k + j)
+  lower_number t j =
       let all = record_row s r.n t in
       let e : 1 + j ≡ suc j = omega arith in
       ap (at (0 ∷ drop (row_numbers k) all)) e ∙ get_or-drop (row_numbers k) all j 0
 
-  lower-length : (t : ℕ) → length (0 ∷ drop (row_numbers k) (record_row s (reading_of s).road.n t)) ≡ row_numbers ((reading_of s).road.n - k)
-  lower-length t =
+  lower_length : (t : ℕ) → length (0 ∷ drop (row_numbers k) (record_row s (reading_of s).road.n t)) ≡ row_numbers ((reading_of s).road.n - k)
+  lower_length t =
       let all = record_row s r.n t in
-      omega (arith, length-drop (row_numbers k) all, length-row s r.n t, less)
+      omega (arith, length-drop (row_numbers k) all, length_row s r.n t, less)
 
-  lower-row : (t : ℕ) → t < (reading_of s).steps
+  lower_row : (t : ℕ) → t < (reading_of s).steps
       → RowOk (part_road k ((reading_of s).road.n - k) 0 (part_of k ((reading_of s).road.n - k) (reading_of s).road.share) (reading_of s).road)
       (0 ∷ drop (row_numbers k) (record_row s (reading_of s).road.n t))
-  lower-row t l =
+  lower_row t l =
       let all = record_row s r.n t in
-      let h = whole-ok.row t l in
-      part-row r whole-ok.road k m 0 lower_shares (omega (arith, less)) (omega (arith, less)) (omega arith) lower-most lower_last
-      (0 ∷ drop (row_numbers k) all) all h (lower-length t) (omega arith)
-      (λ j b. lower-number t j)
+      let h = whole_ok.row t l in
+      part_row r whole_ok.road k m 0 lower_shares (omega (arith, less)) (omega (arith, less)) (omega arith) lower_most lower_last
+      (0 ∷ drop (row_numbers k) all) all h (lower_length t) (omega arith)
+      (λ j b. lower_number t j)
 
   -- both parts are within the limits
-  upper-ok : Recordable (upper_of k (study_of s []))
-  upper-ok = record {
-    version = whole-ok.version;
-    counts = record { some_cells = some; cells = omega (arith, cells, less); some_steps = whole-ok.counts.some_steps; steps = whole-ok.counts.steps };
-    seconds = whole-ok.seconds;
+  upper_ok : Recordable (upper_of k (study_of s []))
+  upper_ok = record {
+    version = whole_ok.version;
+    counts = record { some_cells = some; cells = omega (arith, cells, less); some_steps = whole_ok.counts.some_steps; steps = whole_ok.counts.steps };
+    seconds = whole_ok.seconds;
     size = fewer k (omega (arith, less));
-    road = part-road r whole-ok.road 0 k r.gate_capacity upper_shares some (omega (arith, less)) whole-ok.road.gate upper-most upper-last;
-    start = part-start r whole-ok.road 0 k r.gate_capacity upper_shares some (omega (arith, less)) whole-ok.road.gate upper-most upper-last
-        z.state z.state.gate_queue whole-ok.start (omega arith);
-    row = upper-row;
+    road = part_road_lem r whole_ok.road 0 k r.gate_capacity upper_shares some (omega (arith, less)) whole_ok.road.gate upper_most upper_last;
+    start = part_start_lem r whole_ok.road 0 k r.gate_capacity upper_shares some (omega (arith, less)) whole_ok.road.gate upper_most upper_last
+        z.state z.state.gate_queue whole_ok.start (omega arith);
+    row = upper_row;
   }
 
-  lower-ok : Recordable (lower_of k (study_of s []))
-  lower-ok = record {
-    version = whole-ok.version;
+  lower_ok : Recordable (lower_of k (study_of s []))
+  lower_ok = record {
+    version = whole_ok.version;
     counts = record {
       some_cells = omega (arith, less);
       cells = omega (arith, cells);
-      some_steps = whole-ok.counts.some_steps;
-      steps = whole-ok.counts.steps;
+      some_steps = whole_ok.counts.some_steps;
+      steps = whole_ok.counts.steps;
     };
-    seconds = whole-ok.seconds;
+    seconds = whole_ok.seconds;
     size = fewer m (omega arith);
-    road = part-road r whole-ok.road k m 0 lower_shares (omega (arith, less)) (omega (arith, less)) (omega arith) lower-most lower_last;
-    start = part-start r whole-ok.road k m 0 lower_shares (omega (arith, less)) (omega (arith, less)) (omega arith) lower-most lower_last
-        z.state 0 whole-ok.start (omega arith);
-    row = lower-row;
+    road = part_road_lem r whole_ok.road k m 0 lower_shares (omega (arith, less)) (omega (arith, less)) (omega arith) lower_most lower_last;
+    start = part_start_lem r whole_ok.road k m 0 lower_shares (omega (arith, less)) (omega (arith, less)) (omega arith) lower_most lower_last
+        z.state 0 whole_ok.start (omega arith);
+    row = lower_row;
   }
 
   -- so both records read
@@ -162,19 +162,19 @@ module _ (s : List ℕ) (reads : (reading_of s).number ≡ 0) (k : ℕ) (some : 
   abbrev lower_read : ReadAnswer
   lower_read = accepted_of z.steps (part_road k m 0 lower_shares r) (part_start k m 0 z.state)
 
-  upper-reads : reading_of (record_of (upper_of k (study_of s []))) ≡ upper_read
-  upper-reads =
-      let road = part_cut r whole-ok.road 0 k r.gate_capacity upper_shares some (omega (arith, less)) whole-ok.road.gate upper-most upper-last
+  upper_reads : reading_of (record_of (upper_of k (study_of s []))) ≡ upper_read
+  upper_reads =
+      let road = part_cut r whole_ok.road 0 k r.gate_capacity upper_shares some (omega (arith, less)) whole_ok.road.gate upper_most upper_last
       (upper_share k r.share) refl (read_kept s reads) in
-      let start = start-part 0 k z.state.gate_queue z.state (omega (arith, cells, less)) in
-      reads-back (upper_of k a) upper-ok ∙ rw (road, start)
+      let start = start_part 0 k z.state.gate_queue z.state (omega (arith, cells, less)) in
+      reads_back (upper_of k a) upper_ok ∙ rw (road, start)
 
-  lower-reads : reading_of (record_of (lower_of k (study_of s []))) ≡ lower_read
-  lower-reads =
-      let road = part_cut r whole-ok.road k m 0 lower_shares (omega (arith, less)) (omega (arith, less)) (omega arith) lower-most lower_last
+  lower_reads : reading_of (record_of (lower_of k (study_of s []))) ≡ lower_read
+  lower_reads =
+      let road = part_cut r whole_ok.road k m 0 lower_shares (omega (arith, less)) (omega (arith, less)) (omega arith) lower_most lower_last
       (λ i. at r.share (k + i)) refl (read_kept s reads) in
-      let start = start-part k m 0 z.state (omega (arith, cells)) in
-      reads-back (lower_of k a) lower-ok ∙ rw (road, start)
+      let start = start_part k m 0 z.state (omega (arith, cells)) in
+      reads_back (lower_of k a) lower_ok ∙ rw (road, start)
 
   -- and they are the parts of the record
   column : (l : List ℕ) → ((i : ℕ) → (reading_of s).road.n ≤ i → at l i ≡ 0)
@@ -188,13 +188,13 @@ module _ (s : List ℕ) (reads : (reading_of s).number ≡ 0) (k : ℕ) (some : 
   }
 
   numbers : Numbers s (reading_of s).steps (reading_of s).road (reading_of s).state
-  numbers = read-numbers s (reading_of s) refl reads
+  numbers = read_numbers s (reading_of s) refl reads
 
   shares : JoinedShares (at (reading_of s).road.share (k - 1)) k ((reading_of s).road.n - k) upper_shares lower_shares (reading_of s).road.share
   shares = record {
-    upper = λ i b. sym (upper-other i b);
+    upper = λ i b. sym (upper_other i b);
     joint = λ i e. let f : i ≡ k - 1 = omega arith in ap (at r.share) f;
-    lower = λ i b. sym (lower-share i b);
+    lower = λ i b. sym (lower_share i b);
     past = λ i b. numbers.share.past i (omega (arith, less));
   }
 
@@ -222,9 +222,9 @@ module _ (s : List ℕ) (reads : (reading_of s).number ≡ 0) (k : ℕ) (some : 
       let all = record_row s r.n t in
       let front : (j : ℕ) → j < row_numbers k → at all j ≡ at (take (row_numbers k) all) j = λ j b. (sym (get_or-take (row_numbers k) all j 0 b)) in
       let back : (i j : ℕ) → i ≡ row_numbers k + j → at all i ≡ at (0 ∷ drop (row_numbers k) all) (j + 1) =
-      λ i j e. (let f : 1 + j ≡ j + 1 = omega arith in ap (at all) e ∙ sym (lower-number t j) ∙ ap (at (0 ∷ drop (row_numbers k) all)) f) in
+      λ i j e. (let f : 1 + j ≡ j + 1 = omega arith in ap (at all) e ∙ sym (lower_number t j) ∙ ap (at (0 ∷ drop (row_numbers k) all)) f) in
       record {
-        numbers = length-row s r.n t ∙ omega (arith, less);
+        numbers = length_row s r.n t ∙ omega (arith, less);
         gate = front 0 (omega arith);
         upper_arrivals = λ i b. front (2 * i + 1) (omega arith);
         upper_release = λ i b. front (2 * i + 2) (omega arith);
@@ -234,42 +234,42 @@ module _ (s : List ℕ) (reads : (reading_of s).number ≡ 0) (k : ℕ) (some : 
             back (2 * (k + i) + 2) (2 * i + 1) (omega arith) ∙ ap (at (0 ∷ drop (row_numbers k) all)) e;
       }
 
-  upper-taken : (t : ℕ) → t < (reading_of s).steps → record_row up (reading_of up).road.n t ≡ take (row_numbers k) (record_row s (reading_of s).road.n t)
-  upper-taken t l = ap (λ (x : ReadAnswer). record_row up x.road.n t) upper-reads ∙ rows-read (upper_of k a) upper-ok t l
+  upper_taken : (t : ℕ) → t < (reading_of s).steps → record_row up (reading_of up).road.n t ≡ take (row_numbers k) (record_row s (reading_of s).road.n t)
+  upper_taken t l = ap (λ (x : ReadAnswer). record_row up x.road.n t) upper_reads ∙ rows_read (upper_of k a) upper_ok t l
 
-  lower-taken : (t : ℕ) → t < (reading_of s).steps → record_row down (reading_of down).road.n t ≡ 0 ∷ drop (row_numbers k) (record_row s (reading_of s).road.n t)
-  lower-taken t l = ap (λ (x : ReadAnswer). record_row down x.road.n t) lower-reads ∙ rows-read (lower_of k a) lower-ok t l
+  lower_taken : (t : ℕ) → t < (reading_of s).steps → record_row down (reading_of down).road.n t ≡ 0 ∷ drop (row_numbers k) (record_row s (reading_of s).road.n t)
+  lower_taken t l = ap (λ (x : ReadAnswer). record_row down x.road.n t) lower_reads ∙ rows_read (lower_of k a) lower_ok t l
 
   pub cut_parts : Parts s (record_of (upper_of k (study_of s []))) (record_of (lower_of k (study_of s []))) (at (reading_of s).road.share (k - 1))
   cut_parts = record {
     reads = reads;
-    both = record { upper = ap (λ (x : ReadAnswer). x.number) upper-reads; lower = ap (λ (x : ReadAnswer). x.number) lower-reads };
+    both = record { upper = ap (λ (x : ReadAnswer). x.number) upper_reads; lower = ap (λ (x : ReadAnswer). x.number) lower_reads };
     stands =
-        subst (λ (x : ReadAnswer). JoinedReading (at r.share (k - 1)) x (reading_of down) z) (sym upper-reads)
-        (subst (λ (y : ReadAnswer). JoinedReading (at r.share (k - 1)) upper_read y z) (sym lower-reads) stands);
+        subst (λ (x : ReadAnswer). JoinedReading (at r.share (k - 1)) x (reading_of down) z) (sym upper_reads)
+        (subst (λ (y : ReadAnswer). JoinedReading (at r.share (k - 1)) upper_read y z) (sym lower_reads) stands);
     row = λ t l.
         subst (λ (x : List ℕ). JoinedNumbers (reading_of up).road.n (reading_of down).road.n x (record_row down (reading_of down).road.n t) (record_row s r.n t))
-        (sym (upper-taken t l))
+        (sym (upper_taken t l))
         (subst (λ (y : List ℕ). JoinedNumbers (reading_of up).road.n (reading_of down).road.n (take (row_numbers k) (record_row s r.n t)) y (record_row s r.n t))
-        (sym (lower-taken t l))
+        (sym (lower_taken t l))
         (subst (λ (c : ℕ). JoinedNumbers c (reading_of down).road.n (take (row_numbers k) (record_row s r.n t))
         (0 ∷ drop (row_numbers k) (record_row s r.n t)) (record_row s r.n t))
-        (sym (ap (λ (x : ReadAnswer). x.road.n) upper-reads))
+        (sym (ap (λ (x : ReadAnswer). x.road.n) upper_reads))
         (subst (λ (c : ℕ). JoinedNumbers k c (take (row_numbers k) (record_row s r.n t)) (0 ∷ drop (row_numbers k) (record_row s r.n t)) (record_row s r.n t))
-        (sym (ap (λ (y : ReadAnswer). y.road.n) lower-reads)) (row t))));
+        (sym (ap (λ (y : ReadAnswer). y.road.n) lower_reads)) (row t))));
     idle = record {
-      queue = ap (λ (y : ReadAnswer). y.state.gate_queue) lower-reads;
-      arrivals = λ t l. ap (λ (q : List ℕ). at q 0) (lower-taken t (subst (λ (T : ℕ). t < T) (ap (λ (y : ReadAnswer). y.steps) lower-reads) l));
+      queue = ap (λ (y : ReadAnswer). y.state.gate_queue) lower_reads;
+      arrivals = λ t l. ap (λ (q : List ℕ). at q 0) (lower_taken t (subst (λ (T : ℕ). t < T) (ap (λ (y : ReadAnswer). y.steps) lower_reads) l));
     };
   }
 
   -- joined again with the joint's own share they give the record
   module _ (small : (i : ℕ) → at s i < 256) (target : List ℕ) (room : length s ≤ length target) where
-    pub cut-answer : joining_of (record_of (upper_of k (study_of s []))) (record_of (lower_of k (study_of s []))) (at (reading_of s).road.share (k - 1)) target
+    pub cut_answer : joining_of (record_of (upper_of k (study_of s []))) (record_of (lower_of k (study_of s []))) (at (reading_of s).road.share (k - 1)) target
         ≡ written_count (length s)
-    cut-answer = parts-answer s up down (at r.share (k - 1)) small cut_parts target room
+    cut_answer = parts_answer s up down (at r.share (k - 1)) small cut_parts target room
 
-    pub cut-joined : take (length s)
+    pub cut_joined : take (length s)
         (joined_target (record_of (upper_of k (study_of s []))) (record_of (lower_of k (study_of s []))) (at (reading_of s).road.share (k - 1)) target)
         ≡ s
-    cut-joined = parts-joined s up down (at r.share (k - 1)) small cut_parts target room
+    cut_joined = parts_joined s up down (at r.share (k - 1)) small cut_parts target room

@@ -2,17 +2,17 @@
 use Rattle.std.specs.Prelude.{◌≡◌, cond, List, [], ◌∷◌, ℕ, ◌+◌, ◌-◌, ◌*◌, ◌≤◌, ◌<◌, eqb, length, take, drop}
 use Rattle.std.proofs.Common.{sym, ap, ◌∙◌, arith}
 use Rattle.model.specs.Numbers.{at, fill_of}
-use Rattle.numbers.specs.RowsLaws.{fill-at, fill-own}
+use Rattle.numbers.specs.RowsLaws.{fill_at, fill_own}
 use Rattle.model.specs.Flow.{whole}
 use Rattle.model.specs.declared.Road.{Road}
 use Rattle.model.specs.declared.State.{State}
 use Rattle.model.specs.Road.{most_cells, most_rate, zeros, start_state, start_in}
-use Rattle.numbers.specs.Zeros.{length-zeros, zeros-at}
+use Rattle.numbers.specs.Zeros.{length_zeros, zeros_at}
 use Rattle.model.specs.Schedules.{Study, study}
 use Rattle.model.specs.Record.{row_numbers}
 use Rattle.limits.specs.LimitsLaws.{RoadOk, StateOk, RowOk}
 use Rattle.model.specs.Writing.{cut_of, kept_seconds, cut_road, cut_state}
-use Rattle.joining.specs.JoinedColumns.{cut-own}
+use Rattle.joining.specs.JoinedColumns.{cut_own}
 
 -- the m entries of a column from cell k on, and 0 past them
 abbrev pub part_of : ℕ → ℕ → List ℕ → List ℕ
@@ -52,7 +52,7 @@ lower_of k a =
     a.steps (λ t. 0 ∷ drop (row_numbers k) (a.rows t)) []
 
 pub part_at : (k m : ℕ) (l : List ℕ) → m ≤ most_cells → (i : ℕ) → i < m → at (part_of k m l) i ≡ at l (k + i)
-part_at k m l h i b = fill-at (λ j. at l (k + j)) m zeros i b (omega (arith, length-zeros))
+part_at k m l h i b = fill_at (λ j. at l (k + j)) m zeros i b (omega (arith, length_zeros))
 
 -- a part of a road within its limits is within them too, if its gate, its shares and its number of cells are
 module _ (r : Road) (ok : RoadOk r) (k m gate : ℕ) (share : List ℕ) (some : 1 ≤ m) (within : k + m ≤ r.n) (gated : gate ≤ most_rate)
@@ -66,8 +66,8 @@ module _ (r : Road) (ok : RoadOk r) (k m gate : ℕ) (share : List ℕ) (some : 
   below : (l : List ℕ) (most : ℕ) → ((i : ℕ) → i < r.n → at l i ≤ most) → (i : ℕ) → i < m → at (part_of k m l) i ≤ most
   below l most h i b = omega (arith, entry l i b, h (k + i) (omega arith))
 
-  pub part-road : RoadOk (part_road k m gate share r)
-  part-road = record {
+  pub part_road_lem : RoadOk (part_road k m gate share r)
+  part_road_lem = record {
     some = some;
     cells = few;
     gate = gated;
@@ -80,9 +80,9 @@ module _ (r : Road) (ok : RoadOk r) (k m gate : ℕ) (share : List ℕ) (some : 
     capacity = below r.capacity most_rate ok.capacity;
   }
 
-  pub part-start : (q : State) (queue : ℕ) → StateOk r (start_state (start_in q)) → queue ≤ q.gate_queue
+  pub part_start_lem : (q : State) (queue : ℕ) → StateOk r (start_state (start_in q)) → queue ≤ q.gate_queue
       → StateOk (part_road k m gate share r) (part_start k m queue q)
-  part-start q queue h l = record {
+  part_start_lem q queue h l = record {
     done = omega arith;
     total = omega arith;
     gate_queue = omega (arith, h.gate_queue);
@@ -90,13 +90,13 @@ module _ (r : Road) (ok : RoadOk r) (k m gate : ℕ) (share : List ℕ) (some : 
     held = λ i b. omega (arith, entry q.held i b, entry r.jam i b, h.held (k + i) (omega arith));
     queue = λ i b. omega (arith, entry q.queue i b, h.queue (k + i) (omega arith));
     no_ramp = λ i b e. entry q.queue i b ∙ h.no_ramp (k + i) (omega arith) (sym (entry r.ramp i b) ∙ e);
-    cumulative = λ i b. omega (arith, zeros-at i);
+    cumulative = λ i b. omega (arith, zeros_at i);
   }
 
   -- a row whose numbers for the cells are the road's
-  pub part-row : (row all : List ℕ) → RowOk r all → length row ≡ row_numbers m → at row 0 ≤ most_rate
+  pub part_row : (row all : List ℕ) → RowOk r all → length row ≡ row_numbers m → at row 0 ≤ most_rate
       → ((j : ℕ) → j < 2 * m → at row (1 + j) ≡ at all (1 + 2 * k + j)) → RowOk (part_road k m gate share r) row
-  part-row row all h long gate same =
+  part_row row all h long gate same =
       let arrives : (i : ℕ) → i < m → at row (2 * i + 1) ≡ at all (2 * (k + i) + 1) =
       λ i b.
       (let e : 1 + 2 * i ≡ 2 * i + 1 = omega arith in
@@ -119,17 +119,17 @@ module _ (r : Road) (ok : RoadOk r) (k m gate : ℕ) (share : List ℕ) (some : 
   pub part_cut : (f : ℕ → ℕ) → share ≡ fill_of f m zeros → kept_seconds r.version r.seconds ≡ r.seconds
       → cut_road (part_road k m gate share r) ≡ part_road k m gate share r
   part_cut f e s =
-      let own : cut_of m share ≡ share = ap (cut_of m) e ∙ cut-own f m few ∙ sym e in
+      let own : cut_of m share ≡ share = ap (cut_of m) e ∙ cut_own f m few ∙ sym e in
       rw (
         s,
-        cut-own (λ i. at r.speed (k + i)) m few,
-        cut-own (λ i. at r.wave (k + i)) m few,
+        cut_own (λ i. at r.speed (k + i)) m few,
+        cut_own (λ i. at r.wave (k + i)) m few,
         own,
-        cut-own (λ i. at r.ramp (k + i)) m few,
-        cut-own (λ i. at r.jam (k + i)) m few,
-        cut-own (λ i. at r.capacity (k + i)) m few,
+        cut_own (λ i. at r.ramp (k + i)) m few,
+        cut_own (λ i. at r.jam (k + i)) m few,
+        cut_own (λ i. at r.capacity (k + i)) m few,
       )
 
-pub start-part : (k m gate : ℕ) (q : State) → m ≤ most_cells → cut_state m (part_start k m gate q) ≡ part_start k m gate q
-start-part k m gate q few =
-    rw (cut-own (λ i. at q.held (k + i)) m few, cut-own (λ i. at q.queue (k + i)) m few, fill-own zeros m)
+pub start_part : (k m gate : ℕ) (q : State) → m ≤ most_cells → cut_state m (part_start k m gate q) ≡ part_start k m gate q
+start_part k m gate q few =
+    rw (cut_own (λ i. at q.held (k + i)) m few, cut_own (λ i. at q.queue (k + i)) m few, fill_own zeros m)

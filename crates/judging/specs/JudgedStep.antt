@@ -8,9 +8,9 @@ use Rattle.model.specs.declared.State.{State}
 use Rattle.limits.specs.LimitsLaws.{InputOk}
 use Rattle.model.specs.Move.{next_of}
 use Rattle.theory.specs.RulesLaws.{Sized}
-use Rattle.theory.specs.StepLaws.{number-of}
+use Rattle.theory.specs.StepLaws.{number_of_lem}
 use Rattle.model.specs.Judging.{verdict_of}
-use Rattle.theory.specs.VerdictLaws.{verdict-obeys}
+use Rattle.theory.specs.VerdictLaws.{verdict_obeys}
 use Rattle.outflows.specs.Columns.{road_of}
 use Rattle.stepping.specs.StepNeeds.{Movable}
 use Rattle.judging.specs.ProposedRow.{RowLengths}
@@ -25,8 +25,8 @@ pub record JudgeStepLent (n gate : ℕ) (speed wave share jam capacity : List �
 
 module _ {n gate : ℕ} {speed wave share jam capacity : List ℕ} {s : State} {row y : List ℕ}
     (h : JudgeStepLent n gate speed wave share jam capacity s row y) where
-  pub row-lengths : RowLengths n row y
-  row-lengths = record { cells = h.input.road.cells; numbers = h.input.row.numbers; places = h.places }
+  pub row_lengths : RowLengths n row y
+  row_lengths = record { cells = h.input.road.cells; numbers = h.input.row.numbers; places = h.places }
 
   -- a row without a fault may be used for the move
   pub movable : {f : FaultAnswer} → f ≡ verdict_of (road_of h.road n gate speed wave share jam capacity) s row y → f.number ≡ 0
@@ -35,7 +35,7 @@ module _ {n gate : ℕ} {speed wave share jam capacity : List ℕ} {s : State} {
     input = h.input;
     sized = h.sized;
     places = h.places;
-    obeys = verdict-obeys (road_of h.road n gate speed wave share jam capacity) s row y (sym (number-of e) ∙ z);
+    obeys = verdict_obeys (road_of h.road n gate speed wave share jam capacity) s row y (sym (number_of_lem e) ∙ z);
   }
 
 -- its fault, and the state t after it: the state before it if there is a fault

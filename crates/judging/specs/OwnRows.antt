@@ -7,7 +7,7 @@ use Rattle.model.specs.declared.State.{State}
 use Rattle.model.specs.Schedules.{Study, places, engine_after, outflows_at, proposed_at}
 use Rattle.theory.specs.RunsLaws.{StudyOk}
 use Rattle.model.specs.Running.{run_fault, first_step}
-use Rattle.theory.proofs.DemandLaws.{own-state}
+use Rattle.theory.proofs.DemandLaws.{own_state_lem}
 use Rattle.model.specs.Judging.{places_of, held_row, queue_row, held_table, queue_table}
 
 -- the rows after step k of the engine's run: the gate's queue and each cell's held count; and 0 and each ramp's queue
@@ -23,9 +23,9 @@ module _ (a : Study) (ok : StudyOk a) (zs : List ℕ) (same : (j : ℕ) → j < 
   pub own_held : held_table a zs list k ≡ front_of (engine_held a) (places a) list k
   own_held =
       front_same (held_row a zs) (engine_held a) (places a) list k
-      (λ i m. ap (λ (s : State). places_of s.gate_queue s.held a.road.n) (own-state a ok zs same (suc i) (omega arith)))
+      (λ i m. ap (λ (s : State). places_of s.gate_queue s.held a.road.n) (own_state_lem a ok zs same (suc i) (omega arith)))
 
-  pub own-queue : queue_table a zs list k ≡ front_of (engine_queue a) (places a) list k
-  own-queue =
+  pub own_queue : queue_table a zs list k ≡ front_of (engine_queue a) (places a) list k
+  own_queue =
       front_same (queue_row a zs) (engine_queue a) (places a) list k
-      (λ i m. ap (λ (s : State). places_of 0 s.queue a.road.n) (own-state a ok zs same (suc i) (omega arith)))
+      (λ i m. ap (λ (s : State). places_of 0 s.queue a.road.n) (own_state_lem a ok zs same (suc i) (omega arith)))

@@ -7,12 +7,12 @@ use Rattle.model.specs.declared.Road.{Road}
 use Rattle.model.specs.declared.State.{State}
 use Rattle.model.specs.Road.{most_cells}
 use Rattle.model.specs.Numbers.{at}
-use Rattle.numbers.specs.FirstLaws.{Faultless, faultless-more}
+use Rattle.numbers.specs.FirstLaws.{Faultless, faultless_more}
 use Rattle.model.specs.Flow.{room_at, demand_at}
 use Rattle.model.specs.Stepping.{releases_of}
 use Rattle.model.specs.Judging.{outflow_fault, outflow_fault_at, outflows_fault_of, verdict_of}
-use Rattle.theory.specs.StepLaws.{number-of, lowest-stop, lowest-end}
-use Rattle.theory.specs.VerdictLaws.{fault-before-last, last-passes, last-above-demand, verdict-releases, verdict-outflows}
+use Rattle.theory.specs.StepLaws.{number_of_lem, lowest_stop, lowest_end}
+use Rattle.theory.specs.VerdictLaws.{fault_before_last, last_passes, last_above_demand, verdict_releases, verdict_outflows}
 use Rattle.outflows.specs.CarriedValues.{CarriedValues}
 
 -- the lengths of a step's row and of a row of outflows, gate first, for a road of n cells
@@ -23,28 +23,28 @@ pub record RowLengths (n : ℕ) (row y : List ℕ) : Type 0 where
 
 -- the loop over the places: the code's numbers at a place before the last, and the number of the refusal that it finds
 module _ {r : Road} {s : State} (row y : List ℕ) {share cumulative demand i : ℕ} (k : CarriedValues r s share cumulative demand i) where
-  pub outflow-found : {room entering m : ℕ} → i < r.n → room ≡ room_at r s row i → entering ≡ entering_of share cumulative (at y i)
+  pub outflow_found : {room entering m : ℕ} → i < r.n → room ≡ room_at r s row i → entering ≡ entering_of share cumulative (at y i)
       → m ≡ outflow_fault (at y i) demand entering room → m ≡ outflow_fault_at r s row y i
-  outflow-found l er ee e = rw (ee, er, k.shares, k.cumulatives, k.demands) at e ∙ sym (fault-before-last r s row y i l)
+  outflow_found l er ee e = rw (ee, er, k.shares, k.cumulatives, k.demands) at e ∙ sym (fault_before_last r s row y i l)
 
   -- at the last place only the demand is tested
   module _ (h : Faultless (outflow_fault_at r s row y) (r.n + 1) i) (end : r.n ≤ i) where
     at_last : i ≡ r.n
     at_last = omega (arith, k.within)
 
-    demand-last : demand ≡ demand_at r s r.n
-    demand-last = k.demands ∙ ap (demand_at r s) at_last
+    demand_last : demand ≡ demand_at r s r.n
+    demand_last = k.demands ∙ ap (demand_at r s) at_last
 
-    pub last-fault : demand < at y r.n → fault 13 r.n ≡ outflows_fault_of r s row y
-    last-fault l =
+    pub last_fault_lem : demand < at y r.n → fault 13 r.n ≡ outflows_fault_of r s row y
+    last_fault_lem l =
         let e : r.n ≡ i + 0 = omega (arith, at_last) in
-        let f = last-above-demand r s row y (omega (arith, demand-last)) in
-        ap (fault 13) e ∙ lowest-stop _ _ 0 h (omega arith) (sym (ap (outflow_fault_at r s row y) at_last ∙ f)) (λ z. omega arith)
+        let f = last_above_demand r s row y (omega (arith, demand_last)) in
+        ap (fault 13) e ∙ lowest_stop _ _ 0 h (omega arith) (sym (ap (outflow_fault_at r s row y) at_last ∙ f)) (λ z. omega arith)
 
     pub last_end : at y r.n ≤ demand → fault 0 0 ≡ outflows_fault_of r s row y
     last_end l =
-        let f = last-passes r s row y (omega (arith, demand-last)) in
-        lowest-end _ _ 0 (faultless-more h (omega (arith, at_last)) refl (ap (outflow_fault_at r s row y) at_last ∙ f)) (omega (arith, at_last))
+        let f = last_passes r s row y (omega (arith, demand_last)) in
+        lowest_end _ _ 0 (faultless_more h (omega (arith, at_last)) refl (ap (outflow_fault_at r s row y) at_last ∙ f)) (omega (arith, at_last))
 
 -- the code has tested the releases: the fault that it found, and its number
 pub record ReleaseFinding (r : Road) (s : State) (row : List ℕ) (q : FaultAnswer) (m : ℕ) : Type 0 where
@@ -53,11 +53,11 @@ pub record ReleaseFinding (r : Road) (s : State) (row : List ℕ) (q : FaultAnsw
 
 -- the verdict on y
 module _ {r : Road} {s : State} {row : List ℕ} {q : FaultAnswer} {m : ℕ} (y : List ℕ) (k : ReleaseFinding r s row q m) where
-  number-found : m ≡ (releases_of r s row).number
-  number-found = k.number ∙ number-of k.found
+  number_found : m ≡ (releases_of r s row).number
+  number_found = k.number ∙ number_of_lem k.found
 
-  pub verdict-fault : (m ≡ 0 → ⊥) → q ≡ verdict_of r s row y
-  verdict-fault n = k.found ∙ sym (verdict-releases r s row y (λ z. n (number-found ∙ z)))
+  pub verdict_fault : (m ≡ 0 → ⊥) → q ≡ verdict_of r s row y
+  verdict_fault n = k.found ∙ sym (verdict_releases r s row y (λ z. n (number_found ∙ z)))
 
-  pub verdict-end : {p : FaultAnswer} → m ≡ 0 → p ≡ outflows_fault_of r s row y → p ≡ verdict_of r s row y
-  verdict-end z h = h ∙ sym (verdict-outflows r s row y (sym number-found ∙ z))
+  pub verdict_end : {p : FaultAnswer} → m ≡ 0 → p ≡ outflows_fault_of r s row y → p ≡ verdict_of r s row y
+  verdict_end z h = h ∙ sym (verdict_outflows r s row y (sym number_found ∙ z))

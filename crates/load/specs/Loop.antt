@@ -5,7 +5,7 @@ use Rattle.std.proofs.Common.{◌∙◌, le_refl, arith, drop_of_length-le}
 use mathlib.Core.List.{append-nil}
 use Rattle.std.proofs.Math.Numerals.{add-one}
 use Rattle.model.specs.Numbers.{fill_of, list_of}
-use Rattle.numbers.specs.RowsLaws.{fill_more, fill-list, length-fill}
+use Rattle.numbers.specs.RowsLaws.{fill_more, fill_list, length_fill}
 use Rattle.model.specs.Load.{next_number, arrival_of, number_after, arrival_at, arrivals_of}
 
 -- i arrivals are stored, and `number` gave the last of them
@@ -20,8 +20,8 @@ module _ {seed peak : ℕ} {lent : List ℕ} where
   filled_none = record { within = omega arith; last = refl; stored = refl }
 
   module _ {number i : ℕ} {list : List ℕ} (h : StoredArrivals seed peak lent number i list) where
-    pub filled-length : length list ≡ length lent
-    filled-length = ap length h.stored ∙ length-fill (arrival_at seed peak) i lent
+    pub filled_length : length list ≡ length lent
+    filled_length = ap length h.stored ∙ length_fill (arrival_at seed peak) i lent
 
     pub filled_more : {following arrives : ℕ} → i < length list → following ≡ next_number number → arrives ≡ arrival_of following peak
         → StoredArrivals seed peak lent following (i + 1) (slice_set list i arrives)
@@ -29,17 +29,17 @@ module _ {seed peak : ℕ} {lent : List ℕ} where
     filled_more {following} l e f =
         let q : following ≡ number_after seed (suc i) = e ∙ ap next_number h.last in
         record {
-          within = omega (arith, filled-length);
+          within = omega (arith, filled_length);
           last = rw add-one q;
           stored = rw (fill_more, h.stored, f, q);
         }
 
-    pub filled-end : length list ≤ i → (number ≡ number_after seed (length lent)) × (list ≡ arrivals_of seed peak (length lent))
+    pub filled_end : length list ≤ i → (number ≡ number_after seed (length lent)) × (list ≡ arrivals_of seed peak (length lent))
     unfolding arrivals_of
-    filled-end l =
-        let e : i ≡ length lent = omega (arith, h.within, filled-length) in
+    filled_end l =
+        let e : i ≡ length lent = omega (arith, h.within, filled_length) in
         let f = arrival_at seed peak in (
           h.last ∙ ap (number_after seed) e,
-          h.stored ∙ ap (λ (n : ℕ). fill_of f n lent) e ∙ fill-list f (length lent) lent (le_refl _)
+          h.stored ∙ ap (λ (n : ℕ). fill_of f n lent) e ∙ fill_list f (length lent) lent (le_refl _)
               ∙ ap (λ (t : List ℕ). list_of f (length lent) ++ t) (drop_of_length-le lent (le_refl (length lent))) ∙ append-nil (list_of f (length lent)),
         )

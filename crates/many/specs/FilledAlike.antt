@@ -7,8 +7,8 @@ use Rattle.std.proofs.Math.Bool.{cond}
 use native.Mathlib.Omega.{arith}
 use borrow.Author.Tests.{eqb-true, eq-eqb, ne_eqb}
 use Rattle.model.specs.Numbers.{at, unless}
-use Rattle.numbers.specs.Tests.{unless-elim, unless-same, fault-elim}
-use Rattle.numbers.specs.RowsLaws.{fill-same}
+use Rattle.numbers.specs.Tests.{unless_elim, unless_same, fault_elim}
+use Rattle.numbers.specs.RowsLaws.{fill_same}
 use Rattle.model.specs.declared.Law.{Law}
 use Rattle.model.specs.declared.State.{State}
 use Rattle.model.specs.Road.{zeros}
@@ -22,7 +22,7 @@ use Rattle.model.specs.Filling.{MeterState}
 use Rattle.model.specs.Running.{EndAnswer, end_with, no_state, lanes_fault, steps_made}
 use Rattle.model.specs.Longest.{maximum_of, stayed_of, longest_of, filled_after, longest_fill}
 use Rattle.model.specs.Filling.{metered_after, metered_from, filled_bytes, filling_of, record_after, filled_list}
-use Rattle.filling.specs.FillingAgain.{SameArrivals, metered-same, filled-alike-by, filled-openable-by}
+use Rattle.filling.specs.FillingAgain.{SameArrivals, metered_same, filled_alike_by, filled_openable_by}
 
 -- what filling answers, from reading's answer and the state after all steps
 abbrev end_by : List Law → List ℕ → ℕ → ReadAnswer → State → EndAnswer
@@ -39,45 +39,45 @@ end_by laws lanes room x q =
 abbrev last_of : List Law → List ℕ → List ℕ → State
 last_of laws lanes s = (metered_after laws (study_of s lanes) (reading_of s).steps).state
 
-fills-by : (laws : List Law) (s lanes list : List ℕ) → filling_of laws s lanes list ≡ end_by laws lanes (length list) (reading_of s) (last_of laws lanes s)
+fills_by : (laws : List Law) (s lanes list : List ℕ) → filling_of laws s lanes list ≡ end_by laws lanes (length list) (reading_of s) (last_of laws lanes s)
 unfolding filling_of
-fills-by laws s lanes list = refl
+fills_by laws s lanes list = refl
 
 -- no refusal of filling names a step
-fills-step : (laws : List Law) (s lanes list : List ℕ) → (filling_of laws s lanes list).step ≡ 0
-fills-step laws s lanes list =
+fills_step : (laws : List Law) (s lanes list : List ℕ) → (filling_of laws s lanes list).step ≡ 0
+fills_step laws s lanes list =
     let x = reading_of s in
     let f = table_fault lanes x.road.n x.steps in
     let p = law_fault_of laws x.road.ramp x.road.n in
-    ap (λ (e : EndAnswer). e.step) (fills-by laws s lanes list)
-    ∙ unless-elim (λ (e : EndAnswer). e.step ≡ 0) (eqb x.number 0) (λ _. refl) (λ _.
-    unless-elim (λ (e : EndAnswer). e.step ≡ 0) (eqb p 0) (λ _. refl) (λ _.
-    unless-elim (λ (e : EndAnswer). e.step ≡ 0) (eqb f.number 0) (λ _. refl) (λ _.
-    unless-elim (λ (e : EndAnswer). e.step ≡ 0) (leb (x.steps * (x.road.n + 1)) (length list)) (λ _. refl) (λ _. refl))))
+    ap (λ (e : EndAnswer). e.step) (fills_by laws s lanes list)
+    ∙ unless_elim (λ (e : EndAnswer). e.step ≡ 0) (eqb x.number 0) (λ _. refl) (λ _.
+    unless_elim (λ (e : EndAnswer). e.step ≡ 0) (eqb p 0) (λ _. refl) (λ _.
+    unless_elim (λ (e : EndAnswer). e.step ≡ 0) (eqb f.number 0) (λ _. refl) (λ _.
+    unless_elim (λ (e : EndAnswer). e.step ≡ 0) (leb (x.steps * (x.road.n + 1)) (length list)) (λ _. refl) (λ _. refl))))
 
 -- the longest queues depend on the states of the steps
-greatest-same : (f g : ℕ → ℕ) (k : ℕ) → ((j : ℕ) → j < k → f j ≡ g j) → maximum_of f k ≡ maximum_of g k
+greatest_same : (f g : ℕ → ℕ) (k : ℕ) → ((j : ℕ) → j < k → f j ≡ g j) → maximum_of f k ≡ maximum_of g k
 unfolding maximum_of
-greatest-same f g zero h = refl
-greatest-same f g (suc k) h = rw (greatest-same f g k (λ j l. h j (omega arith)), h k (le_refl (suc k)))
+greatest_same f g zero h = refl
+greatest_same f g (suc k) h = rw (greatest_same f g k (λ j l. h j (omega arith)), h k (le_refl (suc k)))
 
-longest-same : (n : ℕ) (f g : ℕ → State) (k : ℕ) → ((j : ℕ) → j ≤ k → f j ≡ g j) → longest_of n f k ≡ longest_of n g k
+longest_same : (n : ℕ) (f g : ℕ → State) (k : ℕ) → ((j : ℕ) → j ≤ k → f j ≡ g j) → longest_of n f k ≡ longest_of n g k
 unfolding longest_of
-longest-same n f g k h =
-    let at-gate = greatest-same (λ j. (f (suc j)).gate_queue) (λ j. (g (suc j)).gate_queue) k (λ j l. ap (λ (s : State). s.gate_queue) (h (suc j) l)) in
+longest_same n f g k h =
+    let at_gate_lem = greatest_same (λ j. (f (suc j)).gate_queue) (λ j. (g (suc j)).gate_queue) k (λ j l. ap (λ (s : State). s.gate_queue) (h (suc j) l)) in
     let stayed =
-    greatest-same (λ j. stayed_of (f j) (f (suc j))) (λ j. stayed_of (g j) (g (suc j))) k
+    greatest_same (λ j. stayed_of (f j) (f (suc j))) (λ j. stayed_of (g j) (g (suc j))) k
     (λ j l. ap (λ (s : State). stayed_of s (f (suc j))) (h j (omega arith)) ∙ ap (stayed_of (g j)) (h (suc j) l)) in
     let ramps =
-    fill-same (λ i. maximum_of (λ j. at (f (suc j)).queue i) k) (λ i. maximum_of (λ j. at (g (suc j)).queue i) k) n zeros
-    (λ i _. greatest-same (λ j. at (f (suc j)).queue i) (λ j. at (g (suc j)).queue i) k (λ j l. ap (λ (s : State). at s.queue i) (h (suc j) l))) in
-    rw (at-gate, stayed, ramps) refl
+    fill_same (λ i. maximum_of (λ j. at (f (suc j)).queue i) k) (λ i. maximum_of (λ j. at (g (suc j)).queue i) k) n zeros
+    (λ i _. greatest_same (λ j. at (f (suc j)).queue i) (λ j. at (g (suc j)).queue i) k (λ j l. ap (λ (s : State). at s.queue i) (h (suc j) l))) in
+    rw (at_gate_lem, stayed, ramps) refl
 
 -- two records that read alike and have the same arrivals
 module _ (laws : List Law) (lanes s u : List ℕ) (alike : reading_of u ≡ reading_of s)
     (same : (reading_of s).number ≡ 0 → SameArrivals (study_of s lanes) (study_of u lanes)) where
-  openable-on : Openable s lanes → Openable u lanes
-  openable-on h = record {
+  openable_on : Openable s lanes → Openable u lanes
+  openable_on h = record {
     reads = ap (λ (x : ReadAnswer). x.number) alike ∙ h.reads;
     opens = ap (λ (x : ReadAnswer). (lanes_fault (study_by u lanes x.road x.state x.steps)).number) alike ∙ h.opens;
   }
@@ -86,10 +86,10 @@ module _ (laws : List Law) (lanes s u : List ℕ) (alike : reading_of u ≡ read
   states : Openable s lanes → (k : ℕ) → k ≤ (reading_of s).steps → filled_after laws (study_of u lanes) k ≡ filled_after laws (study_of s lanes) k
   states h k l =
       let ok : StudyOk (study_of s lanes) = (readable s lanes (reading_of s) refl h.reads h.opens).ok in
-      ap (λ (m : MeterState). m.state) (metered-same laws ok (same h.reads) k l)
+      ap (λ (m : MeterState). m.state) (metered_same laws ok (same h.reads) k l)
 
-  last-same : Openable s lanes → last_of laws lanes u ≡ last_of laws lanes s
-  last-same h =
+  last_same : Openable s lanes → last_of laws lanes u ≡ last_of laws lanes s
+  last_same h =
       ap (λ (x : ReadAnswer). filled_after laws (study_of u lanes) x.steps) alike ∙ states h (reading_of s).steps (le_refl (reading_of s).steps)
 
   -- so filling answers alike
@@ -98,19 +98,19 @@ module _ (laws : List Law) (lanes s u : List ℕ) (alike : reading_of u ≡ read
       let x = reading_of s in
       let f = table_fault lanes x.road.n x.steps in
       let p = law_fault_of laws x.road.ramp x.road.n in
-      fills-by laws u lanes list
+      fills_by laws u lanes list
       ∙ ap (λ (y : ReadAnswer). end_by laws lanes (length list) y (last_of laws lanes u)) alike
-      ∙ unless-same (eqb x.number 0) (no_state x.number x.place) (λ r.
-      unless-same (eqb p 0) (no_state 16 p) (λ _.
-      unless-same (eqb f.number 0) (no_state f.number f.place) (λ o.
-      unless-same (leb (x.steps * (x.road.n + 1)) (length list)) (no_state 11 0) (λ _.
-      ap (end_with 0 0 0 x.road) (last-same (record { reads = eqb-true x.number 0 r; opens = eqb-true f.number 0 o }))))))
-      ∙ sym (fills-by laws s lanes list)
+      ∙ unless_same (eqb x.number 0) (no_state x.number x.place) (λ r.
+      unless_same (eqb p 0) (no_state 16 p) (λ _.
+      unless_same (eqb f.number 0) (no_state f.number f.place) (λ o.
+      unless_same (leb (x.steps * (x.road.n + 1)) (length list)) (no_state 11 0) (λ _.
+      ap (end_with 0 0 0 x.road) (last_same (record { reads = eqb-true x.number 0 r; opens = eqb-true f.number 0 o }))))))
+      ∙ sym (fills_by laws s lanes list)
 
   -- the longest queues are the same
-  pub queues-alike : (list : List ℕ) → longest_fill laws u lanes list ≡ longest_fill laws s lanes list
+  pub queues_alike : (list : List ℕ) → longest_fill laws u lanes list ≡ longest_fill laws s lanes list
   unfolding longest_fill metered_from
-  queues-alike list =
+  queues_alike list =
       let a = study_of s lanes in
       let b = study_of u lanes in
       let e = filling_of laws s lanes list in
@@ -120,35 +120,35 @@ module _ (laws : List Law) (lanes s u : List ℕ) (alike : reading_of u ≡ read
       let begin : b.start ≡ a.start = ap (λ (x : ReadAnswer). x.state) alike in
       ap (λ (j : ℕ). longest_of b.road.n (filled_after laws b) j) made
       ∙ ap (λ (x : ReadAnswer). longest_of x.road.n (filled_after laws b) k) alike
-      ∙ longest-same a.road.n (filled_after laws b) (filled_after laws a) k
-      (fault-elim e.number
+      ∙ longest_same a.road.n (filled_after laws b) (filled_after laws a) k
+      (fault_elim e.number
       (λ h j l.
-      let none : k ≡ 0 = rw (ne_eqb e.number 0 h) (fills-step laws s lanes list) in
+      let none : k ≡ 0 = rw (ne_eqb e.number 0 h) (fills_step laws s lanes list) in
       let z : j ≡ 0 = omega arith in
       rw z begin)
       (λ h j l.
       let all : k ≡ a.steps = rw (eq-eqb e.number 0 h) refl in
-      states (filled-openable-by laws s lanes list h) j (omega arith)))
+      states (filled_openable_by laws s lanes list h) j (omega arith)))
 
   -- the lists are the same
-  pub lists-alike : (list : List ℕ) → filled_list laws u lanes list ≡ filled_list laws s lanes list
+  pub lists_alike : (list : List ℕ) → filled_list laws u lanes list ≡ filled_list laws s lanes list
   unfolding filled_list
-  lists-alike list =
+  lists_alike list =
       let e = filling_of laws s lanes list in
       let d : (filling_of laws u lanes list).number ≡ e.number = ap (λ (x : EndAnswer). x.number) (fills_alike list) in
-      fault-elim e.number
+      fault_elim e.number
       (λ h. rw (d, ne_eqb e.number 0 h) refl)
-      (λ h. let openable = filled-openable-by laws s lanes list h in (filled-alike-by laws s u lanes list openable (openable-on openable) (same openable.reads)).written)
+      (λ h. let openable = filled_openable_by laws s lanes list h in (filled_alike_by laws s u lanes list openable (openable_on openable) (same openable.reads)).written)
 
 -- filling uses only the length of the list
 module _ (laws : List Law) (s lanes list out : List ℕ) (e : length out ≡ length list) where
-  pub room-same : filling_of laws s lanes out ≡ filling_of laws s lanes list
-  room-same = fills-by laws s lanes out ∙ ap (λ (m : ℕ). end_by laws lanes m (reading_of s) (last_of laws lanes s)) e ∙ sym (fills-by laws s lanes list)
+  pub room_same : filling_of laws s lanes out ≡ filling_of laws s lanes list
+  room_same = fills_by laws s lanes out ∙ ap (λ (m : ℕ). end_by laws lanes m (reading_of s) (last_of laws lanes s)) e ∙ sym (fills_by laws s lanes list)
 
-  pub room-queues : longest_fill laws s lanes out ≡ longest_fill laws s lanes list
+  pub room_queues : longest_fill laws s lanes out ≡ longest_fill laws s lanes list
   unfolding longest_fill
-  room-queues = ap (λ (x : EndAnswer). longest_of (study_of s lanes).road.n (filled_after laws (study_of s lanes)) (steps_made (study_of s lanes) x)) room-same
+  room_queues = ap (λ (x : EndAnswer). longest_of (study_of s lanes).road.n (filled_after laws (study_of s lanes)) (steps_made (study_of s lanes) x)) room_same
 
-  pub room-record : record_after laws s lanes out ≡ record_after laws s lanes list
+  pub room_record : record_after laws s lanes out ≡ record_after laws s lanes list
   unfolding record_after
-  room-record = ap (λ (x : EndAnswer). unless (eqb x.number 0) s (filled_bytes laws s lanes)) room-same
+  room_record = ap (λ (x : EndAnswer). unless (eqb x.number 0) s (filled_bytes laws s lanes)) room_same

@@ -5,12 +5,12 @@ use Rattle.std.proofs.Common.{◌∙◌, mul-le-mul, add-one}
 use mathlib.Core.List.{List}
 use native.Mathlib.Omega.{arith}
 use Rattle.model.specs.Numbers.{at, placed, row_at}
-use Rattle.numbers.specs.TablesLaws.{row_ends, row-length, mul-more}
+use Rattle.numbers.specs.TablesLaws.{row_ends, row_length, mul_more}
 use Rattle.model.specs.Road.{most_cells, most_steps}
 use Rattle.model.specs.Record.{number_size, rates_size, version_of, row_start, bytes_of}
 use Rattle.fields.specs.FieldsLaws.{HoldsRow}
 use Rattle.model.specs.Many.{put_arrivals, put_arrival_rows, with_arrivals, arrivals_size}
-use Rattle.many.specs.Arrivals.{arrival_start, ArrivedRow, row_put, holds_on, ArrivedRows, rows-put}
+use Rattle.many.specs.Arrivals.{arrival_start, ArrivedRow, row_put, holds_on, ArrivedRows, rows_put}
 
 -- what putting a row requires: the bytes hold it, in the version given, and there is a number for each place
 pub record RowFits (bytes : List ℕ) (v n t : ℕ) (row : List ℕ) : Type 0 where
@@ -27,10 +27,10 @@ pub record PlacesPut (bytes : List ℕ) (version n t : ℕ) (row after : List �
 
 module _ {bytes : List ℕ} {v n t : ℕ} {row : List ℕ} (fits : RowFits bytes v n t row) where
   -- the gate's arrivals are put first
-  pub places-first : {after : List ℕ} {start to : ℕ} → start ≡ row_start v n t → after ≡ placed bytes start (bytes_of number_size (at row 0))
+  pub places_first : {after : List ℕ} {start to : ℕ} → start ≡ row_start v n t → after ≡ placed bytes start (bytes_of number_size (at row 0))
       → to ≡ start + number_size → PlacesPut bytes v n t row after to 1
   unfolding put_arrivals
-  places-first {start = start} es ea et =
+  places_first {start = start} es ea et =
       let e : start ≡ arrival_start (version_of bytes) n t 0 = es ∙ ap (λ (x : ℕ). row_start x n t) fits.version ∙ omega arith in
       record { some = omega arith; within = omega arith; place = omega arith; put = ea ∙ ap (λ (x : ℕ). placed bytes x (bytes_of number_size (at row 0))) e }
 
@@ -38,16 +38,16 @@ module _ {bytes : List ℕ} {v n t : ℕ} {row : List ℕ} (fits : RowFits bytes
     kept : ArrivedRow bytes after n t p
     kept = rw h.put (row_put bytes n t (at row) p h.within fits.holds)
 
-    pub places-size : length after ≡ length bytes
-    places-size = kept.size
+    pub places_size : length after ≡ length bytes
+    places_size = kept.size
 
     -- the next place of the row is within the bytes, and so is the one after it
-    pub places-room : p < n + 1 → to + rates_size ≤ length after
-    places-room l = omega (arith, h.place, h.some, kept.size, ap (λ (x : ℕ). row_start x n t) fits.version, fits.holds.row)
+    pub places_room : p < n + 1 → to + rates_size ≤ length after
+    places_room l = omega (arith, h.place, h.some, kept.size, ap (λ (x : ℕ). row_start x n t) fits.version, fits.holds.row)
 
-    pub places-more : p < n + 1 → {next : List ℕ} → next ≡ placed after to (bytes_of number_size (at row p)) → PlacesPut bytes v n t row next (to + rates_size) (p + 1)
+    pub places_more : p < n + 1 → {next : List ℕ} → next ≡ placed after to (bytes_of number_size (at row p)) → PlacesPut bytes v n t row next (to + rates_size) (p + 1)
     unfolding put_arrivals
-    places-more l e =
+    places_more l e =
         let same : to ≡ arrival_start (version_of after) n t p =
         h.place ∙ ap (λ (x : ℕ). arrival_start x n t p) (fits.version ∙ sym kept.version) in
         record {
@@ -61,8 +61,8 @@ module _ {bytes : List ℕ} {v n t : ℕ} {row : List ℕ} (fits : RowFits bytes
               ∙ ap (put_arrivals bytes n t (at row)) (sym (add-one p));
         }
 
-    pub places-end : n + 1 ≤ p → after ≡ put_arrivals bytes n t (at row) (n + 1)
-    places-end l = let e : p ≡ n + 1 = omega (arith, h.within) in h.put ∙ ap (put_arrivals bytes n t (at row)) e
+    pub places_end : n + 1 ≤ p → after ≡ put_arrivals bytes n t (at row) (n + 1)
+    places_end l = let e : p ≡ n + 1 = omega (arith, h.within) in h.put ∙ ap (put_arrivals bytes n t (at row)) e
 
 -- what putting a table requires: the bytes hold T rows, and the table has a row for each
 pub record TableFits (bytes : List ℕ) (n T : ℕ) (table : List ℕ) : Type 0 where
@@ -85,33 +85,33 @@ module _ {bytes : List ℕ} {n T : ℕ} {table : List ℕ} where
 
   module _ (fits : TableFits bytes n T table) {after : List ℕ} {from t : ℕ} (h : RowsPut bytes n T table after from t) where
     changed : ArrivedRows bytes after n t
-    changed = rw h.put (rows-put bytes n (λ q p. at (row_at table (n + 1) q) p) t (λ q l. fits.holds q (omega (arith, h.within))))
+    changed = rw h.put (rows_put bytes n (λ q p. at (row_at table (n + 1) q) p) t (λ q l. fits.holds q (omega (arith, h.within))))
 
-    pub puts-size : length after ≡ length bytes
-    puts-size = changed.size
+    pub puts_size : length after ≡ length bytes
+    puts_size = changed.size
 
     -- the next row of the table
-    pub puts-fits : t < T → from + (n + 1) ≤ length table
-    puts-fits l = omega (arith, row_ends t T (n + 1) l, h.place, fits.size)
+    pub puts_fits : t < T → from + (n + 1) ≤ length table
+    puts_fits l = omega (arith, row_ends t T (n + 1) l, h.place, fits.size)
 
-    pub puts-small : t < T → from + (n + 1) ≤ 93600
-    puts-small l =
+    pub puts_small : t < T → from + (n + 1) ≤ 93600
+    puts_small l =
         let k : n + 1 ≤ 65 = omega (arith, fits.cells) in
-        omega (arith, puts-fits l, fits.size, mul-le-mul fits.steps k)
+        omega (arith, puts_fits l, fits.size, mul-le-mul fits.steps k)
 
-    pub puts-row : {v : ℕ} {row : List ℕ} → v ≡ version_of bytes → t < T → row ≡ row_at table (n + 1) t → RowFits after v n t row
-    puts-row e l er = record {
+    pub puts_row : {v : ℕ} {row : List ℕ} → v ≡ version_of bytes → t < T → row ≡ row_at table (n + 1) t → RowFits after v n t row
+    puts_row e l er = record {
       version = e ∙ sym changed.version;
       holds = holds_on changed.size changed.version (fits.holds t l);
-      places = ap length er ∙ row-length table (n + 1) t T l fits.size;
+      places = ap length er ∙ row_length table (n + 1) t T l fits.size;
     }
 
-    pub puts-more : t < T → {row next : List ℕ} → row ≡ row_at table (n + 1) t → next ≡ put_arrivals after n t (at row) (n + 1)
+    pub puts_more : t < T → {row next : List ℕ} → row ≡ row_at table (n + 1) t → next ≡ put_arrivals after n t (at row) (n + 1)
         → RowsPut bytes n T table next (from + (n + 1)) (t + 1)
     unfolding put_arrival_rows
-    puts-more l er e = record {
+    puts_more l er e = record {
       within = omega arith;
-      place = omega (arith, h.place, mul-more t (n + 1));
+      place = omega (arith, h.place, mul_more t (n + 1));
       put =
           e
           ∙ ap (λ (x : List ℕ). put_arrivals after n t (at x) (n + 1)) er
@@ -119,5 +119,5 @@ module _ {bytes : List ℕ} {n T : ℕ} {table : List ℕ} where
           ∙ ap (λ (k : ℕ). with_arrivals bytes n k table) (sym (add-one t));
     }
 
-    pub puts-end : T ≤ t → after ≡ with_arrivals bytes n T table
-    puts-end l = let e : t ≡ T = omega (arith, h.within) in h.put ∙ ap (λ (k : ℕ). with_arrivals bytes n k table) e
+    pub puts_end : T ≤ t → after ≡ with_arrivals bytes n T table
+    puts_end l = let e : t ≡ T = omega (arith, h.within) in h.put ∙ ap (λ (k : ℕ). with_arrivals bytes n k table) e

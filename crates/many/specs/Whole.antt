@@ -10,7 +10,7 @@ use Rattle.model.specs.Numbers.{front_of}
 use Rattle.model.specs.declared.Law.{Law}
 use Rattle.model.specs.Refusals.{FaultAnswer, fault}
 use Rattle.model.specs.Reading.{ReadAnswer, reading_of}
-use Rattle.reading.specs.Within.{read-within}
+use Rattle.reading.specs.Within.{read_within_lem}
 use Rattle.model.specs.Many.{arrivals_size, study_count, entry_size, many_fault, run_entry, run_answers, list_after_runs, run_lists, record_after_runs, run_record}
 use Rattle.model.specs.Many.{fill_entry, fill_answers, list_after_fillings, fill_lists, record_after_fillings, fill_record}
 use Rattle.many.specs.Studies.{Studies}
@@ -29,28 +29,28 @@ module _ (bytes arrivals answers : List ℕ) {x : ReadAnswer} (e : x ≡ reading
       → q ≡ fault number place → ManyFinding bytes arrivals answers q n T count
   refuses number place h is eq = record { refusal = eq ∙ is; ready = λ z. absurd (h (ap (λ (f : FaultAnswer). f.number) (sym eq) ∙ z)) }
 
-  pub found-unread : {q : FaultAnswer} {n T count : ℕ} → (x.number ≡ 0 → ⊥) → q ≡ fault x.number x.place → ManyFinding bytes arrivals answers q n T count
+  pub found_unread : {q : FaultAnswer} {n T count : ℕ} → (x.number ≡ 0 → ⊥) → q ≡ fault x.number x.place → ManyFinding bytes arrivals answers q n T count
   unfolding many_fault
-  found-unread h = refuses x.number x.place h (rw (← e, ne_eqb x.number 0 h))
+  found_unread h = refuses x.number x.place h (rw (← e, ne_eqb x.number 0 h))
 
   module _ (z : x.number ≡ 0) where
     -- a table has at least one number, and its size fits a machine number
-    pub size-some : (1 ≤ arrivals_size x.road.n x.steps) × ((x.road.n + 1 ≤ 65) × (arrivals_size x.road.n x.steps ≤ 93600))
-    size-some =
-        let w = read-within bytes x e z in
+    pub size_some : (1 ≤ arrivals_size x.road.n x.steps) × ((x.road.n + 1 ≤ 65) × (arrivals_size x.road.n x.steps ≤ 93600))
+    size_some =
+        let w = read_within_lem bytes x e z in
         let k : x.road.n + 1 ≤ 65 = omega (arith, w.road.cells) in
         (omega (arith, mul-le-mul w.some_steps w.road.some), (k, omega (arith, mul-le-mul w.steps k)))
 
-    pub found-tables : {q : FaultAnswer} {n T count : ℕ} → (length arrivals % arrivals_size x.road.n x.steps ≡ 0 → ⊥) → q ≡ fault 27 1
+    pub found_tables : {q : FaultAnswer} {n T count : ℕ} → (length arrivals % arrivals_size x.road.n x.steps ≡ 0 → ⊥) → q ≡ fault 27 1
         → ManyFinding bytes arrivals answers q n T count
     unfolding many_fault
-    found-tables h = refuses 27 1 (λ i. omega arith) (rw (← e, eq-eqb x.number 0 z, ne_eqb (length arrivals % size) 0 h) refl)
+    found_tables h = refuses 27 1 (λ i. omega arith) (rw (← e, eq-eqb x.number 0 z, ne_eqb (length arrivals % size) 0 h) refl)
 
     module _ (m : length arrivals % arrivals_size x.road.n x.steps ≡ 0) where
-      pub found-room : {q : FaultAnswer} {n T count : ℕ} → length answers / entry_size < length arrivals / arrivals_size x.road.n x.steps → q ≡ fault 27 2
+      pub found_room : {q : FaultAnswer} {n T count : ℕ} → length answers / entry_size < length arrivals / arrivals_size x.road.n x.steps → q ≡ fault 27 2
           → ManyFinding bytes arrivals answers q n T count
       unfolding many_fault
-      found-room l =
+      found_room l =
           let f : length answers < length arrivals / size * entry_size = omega arith in
           refuses 27 2 (λ i. omega arith)
           (rw (← e, eq-eqb x.number 0 z, eq-eqb (length arrivals % size) 0 m, lt-leb (length arrivals / size * entry_size) (length answers) f) refl)
@@ -80,14 +80,14 @@ module _ (bytes lanes arrivals list answers : List ℕ) {q : FaultAnswer} (e : q
   RunManyGives u out left = (q ≡ many_fault bytes arrivals answers)
       × ((u ≡ run_record bytes arrivals answers) × ((out ≡ run_lists bytes lanes arrivals list answers) × (left ≡ run_answers bytes lanes arrivals list answers)))
 
-  pub ran-refused : (q.number ≡ 0 → ⊥) → RunManyGives bytes list answers
+  pub ran_refused : (q.number ≡ 0 → ⊥) → RunManyGives bytes list answers
   unfolding run_record run_lists run_answers
-  ran-refused h = (e, (rw (← e, ne_eqb q.number 0 h) refl, (rw (← e, ne_eqb q.number 0 h) refl, rw (← e, ne_eqb q.number 0 h) refl)))
+  ran_refused h = (e, (rw (← e, ne_eqb q.number 0 h) refl, (rw (← e, ne_eqb q.number 0 h) refl, rw (← e, ne_eqb q.number 0 h) refl)))
 
-  pub ran-all : q.number ≡ 0 → {count : ℕ} → count ≡ study_count bytes arrivals → {u out left : List ℕ} → u ≡ record_after_runs bytes arrivals count
+  pub ran_all : q.number ≡ 0 → {count : ℕ} → count ≡ study_count bytes arrivals → {u out left : List ℕ} → u ≡ record_after_runs bytes arrivals count
       → out ≡ list_after_runs bytes lanes arrivals list count → left ≡ front_of (run_entry bytes lanes arrivals list) entry_size answers count → RunManyGives u out left
   unfolding run_record run_lists run_answers
-  ran-all z ec eu eo ea =
+  ran_all z ec eu eo ea =
       (e, (rw (← e, eq-eqb q.number 0 z, ← ec) eu, (rw (← e, eq-eqb q.number 0 z, ← ec) eo, rw (← e, eq-eqb q.number 0 z, ← ec) ea)))
 
   -- filling
@@ -97,13 +97,13 @@ module _ (bytes lanes arrivals list answers : List ℕ) {q : FaultAnswer} (e : q
         × ((u ≡ fill_record laws bytes lanes arrivals list answers)
         × ((out ≡ fill_lists laws bytes lanes arrivals list answers) × (left ≡ fill_answers laws bytes lanes arrivals list answers)))
 
-    pub filled-refused : (q.number ≡ 0 → ⊥) → FillManyGives bytes list answers
+    pub filled_refused : (q.number ≡ 0 → ⊥) → FillManyGives bytes list answers
     unfolding fill_record fill_lists fill_answers
-    filled-refused h = (e, (rw (← e, ne_eqb q.number 0 h) refl, (rw (← e, ne_eqb q.number 0 h) refl, rw (← e, ne_eqb q.number 0 h) refl)))
+    filled_refused h = (e, (rw (← e, ne_eqb q.number 0 h) refl, (rw (← e, ne_eqb q.number 0 h) refl, rw (← e, ne_eqb q.number 0 h) refl)))
 
-    pub filled-all : q.number ≡ 0 → {count : ℕ} → count ≡ study_count bytes arrivals → {u out left : List ℕ}
+    pub filled_all : q.number ≡ 0 → {count : ℕ} → count ≡ study_count bytes arrivals → {u out left : List ℕ}
         → u ≡ record_after_fillings laws bytes lanes arrivals list count → out ≡ list_after_fillings laws bytes lanes arrivals list count
         → left ≡ front_of (fill_entry laws bytes lanes arrivals list) entry_size answers count → FillManyGives u out left
     unfolding fill_record fill_lists fill_answers
-    filled-all z ec eu eo ea =
+    filled_all z ec eu eo ea =
         (e, (rw (← e, eq-eqb q.number 0 z, ← ec) eu, (rw (← e, eq-eqb q.number 0 z, ← ec) eo, rw (← e, eq-eqb q.number 0 z, ← ec) ea)))

@@ -5,7 +5,7 @@ use Rattle.std.specs.Float.{nan}
 use Rattle.model.specs.Numbers.{at}
 use Rattle.model.specs.Road.{most_cells}
 use Rattle.model.specs.Meter.{law_at}
-use Rattle.meter.specs.MeterLaws.{law-at}
+use Rattle.meter.specs.MeterLaws.{law_at_lem}
 use Rattle.model.specs.declared.Law.{Law}
 use Rattle.model.specs.declared.Law.TheVariants as law
 
@@ -31,9 +31,9 @@ pub record SplitLaws (laws : List Law) (kinds : List ℕ) (numbers : List Float)
   pub threes : length numbers ≡ 3 * most_cells
   pub stored : (j : ℕ) → j < i → law_in kinds numbers j ≡ law_at laws j
 
-pub split-none : {laws : List Law} {kinds : List ℕ} {numbers : List Float} → length kinds ≡ most_cells → length numbers ≡ 3 * most_cells
+pub split_none : {laws : List Law} {kinds : List ℕ} {numbers : List Float} → length kinds ≡ most_cells → length numbers ≡ 3 * most_cells
     → SplitLaws laws kinds numbers 0
-split-none e f = record { within = omega arith; cells = e; threes = f; stored = λ j l. absurd (omega arith) }
+split_none e f = record { within = omega arith; cells = e; threes = f; stored = λ j l. absurd (omega arith) }
 
 module _ {laws : List Law} {kinds : List ℕ} {numbers : List Float} {i : ℕ} (h : SplitLaws laws kinds numbers i) where
   -- storing the numbers of one more law leaves those before it unchanged
@@ -48,37 +48,37 @@ module _ {laws : List Law} {kinds : List ℕ} {numbers : List Float} {i : ℕ} (
         ∙ get_or-set_other numbers (3 * i) k first nan (λ e. omega arith)
 
     module _ (l : i < most_cells) where
-      first-there : get_or next (3 * i) nan ≡ first
-      first-there =
+      first_there : get_or next (3 * i) nan ≡ first
+      first_there =
           get_or-set_other (slice_set (slice_set numbers (3 * i) first) (3 * i + 1) second) (3 * i + 2) (3 * i) third nan (λ e. omega arith)
           ∙ get_or-set_other (slice_set numbers (3 * i) first) (3 * i + 1) (3 * i) second nan (λ e. omega arith)
           ∙ get_or-set_same numbers (3 * i) first nan (omega (arith, h.threes))
 
-      second-there : get_or next (3 * i + 1) nan ≡ second
-      second-there =
+      second_there : get_or next (3 * i + 1) nan ≡ second
+      second_there =
           get_or-set_other (slice_set (slice_set numbers (3 * i) first) (3 * i + 1) second) (3 * i + 2) (3 * i + 1) third nan (λ e. omega arith)
           ∙ get_or-set_same (slice_set numbers (3 * i) first) (3 * i + 1) second nan (omega (arith, h.threes, length-set numbers (3 * i) first))
 
-      third-there : get_or next (3 * i + 2) nan ≡ third
-      third-there =
+      third_there : get_or next (3 * i + 2) nan ≡ third
+      third_there =
           get_or-set_same (slice_set (slice_set numbers (3 * i) first) (3 * i + 1) second) (3 * i + 2) third nan
           (omega (arith, h.threes, length-set numbers (3 * i) first, length-set (slice_set numbers (3 * i) first) (3 * i + 1) second))
 
       -- one more law is stored
-      pub split-more : (kind : ℕ) (d : Law) → i < length laws → law_by kind first second third ≡ slice_index_or laws i d
+      pub split_more : (kind : ℕ) (d : Law) → i < length laws → law_by kind first second third ≡ slice_index_or laws i d
           → SplitLaws laws (slice_set kinds i kind) (slice_set (slice_set (slice_set numbers (3 * i) first) (3 * i + 1) second) (3 * i + 2) third) (i + 1)
-      split-more kind d inside e = record {
+      split_more kind d inside e = record {
         within = omega arith;
         cells = simp length-set h.cells;
         threes = simp length-set h.threes;
         stored = λ j m. ⊎_elim
             (λ (p : j ≡ i).
-            rw (p, get_or-set_same kinds i kind 0 (omega (arith, h.cells)), first-there, second-there, third-there) (e ∙ law-at laws i d inside))
+            rw (p, get_or-set_same kinds i kind 0 (omega (arith, h.cells)), first_there, second_there, third_there) (e ∙ law_at_lem laws i d inside))
             (λ (p : j < i).
             rw (get_or-set_other kinds i j kind 0 (λ q. omega arith), kept (3 * j) (omega arith), kept (3 * j + 1) (omega arith), kept (3 * j + 2) (omega arith))
             (h.stored j p))
             (eq-or-lt_of_le (let k : j ≤ i = omega arith in k));
       }
 
-  pub split-end : most_cells ≤ i → InColumns laws kinds numbers
-  split-end m j l = h.stored j (omega arith)
+  pub split_end : most_cells ≤ i → InColumns laws kinds numbers
+  split_end m j l = h.stored j (omega arith)

@@ -13,78 +13,78 @@ use Rattle.std.specs.Float.Ieee.Fits.{down_pos}
 use Rattle.std.specs.Float.Ieee.Exact.{HasValue}
 use Rattle.std.specs.Float.Ieee.Back.{round_whole}
 use Rattle.std.specs.Float.Ieee.Order.{le_of_values}
-use Rattle.std.specs.Float.Ieee.Positive.{above, positive as positive-float, positive_of_value, above_of_le, values_of_le}
+use Rattle.std.specs.Float.Ieee.Positive.{above, positive as positive_float, positive_of_value, above_of_le, values_of_le}
 use Rattle.std.specs.Float.Ieee.Scale.{finite, round_same}
 use Rattle.model.specs.Numbers.{at, unless, first_of, all_of}
 use Rattle.numbers.specs.Tests.{order}
-use Rattle.numbers.specs.FirstLaws.{First, PassedTests, first, first-is, all-at, all_true, passed-stop, passed-fails, passed-all}
+use Rattle.numbers.specs.FirstLaws.{First, PassedTests, first, first_is, all_at, all_true, passed_stop, passed_fails, passed_all}
 use Rattle.model.specs.declared.DemandCapacity.{DemandCapacity}
 use Rattle.model.specs.declared.Law.{Law}
 use Rattle.model.specs.Meter.{count, demand_capacity_of, whole_below, law_finite, law_at, law_ok, law_fault_of}
 
 -- the wish of demand-capacity, up to the critical count and above it
 module _ (p : DemandCapacity) (entered held : ℕ) where
-  pub up-to-critical : le (count held) p.critical ≡ true → sub binary64 p.capacity (count entered) ≡ demand_capacity_of p entered held
+  pub up_to_critical : le (count held) p.critical ≡ true → sub binary64 p.capacity (count entered) ≡ demand_capacity_of p entered held
   unfolding demand_capacity_of
-  up-to-critical h = rw h
+  up_to_critical h = rw h
 
-  pub above-critical : le (count held) p.critical ≡ false → p.least ≡ demand_capacity_of p entered held
+  pub above_critical : le (count held) p.critical ≡ false → p.least ≡ demand_capacity_of p entered held
   unfolding demand_capacity_of
-  above-critical h = rw h
+  above_critical h = rw h
 
 -- the release
 
 -- the release of 2.5, of 3, of −2.5 and of an infinite wish
-on-paper : (whole_below (fin false 5 (negsuc 0)) 9 ≡ 2)
+on_paper : (whole_below (fin false 5 (negsuc 0)) 9 ≡ 2)
     × ((whole_below (fin false 3 (pos 0)) 9 ≡ 3) × ((whole_below (fin true 5 (negsuc 0)) 9 ≡ 0) × (whole_below (inf false) 9 ≡ 9)))
 unfolding whole_below
-on-paper = (refl, (refl, (refl, refl)))
+on_paper = (refl, (refl, (refl, refl)))
 
 -- the release is at most the cap
-pub whole-most : (x : Float) (cap : ℕ) → whole_below x cap ≤ cap
+pub whole_most : (x : Float) (cap : ℕ) → whole_below x cap ≤ cap
 unfolding whole_below
-whole-most nan cap = omega arith
-whole-most (inf true) cap = omega arith
-whole-most (inf false) cap = omega arith
-whole-most (fin true m e) cap = omega arith
-whole-most (fin false m e) cap = omega arith
+whole_most nan cap = omega arith
+whole_most (inf true) cap = omega arith
+whole_most (inf false) cap = omega arith
+whole_most (fin true m e) cap = omega arith
+whole_most (fin false m e) cap = omega arith
 
 -- with a smaller cap the release is the smaller of the two
-pub whole-cap : (x : Float) (most cap : ℕ) → cap ≤ most → whole_below x cap ≡ min (whole_below x most) cap
+pub whole_cap : (x : Float) (most cap : ℕ) → cap ≤ most → whole_below x cap ≡ min (whole_below x most) cap
 unfolding whole_below
-whole-cap nan most cap h = omega arith
-whole-cap (inf true) most cap h = omega arith
-whole-cap (inf false) most cap h = omega arith
-whole-cap (fin true m e) most cap h = omega arith
-whole-cap (fin false m e) most cap h = omega arith
+whole_cap nan most cap h = omega arith
+whole_cap (inf true) most cap h = omega arith
+whole_cap (inf false) most cap h = omega arith
+whole_cap (fin true m e) most cap h = omega arith
+whole_cap (fin false m e) most cap h = omega arith
 
 -- it is 0 for a wish that is negative or not a number, and positive infinity gives the cap
 pub whole_nan : (cap : ℕ) → whole_below nan cap ≡ 0
 unfolding whole_below
 whole_nan cap = refl
 
-pub whole-negative : (x : Float) (cap : ℕ) → lt x (count 0) ≡ true → whole_below x cap ≡ 0
+pub whole_negative : (x : Float) (cap : ℕ) → lt x (count 0) ≡ true → whole_below x cap ≡ 0
 unfolding whole_below lt of_int
-whole-negative nan cap h = refl
-whole-negative (inf true) cap h = refl
-whole-negative (inf false) cap h = absurd (true≢false (sym h))
-whole-negative (fin true m e) cap h = refl
-whole-negative (fin false m e) cap h = absurd (omega (arith, ltb-true (m * up e * 1) (0 * down e) h, zero-mul (down e)))
+whole_negative nan cap h = refl
+whole_negative (inf true) cap h = refl
+whole_negative (inf false) cap h = absurd (true≢false (sym h))
+whole_negative (fin true m e) cap h = refl
+whole_negative (fin false m e) cap h = absurd (omega (arith, ltb-true (m * up e * 1) (0 * down e) h, zero-mul (down e)))
 
-pub whole-infinite : (cap : ℕ) → whole_below (inf false) cap ≡ cap
+pub whole_infinite : (cap : ℕ) → whole_below (inf false) cap ≡ cap
 unfolding whole_below
-whole-infinite cap = refl
+whole_infinite cap = refl
 
 -- a 64-bit float represents each count of 32 bits exactly
-pub count-value : (k : ℕ) → k < 2 ^ 32 → HasValue (count k) false k 1
+pub count_value : (k : ℕ) → k < 2 ^ 32 → HasValue (count k) false k 1
 unfolding of_int
-count-value k h = round_whole binary64 false k (omega arith)
+count_value k h = round_whole binary64 false k (omega arith)
 
-below-infinity : (y : Float) (k : ℕ) → HasValue y false k 1 → T (le y (inf false))
+below_infinity : (y : Float) (k : ℕ) → HasValue y false k 1 → T (le y (inf false))
 unfolding le
-below-infinity nan k h = absurd h
-below-infinity (inf s) k h = absurd h
-below-infinity (fin s m e) k h = tt
+below_infinity nan k h = absurd h
+below_infinity (inf s) k h = absurd h
+below_infinity (fin s m e) k h = tt
 
 module _ (cap k : ℕ) (some : 0 < k) (within : k ≤ cap) (short : k < 2 ^ 32) where
   -- a count up to the cap that is not above the wish is at most the release
@@ -92,8 +92,8 @@ module _ (cap k : ℕ) (some : 0 < k) (within : k ≤ cap) (short : k < 2 ^ 32) 
   unfolding whole_below
   at_most x t = go x t (above_of_le (count k) x positive t)
     where
-      positive : T (positive-float (count k))
-      positive = positive_of_value (count k) k 1 (count-value k short) some
+      positive : T (positive_float (count k))
+      positive = positive_of_value (count k) k 1 (count_value k short) some
 
       go : (x : Float) → T (le (count k) x) → T (above x) → k ≤ whole_below x cap
       go nan t a = absurd a
@@ -101,19 +101,19 @@ module _ (cap k : ℕ) (some : 0 < k) (within : k ≤ cap) (short : k < 2 ^ 32) 
       go (inf false) t a = within
       go (fin true m e) t a = absurd a
       go (fin false m e) t a =
-          let h = values_of_le (count k) (fin false m e) k 1 (m * up e) (down e) positive a (count-value k short) (refl, refl) t in
+          let h = values_of_le (count k) (fin false m e) k 1 (m * up e) (down e) positive a (count_value k short) (refl, refl) t in
           omega (arith, (le-div_iff_mul-le {k = down e} {x = k} {y = m * up e} (down_pos e)).1 (omega arith))
 
   -- a count that is at most the release is not above the wish
-  not-above : (x : Float) → k ≤ whole_below x cap → T (le (count k) x)
+  not_above : (x : Float) → k ≤ whole_below x cap → T (le (count k) x)
   unfolding whole_below
-  not-above nan h = absurd (omega arith)
-  not-above (inf true) h = absurd (omega arith)
-  not-above (inf false) h = below-infinity (count k) k (count-value k short)
-  not-above (fin true m e) h = absurd (omega arith)
-  not-above (fin false m e) h =
+  not_above nan h = absurd (omega arith)
+  not_above (inf true) h = absurd (omega arith)
+  not_above (inf false) h = below_infinity (count k) k (count_value k short)
+  not_above (fin true m e) h = absurd (omega arith)
+  not_above (fin false m e) h =
       let l : k * down e ≤ m * up e = (le-div_iff_mul-le {k = down e} {x = k} {y = m * up e} (down_pos e)).0 (omega arith) in
-      le_of_values (count k) (fin false m e) k 1 (m * up e) (down e) (lit< tt) (down_pos e) (count-value k short) (refl, refl) (omega arith)
+      le_of_values (count k) (fin false m e) k 1 (m * up e) (down e) (lit< tt) (down_pos e) (count_value k short) (refl, refl) (omega arith)
 
 -- two tests that imply each other are equal
 same : (a b : Bool) → (T a → T b) → (T b → T a) → a ≡ b
@@ -123,63 +123,63 @@ same true false f g = absurd (f tt)
 same false true f g = absurd (g tt)
 
 -- so the release is the greatest whole number up to the cap that is not above the wish
-pub whole-agrees : (x : Float) (cap k : ℕ) → 0 < k → k ≤ cap → k < 2 ^ 32 → le (count k) x ≡ nat_le k (whole_below x cap)
-whole-agrees x cap k some within short =
+pub whole_agrees : (x : Float) (cap k : ℕ) → 0 < k → k ≤ cap → k < 2 ^ 32 → le (count k) x ≡ nat_le k (whole_below x cap)
+whole_agrees x cap k some within short =
     same (le (count k) x) (nat_le k (whole_below x cap))
     (λ t. le→leb k (whole_below x cap) (at_most cap k some within short x t))
-    (λ t. not-above cap k some within short x (leb→le k (whole_below x cap) t))
+    (λ t. not_above cap k some within short x (leb→le k (whole_below x cap) t))
 
-pub whole-not-above : (x : Float) (cap : ℕ) → 0 < whole_below x cap → cap < 2 ^ 32 → le (count (whole_below x cap)) x ≡ true
-whole-not-above x cap some short =
-    let most = whole-most x cap in
-    whole-agrees x cap (whole_below x cap) some most (omega arith) ∙ le-leb (whole_below x cap) (whole_below x cap) (le_refl (whole_below x cap))
+pub whole_not_above : (x : Float) (cap : ℕ) → 0 < whole_below x cap → cap < 2 ^ 32 → le (count (whole_below x cap)) x ≡ true
+whole_not_above x cap some short =
+    let most = whole_most x cap in
+    whole_agrees x cap (whole_below x cap) some most (omega arith) ∙ le-leb (whole_below x cap) (whole_below x cap) (le_refl (whole_below x cap))
 
-pub whole-greatest : (x : Float) (cap k : ℕ) → 0 < k → k ≤ cap → cap < 2 ^ 32 → le (count k) x ≡ true → k ≤ whole_below x cap
-whole-greatest x cap k some within short h = leb-true k (whole_below x cap) (sym (whole-agrees x cap k some within (omega arith)) ∙ h)
+pub whole_greatest : (x : Float) (cap k : ℕ) → 0 < k → k ≤ cap → cap < 2 ^ 32 → le (count k) x ≡ true → k ≤ whole_below x cap
+whole_greatest x cap k some within short h = leb-true k (whole_below x cap) (sym (whole_agrees x cap k some within (omega arith)) ∙ h)
 
-pub whole-under : (x : Float) (cap k : ℕ) → 0 < k → k ≤ cap → cap < 2 ^ 32 → le (count k) x ≡ false → whole_below x cap < k
-whole-under x cap k some within short h = leb-false k (whole_below x cap) (sym (whole-agrees x cap k some within (omega arith)) ∙ h)
+pub whole_under : (x : Float) (cap k : ℕ) → 0 < k → k ≤ cap → cap < 2 ^ 32 → le (count k) x ≡ false → whole_below x cap < k
+whole_under x cap k some within short h = leb-false k (whole_below x cap) (sym (whole_agrees x cap k some within (omega arith)) ∙ h)
 
 -- the wish without its fraction
 
 -- if the cap is below 2 ^ 32, the release is the smaller of the cap and the wish without its fraction
-whole-cut : (x : Float) (cap : ℕ) → cap < 2 ^ 32 → whole_below x cap ≡ min (to_unsigned 64 x) cap
+whole_cut : (x : Float) (cap : ℕ) → cap < 2 ^ 32 → whole_below x cap ≡ min (to_unsigned 64 x) cap
 unfolding whole_below to_unsigned
-whole-cut nan cap h = omega arith
-whole-cut (inf true) cap h = omega arith
-whole-cut (inf false) cap h = omega arith
-whole-cut (fin true m e) cap h = omega arith
-whole-cut (fin false m e) cap h = omega arith
+whole_cut nan cap h = omega arith
+whole_cut (inf true) cap h = omega arith
+whole_cut (inf false) cap h = omega arith
+whole_cut (fin true m e) cap h = omega arith
+whole_cut (fin false m e) cap h = omega arith
 
 -- a wish at or above the cap gives the cap
-pub whole-all : (x : Float) (cap : ℕ) → cap < 2 ^ 32 → le (count cap) x ≡ true → cap ≡ whole_below x cap
-whole-all x zero h t = omega (arith, whole-most x 0)
-whole-all x (suc k) h t = omega (arith, whole-most x (suc k), whole-greatest x (suc k) (suc k) (omega arith) (omega arith) h t)
+pub whole_all : (x : Float) (cap : ℕ) → cap < 2 ^ 32 → le (count cap) x ≡ true → cap ≡ whole_below x cap
+whole_all x zero h t = omega (arith, whole_most x 0)
+whole_all x (suc k) h t = omega (arith, whole_most x (suc k), whole_greatest x (suc k) (suc k) (omega arith) (omega arith) h t)
 
-zero-value : HasValue (of_bits binary64 0) false 0 1
+zero_value : HasValue (of_bits binary64 0) false 0 1
 unfolding of_bits
-zero-value = (refl, refl)
+zero_value = (refl, refl)
 
 -- a wish that is not at least 0 gives 0
-pub whole-none : (x : Float) (cap : ℕ) → le (of_bits binary64 0) x ≡ false → 0 ≡ whole_below x cap
+pub whole_none : (x : Float) (cap : ℕ) → le (of_bits binary64 0) x ≡ false → 0 ≡ whole_below x cap
 unfolding whole_below
-whole-none nan cap h = refl
-whole-none (inf true) cap h = refl
-whole-none (inf false) cap h = absurd (subst T h (below-infinity (of_bits binary64 0) 0 zero-value))
-whole-none (fin true m e) cap h = refl
-whole-none (fin false m e) cap h =
-    absurd (subst T h (le_of_values (of_bits binary64 0) (fin false m e) 0 1 (m * up e) (down e) (lit< tt) (down_pos e) zero-value (refl, refl) (omega arith)))
+whole_none nan cap h = refl
+whole_none (inf true) cap h = refl
+whole_none (inf false) cap h = absurd (subst T h (below_infinity (of_bits binary64 0) 0 zero_value))
+whole_none (fin true m e) cap h = refl
+whole_none (fin false m e) cap h =
+    absurd (subst T h (le_of_values (of_bits binary64 0) (fin false m e) 0 1 (m * up e) (down e) (lit< tt) (down_pos e) zero_value (refl, refl) (omega arith)))
 
 -- between 0 and the cap the release is the wish without its fraction
-pub whole-between : (x : Float) (cap : ℕ) → cap < 2 ^ 32 → le (count cap) x ≡ false → le (of_bits binary64 0) x ≡ true → to_unsigned 64 x ≡ whole_below x cap
+pub whole_between : (x : Float) (cap : ℕ) → cap < 2 ^ 32 → le (count cap) x ≡ false → le (of_bits binary64 0) x ≡ true → to_unsigned 64 x ≡ whole_below x cap
 unfolding of_bits le of_int
-whole-between x zero h t u = absurd (true≢false (sym u ∙ t))
-whole-between x (suc k) h t u =
-    omega (arith, whole-cut x (suc k) h, whole-under x (suc k) (suc k) (omega arith) (omega arith) h t)
+whole_between x zero h t u = absurd (true≢false (sym u ∙ t))
+whole_between x (suc k) h t u =
+    omega (arith, whole_cut x (suc k) h, whole_under x (suc k) (suc k) (omega arith) (omega arith) h t)
 
-first-true : (s t : Bool) → s && t ≡ true → s ≡ true
-first-true true t h = refl
-first-true false t h = h
+first_true : (s t : Bool) → s && t ≡ true → s ≡ true
+first_true true t h = refl
+first_true false t h = h
 
 -- such a wish is above −1
 pub above_minus_one : (x : Float) → le (of_bits binary64 0) x ≡ true → T (lt (fin true 1 (pos 0)) x)
@@ -188,103 +188,103 @@ above_minus_one nan h = absurd (true≢false (sym h))
 above_minus_one (inf true) h = absurd (true≢false (sym h))
 above_minus_one (inf false) h = tt
 above_minus_one (fin true m e) h =
-    let zero-wish = eqb-true (0 * down e) (m * up e * 1) (first-true _ _ h) in
-    lt→ltb (m * up e * 1) (1 * down e) (omega (arith, zero-wish, down_pos e, zero-mul (down e)))
+    let zero_wish = eqb-true (0 * down e) (m * up e * 1) (first_true _ _ h) in
+    lt→ltb (m * up e * 1) (1 * down e) (omega (arith, zero_wish, down_pos e, zero-mul (down e)))
 above_minus_one (fin false m e) h = lt→ltb 0 (1 * down e + m * up e * 1) (omega (arith, down_pos e))
 
 -- and it is below 2 ^ 64
-pub below-cast : (x : Float) (cap : ℕ) → cap < 2 ^ 32 → le (count cap) x ≡ false → le (of_bits binary64 0) x ≡ true → T (lt x (fin false 1 (pos 64)))
+pub below_cast : (x : Float) (cap : ℕ) → cap < 2 ^ 32 → le (count cap) x ≡ false → le (of_bits binary64 0) x ≡ true → T (lt x (fin false 1 (pos 64)))
 unfolding lt le eq of_bits of_int whole_below
-below-cast nan cap h t u = absurd (true≢false (sym u))
-below-cast (inf true) cap h t u = tt
-below-cast (inf false) cap h t u = absurd (subst T t (below-infinity (count cap) cap (count-value cap h)))
-below-cast (fin true m e) cap h t u = lt→ltb 0 (m * up e * 1 + 18446744073709551616 * down e) (omega (arith, down_pos e))
-below-cast (fin false m e) zero h t u = absurd (true≢false (sym u ∙ t))
-below-cast (fin false m e) (suc k) h t u =
-    let low = whole-under (fin false m e) (suc k) (suc k) (omega arith) (omega arith) h t in
+below_cast nan cap h t u = absurd (true≢false (sym u))
+below_cast (inf true) cap h t u = tt
+below_cast (inf false) cap h t u = absurd (subst T t (below_infinity (count cap) cap (count_value cap h)))
+below_cast (fin true m e) cap h t u = lt→ltb 0 (m * up e * 1 + 18446744073709551616 * down e) (omega (arith, down_pos e))
+below_cast (fin false m e) zero h t u = absurd (true≢false (sym u ∙ t))
+below_cast (fin false m e) (suc k) h t u =
+    let low = whole_under (fin false m e) (suc k) (suc k) (omega arith) (omega arith) h t in
     let cut = (div-lt_iff_lt-mul {k = down e} {x = m * up e} {y = 2 ^ 64} (down_pos e)).0 (omega (arith, low)) in
     lt→ltb (m * up e * 1) (18446744073709551616 * down e) (omega (arith, cut))
 
 -- finite numbers
 
 -- a zero over any c rounds to 0
-zero-rounds : (sign : Bool) (c : ℕ) → sign ≡ false → 0 < c → eq (round binary64 sign 0 c) (of_bits binary64 0) ≡ true
+zero_rounds : (sign : Bool) (c : ℕ) → sign ≡ false → 0 < c → eq (round binary64 sign 0 c) (of_bits binary64 0) ≡ true
 unfolding eq of_bits round
-zero-rounds sign c p h = rw (p, round_same binary64 false 0 c 0 1 h (lit< tt) (sym (zero-mul c)))
+zero_rounds sign c p h = rw (p, round_same binary64 false 0 c 0 1 h (lit< tt) (sym (zero-mul c)))
 
 -- a finite number less itself is 0
-less-itself : (a c : ℕ) (s : Bool) → 0 < c
+less_itself : (a c : ℕ) (s : Bool) → 0 < c
     → eq (cond (nat_lt a a) (round binary64 (not s) (a - a) c) (round binary64 (s && nat_lt a a) (a - a) c)) (of_bits binary64 0) ≡ true
-less-itself a c s h = rw (le-ltb a a (le_refl a), sub_self a) (zero-rounds (s && false) c (none s) h)
+less_itself a c s h = rw (le-ltb a a (le_refl a), sub_self a) (zero_rounds (s && false) c (none s) h)
   where
     none : (s : Bool) → (s && false) ≡ false
     none true = refl
     none false = refl
 
 -- a number less itself is 0 exactly if it is finite
-pub finite-test : (x : Float) → eq (sub binary64 x x) (of_bits binary64 0) ≡ finite x
+pub finite_test : (x : Float) → eq (sub binary64 x x) (of_bits binary64 0) ≡ finite x
 unfolding sub eq of_bits
-finite-test nan = refl
-finite-test (inf true) = refl
-finite-test (inf false) = refl
-finite-test (fin true m e) = less-itself (m * up e * down e) (down e * down e) true (mul-pos (down_pos e) (down_pos e))
-finite-test (fin false m e) = less-itself (m * up e * down e) (down e * down e) false (mul-pos (down_pos e) (down_pos e))
+finite_test nan = refl
+finite_test (inf true) = refl
+finite_test (inf false) = refl
+finite_test (fin true m e) = less_itself (m * up e * down e) (down e * down e) true (mul-pos (down_pos e) (down_pos e))
+finite_test (fin false m e) = less_itself (m * up e * down e) (down e * down e) false (mul-pos (down_pos e) (down_pos e))
 
 -- two tests joined by `&&`, each replaced by an equal one
-pub both-are : {s t u v : Bool} → s ≡ u → t ≡ v → s && t ≡ u && v
-both-are p q = rw (p, q)
+pub both_are : {s t u v : Bool} → s ≡ u → t ≡ v → s && t ≡ u && v
+both_are p q = rw (p, q)
 
 -- 16
 
 -- the cell at i passes if it has no ramp, or if all numbers of its law are finite
-pub ok-no-ramp : (laws : List Law) (ramp : List ℕ) (i : ℕ) → at ramp i ≡ 0 → law_ok laws ramp i ≡ true
+pub ok_no_ramp : (laws : List Law) (ramp : List ℕ) (i : ℕ) → at ramp i ≡ 0 → law_ok laws ramp i ≡ true
 unfolding law_ok
-ok-no-ramp laws ramp i e = rw (eq-eqb (at ramp i) 0 e)
+ok_no_ramp laws ramp i e = rw (eq-eqb (at ramp i) 0 e)
 
-pub ok-ramp : (laws : List Law) (ramp : List ℕ) (i : ℕ) → (at ramp i ≢ 0) → law_ok laws ramp i ≡ law_finite (law_at laws i)
+pub ok_ramp : (laws : List Law) (ramp : List ℕ) (i : ℕ) → (at ramp i ≢ 0) → law_ok laws ramp i ≡ law_finite (law_at laws i)
 unfolding law_ok
-ok-ramp laws ramp i ne = rw (ne_eqb (at ramp i) 0 ne)
+ok_ramp laws ramp i ne = rw (ne_eqb (at ramp i) 0 ne)
 
 -- an entry within a list does not depend on the default
-any-default : (l : List Law) (i : ℕ) (d e : Law) → i < length l → slice_index_or l i d ≡ slice_index_or l i e
-any-default [] i d e h = absurd (omega arith)
-any-default (x ∷ l) zero d e h = refl
-any-default (x ∷ l) (suc i) d e h = any-default l i d e (le_of_suc-le-suc h)
+any_default : (l : List Law) (i : ℕ) (d e : Law) → i < length l → slice_index_or l i d ≡ slice_index_or l i e
+any_default [] i d e h = absurd (omega arith)
+any_default (x ∷ l) zero d e h = refl
+any_default (x ∷ l) (suc i) d e h = any_default l i d e (le_of_suc-le-suc h)
 
-pub law-at : (laws : List Law) (i : ℕ) (d : Law) → i < length laws → slice_index_or laws i d ≡ law_at laws i
-law-at laws i d h = any-default laws i d (law_at [] 0) h
+pub law_at_lem : (laws : List Law) (i : ℕ) (d : Law) → i < length laws → slice_index_or laws i d ≡ law_at laws i
+law_at_lem laws i d h = any_default laws i d (law_at [] 0) h
 
 -- the code's test of the cell at i is this test
-pub ok-is : (laws : List Law) (ramp : List ℕ) (i : ℕ) (d : Law) {t : Bool} → i < length laws → t ≡ law_finite (slice_index_or laws i d)
+pub ok_is : (laws : List Law) (ramp : List ℕ) (i : ℕ) (d : Law) {t : Bool} → i < length laws → t ≡ law_finite (slice_index_or laws i d)
     → (at ramp i == 0) || t ≡ law_ok laws ramp i
 unfolding law_ok
-ok-is laws ramp i d h e = rw (e, law-at laws i d h)
+ok_is laws ramp i d h e = rw (e, law_at_lem laws i d h)
 
 -- the loop over the cells ends at the first that fails, after the last, or past the arrays, where there is no ramp
 module _ (laws : List Law) (ramp : List ℕ) {n i : ℕ} (h : PassedTests (law_ok laws ramp) n i) where
-  pub fault-stop : {t : Bool} → i < n → t ≡ law_ok laws ramp i → t ≡ false → i + 1 ≡ law_fault_of laws ramp n
+  pub fault_stop : {t : Bool} → i < n → t ≡ law_ok laws ramp i → t ≡ false → i + 1 ≡ law_fault_of laws ramp n
   unfolding law_fault_of
-  fault-stop l e z = rw (← passed-fails h l e z, ← passed-stop h l e z)
+  fault_stop l e z = rw (← passed_fails h l e z, ← passed_stop h l e z)
 
-  pub fault-end : n ≤ i → 0 ≡ law_fault_of laws ramp n
+  pub fault_end : n ≤ i → 0 ≡ law_fault_of laws ramp n
   unfolding law_fault_of
-  fault-end l = rw (← passed-all h l)
+  fault_end l = rw (← passed_all h l)
 
   pub fault_past : length ramp ≤ i → 0 ≡ law_fault_of laws ramp n
   unfolding law_fault_of
   fault_past l = rw (all_true (law_ok laws ramp) n (λ j m. ⊎_elim (past j) (h.before j) (order i j)))
     where
       past : (j : ℕ) → i ≤ j → law_ok laws ramp j ≡ true
-      past j m = ok-no-ramp laws ramp j (get_or-eq_default ramp 0 (omega arith))
+      past j m = ok_no_ramp laws ramp j (get_or-eq_default ramp 0 (omega arith))
 
 -- the place of 16 is 0 if every ramp's law has only finite numbers
-pub fault-none : (laws : List Law) (ramp : List ℕ) (n : ℕ) → law_fault_of laws ramp n ≡ 0
+pub fault_none : (laws : List Law) (ramp : List ℕ) (n : ℕ) → law_fault_of laws ramp n ≡ 0
     → (i : ℕ) → i < n → (at ramp i ≢ 0) → law_finite (law_at laws i) ≡ true
 unfolding law_fault_of
-fault-none laws ramp n h i l ne = sym (ok-ramp laws ramp i ne) ∙ go (all_of (law_ok laws ramp) n) refl h
+fault_none laws ramp n h i l ne = sym (ok_ramp laws ramp i ne) ∙ go (all_of (law_ok laws ramp) n) refl h
   where
     go : (t : Bool) → all_of (law_ok laws ramp) n ≡ t → unless t (first_of (law_ok laws ramp) n + 1) 0 ≡ 0 → law_ok laws ramp i ≡ true
-    go true e z = all-at (law_ok laws ramp) n e i l
+    go true e z = all_at (law_ok laws ramp) n e i l
     go false e z = absurd (omega arith)
 
 -- otherwise it is the lowest cell, counted from 1, with a ramp and a law with a number that isn't finite
@@ -294,9 +294,9 @@ pub record LowestFault (laws : List Law) (ramp : List ℕ) (n i : ℕ) : Type 0 
   pub broken : law_finite (law_at laws i) ≡ false
   pub before : (j : ℕ) → j < i → (at ramp j ≢ 0) → law_finite (law_at laws j) ≡ true
 
-pub fault-lowest : (laws : List Law) (ramp : List ℕ) (n i : ℕ) → law_fault_of laws ramp n ≡ i + 1 → LowestFault laws ramp n i
+pub fault_lowest : (laws : List Law) (ramp : List ℕ) (n i : ℕ) → law_fault_of laws ramp n ≡ i + 1 → LowestFault laws ramp n i
 unfolding law_fault_of
-fault-lowest laws ramp n i h = go (all_of (law_ok laws ramp) n) refl h
+fault_lowest laws ramp n i h = go (all_of (law_ok laws ramp) n) refl h
   where
     go : (t : Bool) → all_of (law_ok laws ramp) n ≡ t → unless t (first_of (law_ok laws ramp) n + 1) 0 ≡ i + 1 → LowestFault laws ramp n i
     go true e q = absurd (omega arith)
@@ -306,28 +306,28 @@ fault-lowest laws ramp n i h = go (all_of (law_ok laws ramp) n) refl h
         let lowest : First f n i = subst (First f n) there (first f n) in
         let cell : i < n = omega (arith, lowest.within, eqb-false (first_of f n) n e) in
         let stops = lowest.stops cell in
-        let marked : at ramp i ≡ 0 → ⊥ = λ z. true≢false (sym (ok-no-ramp laws ramp i z) ∙ stops) in
+        let marked : at ramp i ≡ 0 → ⊥ = λ z. true≢false (sym (ok_no_ramp laws ramp i z) ∙ stops) in
         record {
           cell = cell;
           marked = marked;
-          broken = sym (ok-ramp laws ramp i marked) ∙ stops;
-          before = λ j l ne. sym (ok-ramp laws ramp j ne) ∙ lowest.before j l;
+          broken = sym (ok_ramp laws ramp i marked) ∙ stops;
+          before = λ j l ne. sym (ok_ramp laws ramp j ne) ∙ lowest.before j l;
         }
 
 -- laws of cells without a ramp and past cell n are ignored
-pub fault-unread : (laws laws' : List Law) (ramp : List ℕ) (n : ℕ)
+pub fault_unread : (laws laws' : List Law) (ramp : List ℕ) (n : ℕ)
     → ((i : ℕ) → i < n → (at ramp i ≢ 0) → law_at laws i ≡ law_at laws' i) → law_fault_of laws ramp n ≡ law_fault_of laws' ramp n
 unfolding law_fault_of
-fault-unread laws laws' ramp n h = ap (λ (p : ℕ). unless (p == n) (p + 1) 0) (sym (first-is (law_ok laws' ramp) n (first_of (law_ok laws ramp) n) found))
+fault_unread laws laws' ramp n h = ap (λ (p : ℕ). unless (p == n) (p + 1) 0) (sym (first_is (law_ok laws' ramp) n (first_of (law_ok laws ramp) n) found))
   where
     alike : (i : ℕ) → i < n → law_ok laws' ramp i ≡ law_ok laws ramp i
     alike i l = go (at ramp i == 0) refl
       where
         go : (t : Bool) → (at ramp i == 0) ≡ t → law_ok laws' ramp i ≡ law_ok laws ramp i
-        go true e = let z = eqb-true (at ramp i) 0 e in ok-no-ramp laws' ramp i z ∙ sym (ok-no-ramp laws ramp i z)
+        go true e = let z = eqb-true (at ramp i) 0 e in ok_no_ramp laws' ramp i z ∙ sym (ok_no_ramp laws ramp i z)
         go false e =
             let ne = eqb-false (at ramp i) 0 e in
-            ok-ramp laws' ramp i ne ∙ ap law_finite (sym (h i l ne)) ∙ sym (ok-ramp laws ramp i ne)
+            ok_ramp laws' ramp i ne ∙ ap law_finite (sym (h i l ne)) ∙ sym (ok_ramp laws ramp i ne)
 
     found : First (law_ok laws' ramp) n (first_of (law_ok laws ramp) n)
     found =

@@ -31,14 +31,14 @@ after zero = start
 after (suc k) = (stepping_of road (after k) (row 300) built built).state
 
 -- one line of the printed run: outflow in step k, held or gate queue after it, ramp queue after it
-unfoldable pub gate-line : ℕ → ℕ → ℕ → List Edge
-gate-line k outflow queue =
+unfoldable pub gate_line : ℕ → ℕ → ℕ → List Edge
+gate_line k outflow queue =
     edge (after (suc k)).gate_cumulative ((after k).gate_cumulative + outflow)
     ∷ edge (after (suc k)).gate_queue queue
     ∷ []
 
-unfoldable pub cell-line : ℕ → ℕ → ℕ → ℕ → ℕ → List Edge
-cell-line k i outflow held queue =
+unfoldable pub cell_line : ℕ → ℕ → ℕ → ℕ → ℕ → List Edge
+cell_line k i outflow held queue =
     edge (at (after (suc k)).cumulative i) (at (after k).cumulative i + outflow)
     ∷ edge (at (after (suc k)).held i) held
     ∷ edge (at (after (suc k)).queue i) queue
@@ -98,15 +98,15 @@ rules =
 -- steps 0, 1 and 2 of the printed run, and its last line
 unfoldable pub run : List Edge
 run =
-    gate-line 0 1500 2500
-    ++ cell-line 0 0 934 2566 0
-    ++ cell-line 0 1 1000 4000 1700
-    ++ gate-line 1 1358 2142
-    ++ cell-line 1 0 933 2991 0
-    ++ cell-line 1 1 1000 4000 1900
-    ++ gate-line 2 1252 1890
-    ++ cell-line 2 0 934 3309 0
-    ++ cell-line 2 1 1000 4000 2100
+    gate_line 0 1500 2500
+    ++ cell_line 0 0 934 2566 0
+    ++ cell_line 0 1 1000 4000 1700
+    ++ gate_line 1 1358 2142
+    ++ cell_line 1 0 933 2991 0
+    ++ cell_line 1 1 1000 4000 1900
+    ++ gate_line 2 1252 1890
+    ++ cell_line 2 0 934 3309 0
+    ++ cell_line 2 1 1000 4000 2100
     ++ (edge (total_of (after 3)) 33098
     ∷ edge (after 3).gate_time 6532
     ∷ edge (after 3).road_time 20866
@@ -115,9 +115,9 @@ run =
     ∷ edge (after 3).done 3
     ∷ [])
 
-pub edges-hold : holds (rules ++ run) ≡ true
-unfolding holds edge rules run gate-line cell-line released released_by road start row built works after open_capacity ones ones_in lanes_ok
+pub edges_hold : holds (rules ++ run) ≡ true
+unfolding holds edge rules run gate_line cell_line released released_by road start row built works after open_capacity ones ones_in lanes_ok
     thousandths_of demand_of gate_demand_of supply_of room_of onward_of entering_of greatest_of outflow_of
     sum_of fill_of list_of first_from first_of first_fault place_ok row_ok frame_ok input_ok
     capacity_at demand_at most_release_at share_at cumulative_at moved_to counted_of exits_of outflows_of lowest_of stepping_of
-edges-hold = refl
+edges_hold = refl

@@ -92,7 +92,7 @@ left s F = record {
 }
 
 -- 7 comes before 8, and 8 before 11 and 12; two steps after 1,438 pass
-pub refused-on : (running_on two [] (left 1439 1439000001) []).number
+pub refused_on : (running_on two [] (left 1439 1439000001) []).number
     ∷ (running_on two [] (left 1439 0) []).number
     ∷ (running_on two [] (left 1438 0) []).number
     ∷ (judging_on two [] (left 1439 0) []).number
@@ -101,7 +101,7 @@ pub refused-on : (running_on two [] (left 1439 1439000001) []).number
     ≡ 7 ∷ 8 ∷ 11 ∷ 8 ∷ 11 ∷ []
 unfolding two header upstream downstream row reading_by one_of number_of seconds_size
     fill_of list_of first_from first_of place_ok row_ok state_ok table_fault opening_of state_fault running_on judging_on history_on
-refused-on = refl
+refused_on = refl
 
 -- judging: 934 at place 1 in the first of these rows lets in too much, because F of step 0 counts; then the states of the run's own rows
 pub record JudgesOn : Type 0 where
@@ -110,13 +110,13 @@ pub record JudgesOn : Type 0 where
   pub held : held_on two [] between (1358 ∷ 933 ∷ 1000 ∷ 1252 ∷ 934 ∷ 1000 ∷ []) still still ≡ 2142 ∷ 2991 ∷ 4000 ∷ 1890 ∷ 3309 ∷ 4000 ∷ []
   pub queue : queue_on two [] between (1358 ∷ 933 ∷ 1000 ∷ 1252 ∷ 934 ∷ 1000 ∷ []) still still ≡ 0 ∷ 0 ∷ 1900 ∷ 0 ∷ 0 ∷ 2100 ∷ []
 
-pub judges-on : JudgesOn
+pub judges_on : JudgesOn
 unfolding between two header upstream downstream row reading_by one_of number_of seconds_size
     thousandths_of demand_of gate_demand_of supply_of room_of onward_of entering_of greatest_of outflow_of
     sum_of fill_of list_of concat_of front_of first_from first_of first_fault place_ok row_ok state_ok
     capacity_at demand_at most_release_at share_at cumulative_at moved_to counted_of outflows_of lowest_of outflow_fault_at verdict_of
     table_fault road_at schedule_after engine_after row_at end_of opening_of state_fault judging_on history_on held_on queue_on
-judges-on = record { number = refl; step = refl; held = refl; queue = refl }
+judges_on = record { number = refl; step = refl; held = refl; queue = refl }
 
 -- the state after step 0 filled, with its releases and entries
 unfoldable pub filled_between : MeterState
@@ -134,7 +134,7 @@ pub record FillsOn : Type 0 where
   -- a last entry above what its cell holds is refused with 7
   pub refused : (filling_on laws two [] (meter_state first zeros (2001 ∷ replicate 63 0)) still).number ≡ 7
 
-pub fills-on : FillsOn
+pub fills_on : FillsOn
 unfolding first filled_between one two header upstream downstream row reading_by one_of number_of seconds_size
     thousandths_of demand_of gate_demand_of supply_of room_of onward_of entering_of greatest_of outflow_of
     sum_of fill_of list_of first_from first_of first_fault place_ok row_ok state_ok
@@ -142,4 +142,4 @@ unfolding first filled_between one two header upstream downstream row reading_by
     laws number round add sub mul le of_int alinea_of wish_of whole_below law_finite law_ok law_fault_of longest_length longest_of
     released_row release_of granted_at filled_row metered_of metered_from put_table put_releases placed bytes_of front_of concat_of
     entries_ok progress_fault filling_on progress_on record_on filled_list_on longest_fill_on
-fills-on = record { progress = refl; total = refl; outflows = refl; longest = refl; bytes = refl; refused = refl }
+fills_on = record { progress = refl; total = refl; outflows = refl; longest = refl; bytes = refl; refused = refl }

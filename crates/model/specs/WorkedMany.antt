@@ -49,14 +49,14 @@ pub record RunEntries : Type 0 where
   pub outflows : run_lists sample [] tables still room ≡ 1500 ∷ 934 ∷ 1000 ∷ 1358 ∷ 933 ∷ 1000 ∷ 142 ∷ 934 ∷ 1000 ∷ []
   pub arrivals : record_row (run_record sample tables room) 2 2 ≡ 0 ∷ 0 ∷ 0 ∷ 2500 ∷ 300 ∷ []
 
-pub run-entries : RunEntries
+pub run_entries : RunEntries
 unfolding sample header upstream downstream row tables reading_by one_of number_of seconds_size
     thousandths_of demand_of gate_demand_of supply_of room_of onward_of entering_of greatest_of outflow_of
     sum_of fill_of list_of first_from first_of first_fault place_ok row_ok
     capacity_at demand_at most_release_at share_at cumulative_at moved_to counted_of exits_of outflows_of lowest_of
     table_fault road_at engine_after end_of opening_of running_of list_after front_of concat_of row_at placed bytes_of
     longest_one longest_of longest_run put_arrivals put_arrival_rows answer_entry many_fault run_answers list_after_runs run_lists record_after_runs run_record
-run-entries = record { answer = refl; first = refl; refused = refl; last = refl; outflows = refl; arrivals = refl }
+run_entries = record { answer = refl; first = refl; refused = refl; last = refl; outflows = refl; arrivals = refl }
 
 -- filling by the laws of 'Filling': the refused study leaves the releases of the first study, and the last study leaves its own
 pub record FillEntries : Type 0 where
@@ -65,7 +65,7 @@ pub record FillEntries : Type 0 where
   pub kept : record_row (record_after_fillings laws sample [] tables still 2) 2 1 ≡ 1000001 ∷ 0 ∷ 0 ∷ 0 ∷ 215 ∷ []
   pub arrivals : record_row (fill_record laws sample [] tables still room) 2 2 ≡ 0 ∷ 0 ∷ 0 ∷ 2500 ∷ 330 ∷ []
 
-pub fill-entries : FillEntries
+pub fill_entries : FillEntries
 unfolding sample header upstream downstream row tables reading_by one_of number_of seconds_size
     thousandths_of demand_of gate_demand_of supply_of room_of onward_of entering_of greatest_of outflow_of
     sum_of fill_of list_of first_from first_of first_fault place_ok row_ok
@@ -73,7 +73,7 @@ unfolding sample header upstream downstream row tables reading_by one_of number_
     laws number round add sub mul le of_int alinea_of wish_of whole_below law_finite law_ok law_fault_of
     released_row release_of granted_at filled_row metered_of metered_from filling_of record_after filled_bytes put_table put_releases placed bytes_of
     front_of concat_of row_at longest_one longest_of longest_fill put_arrivals put_arrival_rows answer_entry many_fault fill_answers record_after_fillings fill_record
-fill-entries = record { last = refl; kept = refl; arrivals = refl }
+fill_entries = record { last = refl; kept = refl; arrivals = refl }
 
 -- 27: eight numbers are no table of nine, and 224 leave no room for three entries; the lent lists are unchanged
 pub record Lengths : Type 0 where

@@ -33,9 +33,9 @@ use Rattle.model.specs.WorkedSchedule.{still}
 use Rattle.model.specs.WorkedWishes.{number}
 
 -- writing: 2 before 3, 3 before 19, 19 before 1
-pub frame-order : frame_fault 3 0 0 0 0 ∷ frame_fault 2 0 0 1 0 ∷ frame_fault 2 0 64 1440 0 ∷ [] ≡ 2 ∷ 3 ∷ 19 ∷ []
+pub frame_order : frame_fault 3 0 0 0 0 ∷ frame_fault 2 0 0 1 0 ∷ frame_fault 2 0 64 1440 0 ∷ [] ≡ 2 ∷ 3 ∷ 19 ∷ []
 unfolding frame_fault one_of seconds_size
-frame-order = refl
+frame_order = refl
 
 -- a road of n cells whose numbers are all 0
 abbrev wide : ℕ → Study
@@ -53,14 +53,14 @@ wide n = study (record {
 }) empty_state 1 (λ t. []) []
 
 -- 6 before 15: a row's number above 1,000,000, and a target that is too short
-pub row-before-target : (writing_by (study (wide 1).road empty_state 1 (λ t. 1000001 ∷ []) []) 3 0).number ≡ 6
+pub row_before_target : (writing_by (study (wide 1).road empty_state 1 (λ t. 1000001 ∷ []) []) 3 0).number ≡ 6
 unfolding frame_fault one_of seconds_size place_ok row_ok first_from first_of
-row-before-target = refl
+row_before_target = refl
 
 -- joining: upstream is read first; 22 before 15
-pub upstream-first : (joining_of [] (set sample 4 3) 0 []).number ≡ 1
+pub upstream_first : (joining_of [] (set sample 4 3) 0 []).number ≡ 1
 unfolding sample header upstream downstream bytes reading_by one_of number_of seconds_size joining_of
-upstream-first = refl
+upstream_first = refl
 
 pub too_wide : (joining_by (wide 64) (wide 1) 0 0).number ≡ 22
 unfolding first_from first_of seconds_size
@@ -70,15 +70,15 @@ too_wide = refl
 unfoldable pub endless : List Law
 endless = law.Fixed (number 0 1) ∷ law.Fixed (inf false) ∷ []
 
-pub laws-first : (filling_of endless sample [] []).number ≡ 16
+pub laws_first : (filling_of endless sample [] []).number ≡ 16
 unfolding sample header upstream downstream bytes reading_by one_of number_of seconds_size fill_of list_of first_from first_of place_ok row_ok
     endless law_finite law_ok law_fault_of filling_of
-laws-first = refl
+laws_first = refl
 
-pub list-kept : filled_list endless sample [] still ≡ still
+pub list_kept : filled_list endless sample [] still ≡ still
 unfolding sample header upstream downstream bytes reading_by one_of number_of seconds_size fill_of list_of first_from first_of place_ok row_ok
     endless law_finite law_ok law_fault_of filling_of filled_list
-list-kept = refl
+list_kept = refl
 
 unfoldable pub fixed : List Law
 fixed = law.Fixed (number 0 1) ∷ law.Fixed (number 300 1) ∷ []
@@ -92,28 +92,28 @@ unfolding fixed number round road start row
 entries = refl
 
 -- putting a release: place 0 has no ramp, whatever cell 1 has
-pub no-cell-zero : ramp_ok (1 ∷ []) 1 0 ∷ ramp_ok (1 ∷ []) 1 1 ∷ [] ≡ false ∷ true ∷ []
+pub no_cell_zero : ramp_ok (1 ∷ []) 1 0 ∷ ramp_ok (1 ∷ []) 1 1 ∷ [] ≡ false ∷ true ∷ []
 unfolding ramp_ok
-no-cell-zero = refl
+no_cell_zero = refl
 
 -- printing: 661 vehicle-seconds, `661`, only the refusal's line, and the totals of the last state; the room that the longest text needs
-pub seconds-printed : vehicle_seconds 33098 20 ≡ 661
+pub seconds_printed : vehicle_seconds 33098 20 ≡ 661
 unfolding vehicle_seconds
-seconds-printed = refl
+seconds_printed = refl
 
-pub digits-printed : decimal_of 661 ≡ 54 ∷ 54 ∷ 49 ∷ []
+pub digits_printed : decimal_of 661 ≡ 54 ∷ 54 ∷ 49 ∷ []
 unfolding digits_of
-digits-printed = refl
+digits_printed = refl
 
-pub refusal-printed : printed_end (study_of sample []) (end_with 10 1 2 empty_road empty_state) ≡ refused_line 10 1 2
-refusal-printed = refl
+pub refusal_printed : printed_end (study_of sample []) (end_with 10 1 2 empty_road empty_state) ≡ refused_line 10 1 2
+refusal_printed = refl
 
-pub totals-printed : printed_end (study road start 0 (λ t. []) []) (end_with 0 0 0 road (after 3)) ≡ header_line ++ (total_line 33098 6532 20866 5700 3701 ++ [])
+pub totals_printed : printed_end (study road start 0 (λ t. []) []) (end_with 0 0 0 road (after 3)) ≡ header_line ++ (total_line 33098 6532 20866 5700 3701 ++ [])
 unfolding steps_lines time_of after road start row built open_capacity ones ones_in lanes_ok
     thousandths_of demand_of gate_demand_of supply_of room_of onward_of entering_of greatest_of outflow_of
     sum_of fill_of list_of first_from first_of first_fault place_ok row_ok frame_ok input_ok
     capacity_at demand_at most_release_at share_at cumulative_at moved_to counted_of exits_of outflows_of lowest_of stepping_of
-totals-printed = refl
+totals_printed = refl
 
-pub room-printed : most_text ≡ 924161
-room-printed = refl
+pub room_printed : most_text ≡ 924161
+room_printed = refl

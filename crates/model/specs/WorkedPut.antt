@@ -13,29 +13,29 @@ pub no_cell : putting_of sample 0 0 300 ≡ fault 5 0
 unfolding putting_of ramp_ok reading_by sample header upstream downstream row number_of seconds_size one_of first_of first_from place_ok row_ok fill_of list_of
 no_cell = refl
 
-pub no-ramp : putting_of sample 3 1 1000001 ≡ fault 5 1
+pub no_ramp_lem : putting_of sample 3 1 1000001 ≡ fault 5 1
 unfolding putting_of ramp_ok reading_by sample header upstream downstream row number_of seconds_size one_of first_of first_from place_ok row_ok fill_of list_of
-no-ramp = refl
+no_ramp_lem = refl
 
-pub past-cells : putting_of sample 0 3 300 ≡ fault 5 3
+pub past_cells : putting_of sample 0 3 300 ≡ fault 5 3
 unfolding putting_of ramp_ok reading_by sample header upstream downstream row number_of seconds_size one_of first_of first_from place_ok row_ok fill_of list_of
-past-cells = refl
+past_cells = refl
 
 -- step 2 is the last; a release of 1,000,000 is put, one more is not
-pub past-steps : putting_of sample 3 2 300 ≡ fault 6 3
+pub past_steps : putting_of sample 3 2 300 ≡ fault 6 3
 unfolding putting_of ramp_ok reading_by sample header upstream downstream row number_of seconds_size one_of first_of first_from place_ok row_ok fill_of list_of
-past-steps = refl
+past_steps = refl
 
-pub most-put : putting_of sample 2 2 1000000 ≡ fault 0 0
+pub most_put : putting_of sample 2 2 1000000 ≡ fault 0 0
 unfolding putting_of ramp_ok reading_by sample header upstream downstream row number_of seconds_size one_of first_of first_from place_ok row_ok fill_of list_of
-most-put = refl
+most_put = refl
 
-pub above-rate : putting_of sample 2 2 1000001 ≡ fault 6 2
+pub above_rate : putting_of sample 2 2 1000001 ≡ fault 6 2
 unfolding putting_of ramp_ok reading_by sample header upstream downstream row number_of seconds_size one_of first_of first_from place_ok row_ok fill_of list_of
-above-rate = refl
+above_rate = refl
 
 -- the release of cell 2 in step 1 becomes 7, and the row's other numbers do not change
-pub put-there : record_row (released_record sample 1 2 7) 2 1 ≡ 1000 ∷ 0 ∷ 0 ∷ 500 ∷ 7 ∷ []
+pub put_there : record_row (released_record sample 1 2 7) 2 1 ≡ 1000 ∷ 0 ∷ 0 ∷ 500 ∷ 7 ∷ []
 unfolding released_record placed bytes_of
     putting_of ramp_ok reading_by sample header upstream downstream row number_of seconds_size one_of first_of first_from place_ok row_ok fill_of list_of
-put-there = refl
+put_there = refl

@@ -10,14 +10,14 @@ unfolding table_after wanted_of possible_of lowest_queue least_table least_relea
 early = refl
 
 -- six are too many: the queue would be at least 4
-pub too-late : wanted_of 4 3 2 (0 ∷ 0 ∷ 6 ∷ []) 3 ≡ search_answer 0 true false
+pub too_late : wanted_of 4 3 2 (0 ∷ 0 ∷ 6 ∷ []) 3 ≡ search_answer 0 true false
 unfolding wanted_of possible_of lowest_queue all_within first_of first_from
-too-late = refl
+too_late = refl
 
 -- five are possible: the queue is then 3, at the ceiling
-pub just-in-time : table_after 4 3 2 (0 ∷ 0 ∷ 5 ∷ []) (9 ∷ 9 ∷ 9 ∷ []) ≡ 2 ∷ 2 ∷ 2 ∷ []
+pub just_in_time : table_after 4 3 2 (0 ∷ 0 ∷ 5 ∷ []) (9 ∷ 9 ∷ 9 ∷ []) ≡ 2 ∷ 2 ∷ 2 ∷ []
 unfolding table_after wanted_of possible_of lowest_queue least_table least_release least_from inflow_of all_within first_of first_from sum_of list_of
-just-in-time = refl
+just_in_time = refl
 
 -- no step, and a table of another length, are refused with 23
 pub no_step : wanted_of 4 3 2 [] 0 ≡ search_answer 23 false false

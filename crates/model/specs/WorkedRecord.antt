@@ -80,17 +80,17 @@ fault : ℕ → ℕ → List ℕ
 fault i byte = (reading_of (set sample i byte)).number ∷ (reading_of (set sample i byte)).place ∷ []
 
 -- the first field is one too large; version 3; T 0; n 3
-faults-header : fault 3 121 ∷ fault 4 3 ∷ fault 7 0 ∷ fault 5 3 ∷ [] ≡ (1 ∷ 0 ∷ []) ∷ (2 ∷ 0 ∷ []) ∷ (3 ∷ 0 ∷ []) ∷ (4 ∷ 0 ∷ []) ∷ []
+faults_header : fault 3 121 ∷ fault 4 3 ∷ fault 7 0 ∷ fault 5 3 ∷ [] ≡ (1 ∷ 0 ∷ []) ∷ (2 ∷ 0 ∷ []) ∷ (3 ∷ 0 ∷ []) ∷ (4 ∷ 0 ∷ []) ∷ []
 unfolding fault sample header upstream downstream row reading_by one_of number_of seconds_size fill_of list_of first_from first_of place_ok row_ok
-faults-header = refl
+faults_header = refl
 
 -- the gate's queue above its limit; at cell 1 mark 256, held above J, a queue without a ramp; at cell 2 a share other than 0, and a queue above its limit
-faults-place : fault 12 60 ∷ fault 22 1 ∷ fault 34 32 ∷ fault 39 1 ∷ fault 45 1 ∷ fault 60 60 ∷ []
+faults_place : fault 12 60 ∷ fault 22 1 ∷ fault 34 32 ∷ fault 39 1 ∷ fault 45 1 ∷ fault 60 60 ∷ []
     ≡ (5 ∷ 0 ∷ []) ∷ (5 ∷ 1 ∷ []) ∷ (5 ∷ 1 ∷ []) ∷ (5 ∷ 1 ∷ []) ∷ (5 ∷ 2 ∷ []) ∷ (5 ∷ 2 ∷ []) ∷ []
 unfolding fault sample header upstream downstream row reading_by one_of number_of seconds_size fill_of list_of first_from first_of place_ok row_ok
-faults-place = refl
+faults_place = refl
 
 -- gate arrivals above 1,000,000 in step 0; a release at cell 1, which has no ramp, in step 1; ramp arrivals above 1,000,000 at cell 2 in step 2
-faults-step : fault 65 16 ∷ fault 95 1 ∷ fault 117 16 ∷ [] ≡ (6 ∷ 0 ∷ []) ∷ (6 ∷ 1 ∷ []) ∷ (6 ∷ 2 ∷ []) ∷ []
+faults_step : fault 65 16 ∷ fault 95 1 ∷ fault 117 16 ∷ [] ≡ (6 ∷ 0 ∷ []) ∷ (6 ∷ 1 ∷ []) ∷ (6 ∷ 2 ∷ []) ∷ []
 unfolding fault sample header upstream downstream row reading_by one_of number_of seconds_size fill_of list_of first_from first_of place_ok row_ok
-faults-step = refl
+faults_step = refl

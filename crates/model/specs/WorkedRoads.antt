@@ -49,15 +49,15 @@ shown e = e.number ∷ e.step ∷ e.place ∷ total_of e.state ∷ []
 pub record RaisedNumbers : Type 0 where
   -- with share 0 and with share 1000 the run is not refused, and the total is 0 and 1
   pub left : shown (running_of (shared (two 0 0)) [] list) ≡ 0 ∷ 0 ∷ 0 ∷ 0 ∷ []
-  pub gone-on : shown (running_of (shared (two 3 232)) [] list) ≡ 0 ∷ 0 ∷ 0 ∷ 1 ∷ []
+  pub gone_on : shown (running_of (shared (two 3 232)) [] list) ≡ 0 ∷ 0 ∷ 0 ∷ 1 ∷ []
   -- with speed 500 cell 2 is empty when the release comes; with speed 1000 step 1 is refused with 10 at cell 2, and the total is that of step 0
   pub slow : (running_of (hastened (two 1 244)) [] list).number ≡ 0
   pub fast : shown (running_of (hastened (two 3 232)) [] list) ≡ 10 ∷ 1 ∷ 2 ∷ 2 ∷ []
 
-pub raised-numbers : RaisedNumbers
+pub raised_numbers : RaisedNumbers
 unfolding two four header cell row shared hastened reading_by one_of number_of seconds_size
     thousandths_of demand_of gate_demand_of supply_of room_of onward_of entering_of greatest_of outflow_of
     sum_of fill_of list_of first_from first_of first_fault place_ok row_ok
     capacity_at demand_at most_release_at share_at cumulative_at moved_to counted_of outflows_of lowest_of
     table_fault road_at engine_after end_of opening_of running_of
-raised-numbers = record { left = refl; gone-on = refl; slow = refl; fast = refl }
+raised_numbers = record { left = refl; gone_on = refl; slow = refl; fast = refl }

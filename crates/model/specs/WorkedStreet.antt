@@ -10,16 +10,16 @@ unfolding grants_after street_ok grants_of rest_before all_within first_of first
 in_order = refl
 
 -- guarantees whose sum is the limit pass, and then each ramp gets its own
-pub guarantees-alone : grants_after 6 (2 ∷ 3 ∷ 1 ∷ []) (7 ∷ 7 ∷ 7 ∷ []) (8 ∷ 8 ∷ 8 ∷ []) ≡ 2 ∷ 3 ∷ 1 ∷ []
+pub guarantees_alone : grants_after 6 (2 ∷ 3 ∷ 1 ∷ []) (7 ∷ 7 ∷ 7 ∷ []) (8 ∷ 8 ∷ 8 ∷ []) ≡ 2 ∷ 3 ∷ 1 ∷ []
 unfolding grants_after street_ok grants_of rest_before all_within first_of first_from sum_of list_of
-guarantees-alone = refl
+guarantees_alone = refl
 
 -- a limit that is one less is refused with 24
-pub limit-passed : granting_of 5 (2 ∷ 3 ∷ 1 ∷ []) (7 ∷ 7 ∷ 7 ∷ []) 3 ≡ 24
+pub limit_passed : granting_of 5 (2 ∷ 3 ∷ 1 ∷ []) (7 ∷ 7 ∷ 7 ∷ []) 3 ≡ 24
 unfolding granting_of street_ok all_within first_of first_from sum_of
-limit-passed = refl
+limit_passed = refl
 
 -- nine ramps are refused with 24
-pub nine-ramps : granting_of 9 (0 ∷ 0 ∷ 0 ∷ 0 ∷ 0 ∷ 0 ∷ 0 ∷ 0 ∷ 0 ∷ []) (0 ∷ 0 ∷ 0 ∷ 0 ∷ 0 ∷ 0 ∷ 0 ∷ 0 ∷ 0 ∷ []) 9 ≡ 24
+pub nine_ramps : granting_of 9 (0 ∷ 0 ∷ 0 ∷ 0 ∷ 0 ∷ 0 ∷ 0 ∷ 0 ∷ 0 ∷ []) (0 ∷ 0 ∷ 0 ∷ 0 ∷ 0 ∷ 0 ∷ 0 ∷ 0 ∷ 0 ∷ []) 9 ≡ 24
 unfolding granting_of street_ok all_within first_of first_from sum_of
-nine-ramps = refl
+nine_ramps = refl

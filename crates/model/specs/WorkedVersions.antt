@@ -34,41 +34,41 @@ timed_road seconds = record {
   capacity = cells 2000 1000;
 }
 
-timed-accepted : reading_of (timed 0 20) ≡ accepted_of 3 (timed_road 20) start
+timed_accepted : reading_of (timed 0 20) ≡ accepted_of 3 (timed_road 20) start
 unfolding timed timed_header timed_road upstream downstream row cells start
     reading_by one_of number_of seconds_size fill_of list_of first_from first_of place_ok row_ok
-timed-accepted = refl
+timed_accepted = refl
 
 -- 1 and 900 seconds pass; 0 and 901 are refused with 19. The bytes of 900 in the other order would be 33,795
-timed-seconds : map (λ (s : List ℕ). (reading_of s).number) (timed 0 1 ∷ timed 3 132 ∷ timed 0 0 ∷ timed 3 133 ∷ []) ≡ 0 ∷ 0 ∷ 19 ∷ 19 ∷ []
+timed_seconds : map (λ (s : List ℕ). (reading_of s).number) (timed 0 1 ∷ timed 3 132 ∷ timed 0 0 ∷ timed 3 133 ∷ []) ≡ 0 ∷ 0 ∷ 19 ∷ 19 ∷ []
 unfolding timed timed_header upstream downstream row reading_by one_of number_of seconds_size fill_of list_of first_from first_of place_ok row_ok
-timed-seconds = refl
+timed_seconds = refl
 
 -- 19 comes after 3 and before 4: 0 seconds with T 0, and with n 3
-timed-order : map (λ (s : List ℕ). (reading_of s).number) (set (timed 0 0) 7 0 ∷ set (timed 0 0) 5 3 ∷ set (timed 0 20) 5 3 ∷ []) ≡ 3 ∷ 19 ∷ 4 ∷ []
+timed_order : map (λ (s : List ℕ). (reading_of s).number) (set (timed 0 0) 7 0 ∷ set (timed 0 0) 5 3 ∷ set (timed 0 20) 5 3 ∷ []) ≡ 3 ∷ 19 ∷ 4 ∷ []
 unfolding timed timed_header upstream downstream row reading_by one_of number_of seconds_size fill_of list_of first_from first_of place_ok row_ok
-timed-order = refl
+timed_order = refl
 
 -- only 16, 17 or 18 bytes, with a correct first field: in version 2, 16 and 17 are refused with 1; in versions 1 and 3 none of them is
 alone : ℕ → ℕ → ℕ
 alone version rest = (reading_of (0 ∷ 0 ∷ 0 ∷ (12 + rest) ∷ version ∷ replicate (11 + rest) 0)).number
 
-alone-numbers : map (alone 2) (0 ∷ 1 ∷ 2 ∷ []) ++ (map (alone 1) (0 ∷ 1 ∷ 2 ∷ []) ++ map (alone 3) (0 ∷ 1 ∷ 2 ∷ []))
+alone_numbers : map (alone 2) (0 ∷ 1 ∷ 2 ∷ []) ++ (map (alone 1) (0 ∷ 1 ∷ 2 ∷ []) ++ map (alone 3) (0 ∷ 1 ∷ 2 ∷ []))
     ≡ 1 ∷ 1 ∷ 3 ∷ 3 ∷ 3 ∷ 3 ∷ 2 ∷ 2 ∷ 2 ∷ []
 unfolding alone reading_by one_of number_of seconds_size fill_of list_of first_from first_of place_ok row_ok
-alone-numbers = refl
+alone_numbers = refl
 
 -- a caller that takes 2 cells and 124 bytes reads it; with one cell or one byte less it is refused with 26
 within : ℕ → ℕ → ℕ
 within cells most = (reading_within cells most sample).number
 
-within-numbers : within 2 124 ∷ within 1 124 ∷ within 2 123 ∷ within 8 4096 ∷ within 0 0 ∷ [] ≡ 0 ∷ 26 ∷ 26 ∷ 0 ∷ 26 ∷ []
+within_numbers : within 2 124 ∷ within 1 124 ∷ within 2 123 ∷ within 8 4096 ∷ within 0 0 ∷ [] ≡ 0 ∷ 26 ∷ 26 ∷ 0 ∷ 26 ∷ []
 unfolding within sample header upstream downstream row reading_by one_of number_of seconds_size fill_of list_of first_from first_of place_ok row_ok
-within-numbers = refl
+within_numbers = refl
 
 -- 26 comes after 1, 2, 3, 19 and 4, and before 5 and 6
-within-order : map (λ (s : List ℕ). (reading_within 1 4096 s).number)
+within_order : map (λ (s : List ℕ). (reading_within 1 4096 s).number)
     (set sample 3 121 ∷ set sample 4 3 ∷ set sample 7 0 ∷ timed 0 0 ∷ set sample 5 3 ∷ set sample 12 60 ∷ set sample 65 16 ∷ [])
     ≡ 1 ∷ 2 ∷ 3 ∷ 19 ∷ 4 ∷ 26 ∷ 26 ∷ []
 unfolding sample timed timed_header header upstream downstream row reading_by one_of number_of seconds_size fill_of list_of first_from first_of place_ok row_ok
-within-order = refl
+within_order = refl

@@ -26,10 +26,10 @@ pub record ScheduleWeighsLess : Type 0 where
   pub engine : weighted_total_of_run rising zero_weights sample [] still ≡ 4833200
   pub schedule : weighted_total_of_schedule rising zero_weights (study_of sample []) still 3 ≡ 4719000
 
-pub schedule-weighs-less : ScheduleWeighsLess
+pub schedule_weighs_less : ScheduleWeighsLess
 unfolding sample header upstream downstream row reading_by one_of number_of seconds_size
     thousandths_of demand_of gate_demand_of supply_of room_of onward_of entering_of greatest_of outflow_of
     sum_of fill_of list_of first_from first_of first_fault place_ok row_ok
     capacity_at demand_at most_release_at share_at cumulative_at moved_to counted_of outflows_of lowest_of
     table_fault road_at schedule_after engine_after row_at end_of opening_of running_of weighted_present weighted_total weighted_total_of_run
-schedule-weighs-less = record { engine = refl; schedule = refl }
+schedule_weighs_less = record { engine = refl; schedule = refl }

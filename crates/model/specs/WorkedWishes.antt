@@ -88,18 +88,18 @@ table =
     ∷ worked_wish (fixed (number (4294967295 * 2 ^ 21 - 1) (2 ^ 21))) 0x41ef_ffff_ffdf_ffff 4294967295 4294967294
     ∷ []
 
-pub worked-wishes : holds table ≡ true
+pub worked_wishes : holds table ≡ true
 unfolding holds table worked_wish number fixed alinea demand_capacity wish_of alinea_of demand_capacity_of whole_below round add sub mul le of_int to_bits
-worked-wishes = refl
+worked_wishes = refl
 
 -- a fixed law with rate a ÷ c, finite and not negative, grants a ÷ c rounded down in every step, at most the cap
-pub fixed-grants : (rate : Float) (a c cap last entered held : ℕ) → 0 < c → HasValue rate false a c
+pub fixed_grants : (rate : Float) (a c cap last entered held : ℕ) → 0 < c → HasValue rate false a c
     → whole_below (wish_of (law.Fixed rate) last entered held) cap ≡ min (a / c) cap
 unfolding whole_below wish_of
-fixed-grants nan a c cap last entered held some h = absurd h
-fixed-grants (inf s) a c cap last entered held some h = absurd h
-fixed-grants (fin true m e) a c cap last entered held some h = absurd (true≢false h.0)
-fixed-grants (fin false m e) a c cap last entered held some h =
+fixed_grants nan a c cap last entered held some h = absurd h
+fixed_grants (inf s) a c cap last entered held some h = absurd h
+fixed_grants (fin true m e) a c cap last entered held some h = absurd (true≢false h.0)
+fixed_grants (fin false m e) a c cap last entered held some h =
     ap (λ (x : ℕ). min x cap) (div_same (m * up e) (down e) a c (down_pos e) some h.1)
 
 -- 16: the first law is not a number, the second's target is infinite, the third's numbers are finite
@@ -111,7 +111,7 @@ laws =
     ∷ []
 
 -- with ramps at all three cells, at the last two, and at the last; and on a road of one cell: laws past it are ignored
-pub fault-cells : (law_fault_of laws (1 ∷ 1 ∷ 1 ∷ []) 3 ≡ 1)
+pub fault_cells : (law_fault_of laws (1 ∷ 1 ∷ 1 ∷ []) 3 ≡ 1)
     × ((law_fault_of laws (0 ∷ 1 ∷ 1 ∷ []) 3 ≡ 2) × ((law_fault_of laws (0 ∷ 0 ∷ 1 ∷ []) 3 ≡ 0) × (law_fault_of laws (0 ∷ 1 ∷ 1 ∷ []) 1 ≡ 0)))
 unfolding laws number round law_fault_of law_ok law_finite first_from first_of
-fault-cells = (refl, (refl, (refl, refl)))
+fault_cells = (refl, (refl, (refl, refl)))

@@ -12,12 +12,12 @@ between_none {most = most} l = record { least = omega arith; above = l; within =
 
 module _ {x most low high : ℕ} (h : Between x most low high) where
   -- a middle that is at most the number becomes the lower bound
-  pub between-fits : {middle : ℕ} → middle ≤ x → Between x most middle high
-  between-fits l = record { least = l; above = h.above; within = h.within }
+  pub between_fits : {middle : ℕ} → middle ≤ x → Between x most middle high
+  between_fits l = record { least = l; above = h.above; within = h.within }
 
   -- if a middle is above the number, middle - 1 becomes the upper bound
-  pub between-above : {middle : ℕ} → middle ≤ high → x < middle → Between x most low (middle - 1)
-  between-above m l = record { least = h.least; above = omega arith; within = omega (arith, h.within) }
+  pub between_above : {middle : ℕ} → middle ≤ high → x < middle → Between x most low (middle - 1)
+  between_above m l = record { least = h.least; above = omega arith; within = omega (arith, h.within) }
 
-  pub between-end : high ≤ low → low ≡ x
-  between-end l = omega (arith, h.least, h.above)
+  pub between_end : high ≤ low → low ≡ x
+  between_end l = omega (arith, h.least, h.above)

@@ -5,14 +5,14 @@ use Rattle.model.specs.Numbers.{at}
 use Rattle.model.specs.Road.{most_cells, zeros}
 
 -- every entry of a list of zeros is 0
-pub zero-at : (n i : ℕ) → at (replicate n 0) i ≡ 0
-zero-at zero i = refl
-zero-at (suc n) zero = refl
-zero-at (suc n) (suc i) = zero-at n i
+pub zero_at : (n i : ℕ) → at (replicate n 0) i ≡ 0
+zero_at zero i = refl
+zero_at (suc n) zero = refl
+zero_at (suc n) (suc i) = zero_at n i
 
-pub length-zeros : length zeros ≡ most_cells
-length-zeros = length-replicate {A = ℕ} most_cells 0
+pub length_zeros : length zeros ≡ most_cells
+length_zeros = length-replicate {A = ℕ} most_cells 0
 
 -- entries past its end are 0 too
-pub zeros-at : (i : ℕ) → at zeros i ≡ 0
-zeros-at i = zero-at most_cells i
+pub zeros_at : (i : ℕ) → at zeros i ≡ 0
+zeros_at i = zero_at most_cells i

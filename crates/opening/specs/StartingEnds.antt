@@ -10,8 +10,8 @@ use Rattle.model.specs.Reading.{ReadAnswer, refused_of, accepted_of, reading_of}
 use Rattle.model.specs.Running.{opening_of}
 use Rattle.model.specs.GoingOn.{study_from, state_fault}
 use Rattle.theory.specs.RulesLaws.{Sized}
-use Rattle.theory.specs.Opening.{opened-reads}
-use Rattle.theory.specs.StartingState.{starting_of, starting-unopened, starting-refused, starting-starts, found-readable}
+use Rattle.theory.specs.Opening.{opened_reads}
+use Rattle.theory.specs.StartingState.{starting_of, starting_unopened, starting_refused, starting_starts, found_readable}
 use Rattle.opening.specs.OpenedStudy.{OpenedReadable}
 
 -- the state has an entry for each cell, and x is opening's answer
@@ -21,10 +21,10 @@ module _ (bytes lanes : List ℕ) (s : State) (sized : (reading_of bytes).road.n
   Promise y = (y ≡ starting_of bytes lanes s) × OpenedReadable bytes lanes y
 
   promise : {y : ReadAnswer} → y ≡ starting_of bytes lanes s → Promise y
-  promise ey = (ey, λ z. found-readable bytes lanes s ey z sized)
+  promise ey = (ey, λ z. found_readable bytes lanes s ey z sized)
 
-  pub started-unopened : (x.number ≡ 0 → ⊥) → Promise x
-  started-unopened h = promise (ex ∙ sym (starting-unopened bytes lanes s (rw ex at h)))
+  pub started_unopened : (x.number ≡ 0 → ⊥) → Promise x
+  started_unopened h = promise (ex ∙ sym (starting_unopened bytes lanes s (rw ex at h)))
 
   -- the record is opened, and m is the code's refusal of its start
   module _ (z : x.number ≡ 0) {t : Bool} {m : ℕ} (et : t ≡ state_ok x.road s) (em : m ≡ unless t 7 (unless (leb (s.done + x.steps) most_steps) 8 0)) where
@@ -32,13 +32,13 @@ module _ (bytes lanes : List ℕ) (s : State) (sized : (reading_of bytes).road.n
     unfolding state_fault
     found =
         em ∙ ap (λ (b : Bool). unless b 7 (unless (leb (s.done + x.steps) most_steps) 8 0)) et
-        ∙ ap (λ (y : ReadAnswer). unless (state_ok y.road s) 7 (unless (leb (s.done + y.steps) most_steps) 8 0)) (opened-reads bytes lanes ex z)
+        ∙ ap (λ (y : ReadAnswer). unless (state_ok y.road s) 7 (unless (leb (s.done + y.steps) most_steps) 8 0)) (opened_reads bytes lanes ex z)
 
-    pub started-refused : (m ≡ 0 → ⊥) → {y : ReadAnswer} → y ≡ refused_of m 0 → Promise y
-    started-refused n ey = promise (ey ∙ ap (λ (q : ℕ). refused_of q 0) found ∙ sym (starting-refused bytes lanes s (rw ex at z) (rw found at n)))
+    pub started_refused : (m ≡ 0 → ⊥) → {y : ReadAnswer} → y ≡ refused_of m 0 → Promise y
+    started_refused n ey = promise (ey ∙ ap (λ (q : ℕ). refused_of q 0) found ∙ sym (starting_refused bytes lanes s (rw ex at z) (rw found at n)))
 
-    pub started-whole : m ≡ 0 → {y : ReadAnswer} → y ≡ accepted_of x.steps x.road s → Promise y
-    started-whole n ey =
+    pub started_whole : m ≡ 0 → {y : ReadAnswer} → y ≡ accepted_of x.steps x.road s → Promise y
+    started_whole n ey =
         promise
-        (ey ∙ ap (λ (q : ReadAnswer). accepted_of q.steps q.road s) (opened-reads bytes lanes ex z)
-        ∙ sym (starting-starts bytes lanes s (rw ex at z) (sym found ∙ n)))
+        (ey ∙ ap (λ (q : ReadAnswer). accepted_of q.steps q.road s) (opened_reads bytes lanes ex z)
+        ∙ sym (starting_starts bytes lanes s (rw ex at z) (sym found ∙ n)))

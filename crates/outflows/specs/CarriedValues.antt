@@ -6,7 +6,7 @@ use Rattle.model.specs.declared.Road.{Road}
 use Rattle.model.specs.declared.State.{State}
 use Rattle.model.specs.Numbers.{at}
 use Rattle.model.specs.Flow.{capacity_at, demand_at, share_at, cumulative_at}
-use Rattle.theory.specs.RulesLaws.{share_cell, cumulative-cell, demand-cell}
+use Rattle.theory.specs.RulesLaws.{share_cell, cumulative_cell, demand_cell}
 
 pub record CarriedValues (r : Road) (s : State) (share cumulative demand i : ℕ) : Type 0 where
   pub within : i ≤ r.n
@@ -15,19 +15,19 @@ pub record CarriedValues (r : Road) (s : State) (share cumulative demand i : ℕ
   pub demands : demand ≡ demand_at r s i
 
 -- the values at the gate
-pub carried-gate : (r : Road) (s : State) (demand : ℕ) → demand ≡ gate_demand_of r.gate_capacity s.gate_queue
+pub carried_gate : (r : Road) (s : State) (demand : ℕ) → demand ≡ gate_demand_of r.gate_capacity s.gate_queue
     → CarriedValues r s whole s.gate_cumulative demand 0
 unfolding share_at cumulative_at demand_at
-carried-gate r s demand e = record { within = omega arith; shares = refl; cumulatives = refl; demands = e }
+carried_gate r s demand e = record { within = omega arith; shares = refl; cumulatives = refl; demands = e }
 
 -- the values after the cell at i
-pub carried-cell : (r : Road) (s : State) (i demand : ℕ) → i < r.n
+pub carried_cell : (r : Road) (s : State) (i demand : ℕ) → i < r.n
     → demand ≡ demand_of (at r.speed i) (at r.capacity i) (at s.held i)
     → CarriedValues r s (at r.share i) (at s.cumulative i) demand (i + 1)
 unfolding capacity_at
-carried-cell r s i demand l e = record {
+carried_cell r s i demand l e = record {
   within = omega arith;
   shares = sym (share_cell r i);
-  cumulatives = sym (cumulative-cell s i);
-  demands = e ∙ sym (demand-cell r s i);
+  cumulatives = sym (cumulative_cell s i);
+  demands = e ∙ sym (demand_cell r s i);
 }

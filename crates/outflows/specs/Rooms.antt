@@ -4,7 +4,7 @@ use Rattle.std.proofs.Math.Path.{refl, ap}
 use Rattle.std.proofs.Common.{◌∙◌, arith}
 use Rattle.model.specs.Flow.{supply_of, room_of}
 use Rattle.model.specs.Numbers.{fill_of, at}
-use Rattle.numbers.specs.RowsLaws.{fill_more, fill-at}
+use Rattle.numbers.specs.RowsLaws.{fill_more, fill_at}
 use Rattle.model.specs.declared.Road.{Road}
 use Rattle.model.specs.declared.State.{State}
 use Rattle.model.specs.Flow.{capacity_at, release_at, room_at}
@@ -18,20 +18,20 @@ pub record RoomsSoFar (r : Road) (s : State) (row l room : List ℕ) (i : ℕ) :
   pub filled : room ≡ fill_of (room_at r s row) i l
 
 module _ {r : Road} {s : State} {row l : List ℕ} where
-  pub roomed-none : RoomsSoFar r s row l l 0
+  pub roomed_none : RoomsSoFar r s row l l 0
   unfolding fill_of
-  roomed-none = record { filled = refl }
+  roomed_none = record { filled = refl }
 
   -- one more room, from the supply that the code computes
-  pub roomed-more : {room : List ℕ} {i supply x : ℕ} → RoomsSoFar r s row l room i
+  pub roomed_more : {room : List ℕ} {i supply x : ℕ} → RoomsSoFar r s row l room i
       → supply ≡ supply_of (at r.wave i) (at r.capacity i) (at r.jam i) (at s.held i) → x ≡ room_of supply (release_at row i)
       → RoomsSoFar r s row l (set room i x) (i + 1)
   unfolding capacity_at
-  roomed-more {room} {i} {supply} {x} h es ex =
+  roomed_more {room} {i} {supply} {x} h es ex =
       let e : x ≡ room_at r s row i = ex ∙ ap (λ (q : ℕ). room_of q (release_at row i)) es in
       let filled = h.filled in
       record { filled = cc (fill_more (room_at r s row) i l) }
 
-  pub roomed-end : {room : List ℕ} {i : ℕ} → RoomsSoFar r s row l room i → r.n ≤ i → i ≤ length l → Rooms r s row room
-  roomed-end {room} {i} h end long j less =
-      ap (λ (x : List ℕ). at x j) h.filled ∙ fill-at (room_at r s row) i l j (omega (arith, less, end)) long
+  pub roomed_end : {room : List ℕ} {i : ℕ} → RoomsSoFar r s row l room i → r.n ≤ i → i ≤ length l → Rooms r s row room
+  roomed_end {room} {i} h end long j less =
+      ap (λ (x : List ℕ). at x j) h.filled ∙ fill_at (room_at r s row) i l j (omega (arith, less, end)) long

@@ -2,11 +2,11 @@
 use Rattle.std.specs.Prelude.{◌≡◌, refl, List, ℕ, ◌+◌, ◌*◌, ◌≤◌, ◌<◌, length, set, take}
 use Rattle.std.proofs.Common.{sym, ap, subst, ◌∙◌, arith}
 use Rattle.model.specs.Numbers.{sum_of, fill_of, at}
-use Rattle.numbers.specs.SumLaws.{sum-start, sum-set}
-use Rattle.numbers.specs.RowsLaws.{fill-past, length-fill}
+use Rattle.numbers.specs.SumLaws.{sum_start, sum_set}
+use Rattle.numbers.specs.RowsLaws.{fill_past, length_fill}
 use Rattle.model.specs.Road.{most_cells, most_rate, most_steps}
 use Rattle.model.specs.Limits.{most_queue}
-use Rattle.passes.specs.RampList.{start_of, start-more, Listed, Upto, sum_to, sum-add, listed-before, listed_here, listed_more, listed-end}
+use Rattle.passes.specs.RampList.{start_of, start_more, Listed, Upto, sum_to, sum_add, listed_before, listed_here, listed_more, listed_end}
 
 -- a cell without a ramp releases nothing and has no queue
 pub record Idle (give wait : ℕ → ℕ) (queue : List ℕ) (i : ℕ) : Type 0 where
@@ -68,7 +68,7 @@ add_none {queue = queue} = record {
   helds = refl;
   queues = refl;
   road = λ e. e;
-  ramps = sym (sum-start queue);
+  ramps = sym (sum_start queue);
   bound = omega arith;
   small = omega arith;
 }
@@ -84,63 +84,63 @@ pub record AddTurn (hold give wait i n : ℕ) : Type 0 where
 module _ {give wait : ℕ → ℕ} {n ramps : ℕ} {cell release waiting held₀ queue₀ held queue : List ℕ} {sum₀ on_road at_ramps j : ℕ}
     (k : AddRequires give wait n ramps cell release waiting held₀ queue₀)
     (h : AddSoFar give wait n cell held₀ queue₀ held queue sum₀ on_road at_ramps j) where
-  same-held : (i : ℕ) → i < n → Idle give wait queue₀ i → given_at give held₀ i ≡ at held₀ i
-  same-held i l p = omega (arith, p.gives)
+  same_held : (i : ℕ) → i < n → Idle give wait queue₀ i → given_at give held₀ i ≡ at held₀ i
+  same_held i l p = omega (arith, p.gives)
 
   same_queue : (i : ℕ) → i < n → Idle give wait queue₀ i → wait i ≡ at queue₀ i
   same_queue i l p = p.waits ∙ sym p.queues
 
-  pub held-listed : j < ramps → at held (at cell j) ≡ at held₀ (at cell j)
-  held-listed l = listed_here (given_at give held₀) held₀ k.listed same-held l h.helds
+  pub held_listed : j < ramps → at held (at cell j) ≡ at held₀ (at cell j)
+  held_listed l = listed_here (given_at give held₀) held₀ k.listed same_held l h.helds
 
-  pub long-held : n ≤ length held
-  long-held = omega (arith, ap length h.helds, length-fill (given_at give held₀) (start_of cell j) held₀, k.long_held)
+  pub long_held_lem : n ≤ length held
+  long_held_lem = omega (arith, ap length h.helds, length_fill (given_at give held₀) (start_of cell j) held₀, k.long_held)
 
-  pub long-queue : n ≤ length queue
-  long-queue = omega (arith, ap length h.queues, length-fill wait (start_of cell j) queue₀, k.long_queue)
+  pub long_queue_lem : n ≤ length queue
+  long_queue_lem = omega (arith, ap length h.queues, length_fill wait (start_of cell j) queue₀, k.long_queue)
 
   pub add_turn : j < ramps → AddTurn (at held (at cell j)) (at release j) (at waiting j) (at cell j) n
   add_turn l = record {
-    held = omega (arith, held-listed l, k.helds (at cell j) (k.listed.within j l));
+    held = omega (arith, held_listed l, k.helds (at cell j) (k.listed.within j l));
     given = omega (arith, k.releases j l, k.rates (at cell j) (k.listed.within j l));
     waits = omega (arith, k.waits j l, k.queues (at cell j) (k.listed.within j l));
     within = k.listed.within j l;
     cells = k.cells;
   }
 
-  pub add-more : j < ramps
+  pub add_more : j < ramps
       → AddSoFar give wait n cell held₀ queue₀ (set held (at cell j) (at held (at cell j) + at release j)) (set queue (at cell j) (at waiting j))
       sum₀ (on_road + at release j) (at_ramps + at waiting j) (j + 1)
-  add-more l =
+  add_more l =
       let c = at cell j in
       let inside = k.listed.within j l in
-      let there = held-listed l in
+      let there = held_listed l in
       let given = k.releases j l in
       let z : at held c + at release j ≡ given_at give held₀ c = cc in
       let w : at waiting j ≡ wait c = k.waits j l in
-      let q = listed-before wait queue₀ k.listed same_queue l h.queues in
-      let zero-there : (i : ℕ) → start_of cell j ≤ i → i < c → at queue i ≡ 0 =
-      λ i a b. ap (λ (x : List ℕ). at x i) h.queues ∙ fill-past wait (start_of cell j) queue₀ i a ∙ (k.listed.gap j l i a b).queues in
-      let skip = sum_to queue (start_of cell j) c (k.listed.rises j l) (omega (arith, long-queue, k.cells)) zero-there in
+      let q = listed_before wait queue₀ k.listed same_queue l h.queues in
+      let zero_there : (i : ℕ) → start_of cell j ≤ i → i < c → at queue i ≡ 0 =
+      λ i a b. ap (λ (x : List ℕ). at x i) h.queues ∙ fill_past wait (start_of cell j) queue₀ i a ∙ (k.listed.gap j l i a b).queues in
+      let skip = sum_to queue (start_of cell j) c (k.listed.rises j l) (omega (arith, long_queue_lem, k.cells)) zero_there in
       record {
-        helds = listed_more (given_at give held₀) held₀ k.listed same-held l h.helds z;
+        helds = listed_more (given_at give held₀) held₀ k.listed same_held l h.helds z;
         queues = listed_more wait queue₀ k.listed same_queue l h.queues w;
-        road = λ e. omega (arith, h.road e, sum-add held n c (at release j) inside (omega (arith, long-held, k.cells)));
-        ramps = rw (start-more cell j) (omega (arith, h.ramps, skip, sum-set queue c (at waiting j) (omega (arith, long-queue, k.cells))));
+        road = λ e. omega (arith, h.road e, sum_add held n c (at release j) inside (omega (arith, long_held_lem, k.cells)));
+        ramps = rw (start_more cell j) (omega (arith, h.ramps, skip, sum_set queue c (at waiting j) (omega (arith, long_queue_lem, k.cells))));
         bound = omega (arith, h.bound, k.rates c inside);
         small = omega (arith, h.small, k.queues c inside);
       }
 
-  pub add-end : ramps ≤ j → Upto ramps j → AddGives give wait n held₀ queue₀ held queue sum₀ on_road at_ramps
-  add-end l m =
+  pub add_end : ramps ≤ j → Upto ramps j → AddGives give wait n held₀ queue₀ held queue sum₀ on_road at_ramps
+  add_end l m =
       let e : j ≡ ramps = omega (arith, m.within) in
-      let zero-there : (i : ℕ) → start_of cell j ≤ i → i < n → at queue i ≡ 0 =
-      λ i a b. ap (λ (x : List ℕ). at x i) h.queues ∙ fill-past wait (start_of cell j) queue₀ i a
+      let zero_there : (i : ℕ) → start_of cell j ≤ i → i < n → at queue i ≡ 0 =
+      λ i a b. ap (λ (x : List ℕ). at x i) h.queues ∙ fill_past wait (start_of cell j) queue₀ i a
       ∙ (k.listed.past i (subst (λ (q : ℕ). start_of cell q ≤ i) e a) b).queues in
       let last : start_of cell j ≤ n = subst (λ (q : ℕ). start_of cell q ≤ n) (sym e) k.listed.last in
       record {
-        helds = listed-end (given_at give held₀) held₀ k.listed same-held e h.helds;
-        queues = listed-end wait queue₀ k.listed same_queue e h.queues;
+        helds = listed_end (given_at give held₀) held₀ k.listed same_held e h.helds;
+        queues = listed_end wait queue₀ k.listed same_queue e h.queues;
         road = h.road;
-        ramps = h.ramps ∙ sym (sum_to queue (start_of cell j) n last (omega (arith, long-queue, k.cells)) zero-there);
+        ramps = h.ramps ∙ sym (sum_to queue (start_of cell j) n last (omega (arith, long_queue_lem, k.cells)) zero_there);
       }

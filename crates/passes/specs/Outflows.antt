@@ -5,12 +5,12 @@ use Rattle.std.proofs.Math.Path.{ap}
 use Rattle.std.proofs.Math.Numerals.{add-one}
 use Rattle.std.proofs.Math.ListN.{length-set}
 use Rattle.model.specs.Flow.{whole, entering_of, outflow_of}
-use Rattle.flow.specs.FlowLaws.{outflow-le, entering-le}
+use Rattle.flow.specs.FlowLaws.{outflow_le, entering_le}
 use Rattle.model.specs.Numbers.{sum_of, fill_of, at}
-use Rattle.numbers.specs.SumLaws.{sum-start, sum-set}
-use Rattle.numbers.specs.RowsLaws.{fill_more, fill-past}
+use Rattle.numbers.specs.SumLaws.{sum_start, sum_set}
+use Rattle.numbers.specs.RowsLaws.{fill_more, fill_past}
 use Rattle.model.specs.Road.{most_cells, most_rate, most_steps}
-use Rattle.passes.specs.Rest.{rest_of, rest-small, OutflowByRest}
+use Rattle.passes.specs.Rest.{rest_of, rest_small, OutflowByRest}
 
 -- what the pass uses: the gate's outflow, and shares, demands, rooms, held counts and cumulative outflows
 pub record Pass : Type 0 where
@@ -84,10 +84,10 @@ pub record SendSoFar (n : ℕ) (c : Pass) (rest₀ y₀ held rest cumulative y :
   pub long_held : n ≤ length held
   pub to : SendGives i c rest₀ y₀ held rest cumulative y sum
 
-pub send-none : {n : ℕ} {c : Pass} {rest l y : List ℕ} → SendRequires n c rest → y ≡ set l 0 c.first
+pub send_none : {n : ℕ} {c : Pass} {rest l y : List ℕ} → SendRequires n c rest → y ≡ set l 0 c.first
     → SendSoFar n c rest l c.held rest c.cumulative y c.first 0 0
 unfolding fill_of place_at enter_at
-send-none {n} {c} {rest} {l} {y} k e = record {
+send_none {n} {c} {rest} {l} {y} k e = record {
   within = omega arith;
   enters = refl;
   most = k.gate;
@@ -97,7 +97,7 @@ send-none {n} {c} {rest} {l} {y} k e = record {
     helds = refl;
     cumulatives = refl;
     rests = refl;
-    sums = sym (sum-start c.held);
+    sums = sym (sum_start c.held);
     bound = omega arith;
   };
 }
@@ -115,25 +115,25 @@ pub record Turn (out on hold total enter sums i : ℕ) : Type 0 where
 module _ {n : ℕ} {c : Pass} {rest₀ y₀ held rest cumulative y : List ℕ} {entering sum i : ℕ}
     (k : SendRequires n c rest₀) (h : SendSoFar n c rest₀ y₀ held rest cumulative y entering sum i) where
   -- the cell at i is not moved yet
-  pub held-here : at held i ≡ at c.held i
-  held-here = ap (λ (x : List ℕ). at x i) h.to.helds ∙ fill-past (left_at c) i c.held i (le_refl i)
+  pub held_here : at held i ≡ at c.held i
+  held_here = ap (λ (x : List ℕ). at x i) h.to.helds ∙ fill_past (left_at c) i c.held i (le_refl i)
 
-  pub cumulative-here : at cumulative i ≡ at c.cumulative i
-  cumulative-here = ap (λ (x : List ℕ). at x i) h.to.cumulatives ∙ fill-past (grown_at c) i c.cumulative i (le_refl i)
+  pub cumulative_here : at cumulative i ≡ at c.cumulative i
+  cumulative_here = ap (λ (x : List ℕ). at x i) h.to.cumulatives ∙ fill_past (grown_at c) i c.cumulative i (le_refl i)
 
-  pub rest-here : at rest i ≡ at rest₀ i
-  rest-here = ap (λ (x : List ℕ). at x i) h.to.rests ∙ fill-past (rest_at c) i rest₀ i (le_refl i)
+  pub rest_here : at rest i ≡ at rest₀ i
+  rest_here = ap (λ (x : List ℕ). at x i) h.to.rests ∙ fill_past (rest_at c) i rest₀ i (le_refl i)
 
-  pub known-rest : i < n → at rest i ≡ rest_of (at c.share i) (at c.cumulative i)
-  known-rest l = rest-here ∙ k.rests i l
+  pub known_rest : i < n → at rest i ≡ rest_of (at c.share i) (at c.cumulative i)
+  known_rest l = rest_here ∙ k.rests i l
 
   -- the facts about the numbers of a turn
-  pub turn-ready : i < n → (at c.share i ≤ whole) × ((at c.demand i ≤ most_rate) × (at rest i ≤ 999))
-  turn-ready l = (
+  pub turn_ready : i < n → (at c.share i ≤ whole) × ((at c.demand i ≤ most_rate) × (at rest i ≤ 999))
+  turn_ready l = (
     k.shares i l,
     (
       omega (arith, k.demands i l, k.helds i l),
-      omega (arith, known-rest l, rest-small (at c.share i) (at c.cumulative i)),
+      omega (arith, known_rest l, rest_small (at c.share i) (at c.cumulative i)),
     ),
   )
 
@@ -141,18 +141,18 @@ module _ {n : ℕ} {c : Pass} {rest₀ y₀ held rest cumulative y : List ℕ} {
   module _ {outflow onward next : ℕ} (l : i < n)
       (sent : (F : ℕ) → at rest i ≡ rest_of (at c.share i) F → OutflowByRest (at c.share i) F (at c.room (i + 1)) (at c.demand i) outflow onward next) where
     here : OutflowByRest (at c.share i) (at c.cumulative i) (at c.room (i + 1)) (at c.demand i) outflow onward next
-    here = sent (at c.cumulative i) (known-rest l)
+    here = sent (at c.cumulative i) (known_rest l)
 
-    pub out-here : outflow ≡ out_at c i
+    pub out_here : outflow ≡ out_at c i
     unfolding out_at
-    out-here = here.outflows
+    out_here = here.outflows
 
     pub turn : Turn outflow onward (at held i) (at cumulative i) entering sum i
     turn =
-        let o = outflow-le (at c.share i) (at c.cumulative i) (at c.room (i + 1)) (at c.demand i) in
-        let e = entering-le (at c.share i) (at c.cumulative i) outflow (k.shares i l) in
-        let hh = held-here in
-        let hc = cumulative-here in
+        let o = outflow_le (at c.share i) (at c.cumulative i) (at c.room (i + 1)) (at c.demand i) in
+        let e = entering_le (at c.share i) (at c.cumulative i) outflow (k.shares i l) in
+        let hh = held_here in
+        let hc = cumulative_here in
         let out = here.outflows in
         let ent = here.enters in
         let d = k.demands i l in
@@ -168,14 +168,14 @@ module _ {n : ℕ} {c : Pass} {rest₀ y₀ held rest cumulative y : List ℕ} {
           cells = omega (arith, k.cells);
         }
 
-    pub send-more : SendSoFar n c rest₀ y₀ (set held i (at held i + entering - outflow)) (set rest i next) (set cumulative i (at cumulative i + outflow))
+    pub send_more : SendSoFar n c rest₀ y₀ (set held i (at held i + entering - outflow)) (set rest i next) (set cumulative i (at cumulative i + outflow))
         (set y (i + 1) outflow) onward (sum + (at held i + entering - outflow)) (i + 1)
     unfolding place_at enter_at
-    send-more =
+    send_more =
         let t = turn in
-        let hh = held-here in
-        let hc = cumulative-here in
-        let out = out-here in
+        let hh = held_here in
+        let hc = cumulative_here in
+        let out = out_here in
         let ent = h.enters in
         let left : at held i + entering - outflow ≡ left_at c i = cc in
         let grown : at cumulative i + outflow ≡ grown_at c i = cc in
@@ -195,13 +195,13 @@ module _ {n : ℕ} {c : Pass} {rest₀ y₀ held rest cumulative y : List ℕ} {
             helds = cc (fill_more (left_at c) i c.held);
             cumulatives = cc (fill_more (grown_at c) i c.cumulative);
             rests = cc (fill_more (rest_at c) i rest₀);
-            sums = omega (arith, h.to.sums, sum-set held i (at held i + entering - outflow) (omega (arith, h.long_held, k.cells)));
+            sums = omega (arith, h.to.sums, sum_set held i (at held i + entering - outflow) (omega (arith, h.long_held, k.cells)));
             bound = omega (arith, h.to.bound);
           };
         }
 
-pub send-end : {n : ℕ} {c : Pass} {rest₀ y₀ held rest cumulative y : List ℕ} {entering sum i : ℕ}
+pub send_end : {n : ℕ} {c : Pass} {rest₀ y₀ held rest cumulative y : List ℕ} {entering sum i : ℕ}
     → SendSoFar n c rest₀ y₀ held rest cumulative y entering sum i → n ≤ i → SendGives n c rest₀ y₀ held rest cumulative y sum
-send-end {n} {c} {rest₀} {y₀} {held} {rest} {cumulative} {y} {entering} {sum} {i} h l =
+send_end {n} {c} {rest₀} {y₀} {held} {rest} {cumulative} {y} {entering} {sum} {i} h l =
     let e : i ≡ n = omega (arith, h.within) in
     subst (λ (k : ℕ). SendGives k c rest₀ y₀ held rest cumulative y sum) e h.to

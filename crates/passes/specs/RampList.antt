@@ -7,7 +7,7 @@ use Rattle.std.proofs.lemmas.List.{set-get_or}
 use Rattle.numbers.specs.Tests.{order}
 use Rattle.model.specs.Numbers.{sum_of, fill_of, at}
 use Rattle.numbers.specs.SumLaws.{sum_more}
-use Rattle.numbers.specs.RowsLaws.{fill_more, fill-past}
+use Rattle.numbers.specs.RowsLaws.{fill_more, fill_past}
 use Rattle.model.specs.Road.{most_cells}
 
 -- the cell after the one that is listed before entry k, 0 for the first
@@ -15,9 +15,9 @@ unfoldable pub start_of : List ℕ → ℕ → ℕ
 start_of cell zero = 0
 start_of cell (suc k) = at cell k + 1
 
-pub start-more : (cell : List ℕ) (k : ℕ) → start_of cell (k + 1) ≡ at cell k + 1
+pub start_more : (cell : List ℕ) (k : ℕ) → start_of cell (k + 1) ≡ at cell k + 1
 unfolding start_of
-start-more cell k = rw add-one
+start_more cell k = rw add-one
 
 -- the first `count` entries list cells of n, lowest first, and P holds for the cells that they leave out
 pub record Listed (P : ℕ → Type 0) (n count : ℕ) (cell : List ℕ) : Type 0 where
@@ -37,15 +37,15 @@ pub record Upto (ramps k : ℕ) : Type 0 where
   pub within : k ≤ ramps
   pub cells : ramps ≤ most_cells
 
-pub upto-none : {P : ℕ → Type 0} {n ramps : ℕ} {cell : List ℕ} → Listed P n ramps cell → n ≤ most_cells → Upto ramps 0
-upto-none h l = record { within = omega arith; cells = omega (arith, h.most) }
+pub upto_none : {P : ℕ → Type 0} {n ramps : ℕ} {cell : List ℕ} → Listed P n ramps cell → n ≤ most_cells → Upto ramps 0
+upto_none h l = record { within = omega arith; cells = omega (arith, h.most) }
 
-pub upto-more : {ramps k : ℕ} → Upto ramps k → k < ramps → Upto ramps (k + 1)
-upto-more h l = record { within = omega arith; cells = h.cells }
+pub upto_more : {ramps k : ℕ} → Upto ramps k → k < ramps → Upto ramps (k + 1)
+upto_more h l = record { within = omega arith; cells = h.cells }
 
 -- what P implies holds for them too
-pub listed-map : {P Q : ℕ → Type 0} {n count : ℕ} {cell : List ℕ} → ((i : ℕ) → i < n → P i → Q i) → Listed P n count cell → Listed Q n count cell
-listed-map f h = record {
+pub listed_map : {P Q : ℕ → Type 0} {n count : ℕ} {cell : List ℕ} → ((i : ℕ) → i < n → P i → Q i) → Listed P n count cell → Listed Q n count cell
+listed_map f h = record {
   most = h.most;
   rises = h.rises;
   within = h.within;
@@ -55,69 +55,69 @@ listed-map f h = record {
 }
 
 -- entries that do not change need not be stored
-fill-skip : (f : ℕ → ℕ) (l : List ℕ) (a d : ℕ) → ((i : ℕ) → a ≤ i → i < a + d → f i ≡ at l i) → fill_of f (a + d) l ≡ fill_of f a l
+fill_skip : (f : ℕ → ℕ) (l : List ℕ) (a d : ℕ) → ((i : ℕ) → a ≤ i → i < a + d → f i ≡ at l i) → fill_of f (a + d) l ≡ fill_of f a l
 unfolding fill_of
-fill-skip f l a zero h = ap (λ (k : ℕ). fill_of f k l) (add-zero a)
-fill-skip f l a (suc d) h =
-    let e : f (a + d) ≡ at (fill_of f (a + d) l) (a + d) = h (a + d) (omega arith) (omega arith) ∙ sym (fill-past f (a + d) l (a + d) (le_refl (a + d))) in
+fill_skip f l a zero h = ap (λ (k : ℕ). fill_of f k l) (add-zero a)
+fill_skip f l a (suc d) h =
+    let e : f (a + d) ≡ at (fill_of f (a + d) l) (a + d) = h (a + d) (omega arith) (omega arith) ∙ sym (fill_past f (a + d) l (a + d) (le_refl (a + d))) in
     ap (λ (k : ℕ). fill_of f k l) (add-suc a d)
     ∙ ap (set (fill_of f (a + d) l) (a + d)) e
     ∙ set-get_or (fill_of f (a + d) l) (a + d) 0
-    ∙ fill-skip f l a d (λ i x y. h i x (omega arith))
+    ∙ fill_skip f l a d (λ i x y. h i x (omega arith))
 
-pub fill-to : (f : ℕ → ℕ) (l : List ℕ) (a b : ℕ) → a ≤ b → ((i : ℕ) → a ≤ i → i < b → f i ≡ at l i) → fill_of f b l ≡ fill_of f a l
-fill-to f l a b h g =
+pub fill_to : (f : ℕ → ℕ) (l : List ℕ) (a b : ℕ) → a ≤ b → ((i : ℕ) → a ≤ i → i < b → f i ≡ at l i) → fill_of f b l ≡ fill_of f a l
+fill_to f l a b h g =
     let e : a + (b - a) ≡ b = omega arith in
-    ap (λ (k : ℕ). fill_of f k l) (sym e) ∙ fill-skip f l a (b - a) (λ i x y. g i x (omega arith))
+    ap (λ (k : ℕ). fill_of f k l) (sym e) ∙ fill_skip f l a (b - a) (λ i x y. g i x (omega arith))
 
 -- entries that are 0 add nothing
-sum-skip : (l : List ℕ) (a d : ℕ) → a + d ≤ length l → ((i : ℕ) → a ≤ i → i < a + d → at l i ≡ 0) → sum_of (take (a + d) l) ≡ sum_of (take a l)
-sum-skip l a zero h g = ap (λ (k : ℕ). sum_of (take k l)) (add-zero a)
-sum-skip l a (suc d) h g =
+sum_skip : (l : List ℕ) (a d : ℕ) → a + d ≤ length l → ((i : ℕ) → a ≤ i → i < a + d → at l i ≡ 0) → sum_of (take (a + d) l) ≡ sum_of (take a l)
+sum_skip l a zero h g = ap (λ (k : ℕ). sum_of (take k l)) (add-zero a)
+sum_skip l a (suc d) h g =
     ap (λ (k : ℕ). sum_of (take k l)) (add-suc a d)
-    ∙ omega (arith, sum_more (a + d) l (omega arith), g (a + d) (omega arith) (omega arith), sum-skip l a d (omega arith) (λ i x y. g i x (omega arith)))
+    ∙ omega (arith, sum_more (a + d) l (omega arith), g (a + d) (omega arith) (omega arith), sum_skip l a d (omega arith) (λ i x y. g i x (omega arith)))
 
 pub sum_to : (l : List ℕ) (a b : ℕ) → a ≤ b → b ≤ length l → ((i : ℕ) → a ≤ i → i < b → at l i ≡ 0) → sum_of (take b l) ≡ sum_of (take a l)
 sum_to l a b h m g =
     let e : a + (b - a) ≡ b = omega arith in
-    ap (λ (k : ℕ). sum_of (take k l)) (sym e) ∙ sum-skip l a (b - a) (omega arith) (λ i x y. g i x (omega arith))
+    ap (λ (k : ℕ). sum_of (take k l)) (sym e) ∙ sum_skip l a (b - a) (omega arith) (λ i x y. g i x (omega arith))
 
 -- the sum grows as much as an entry
-pub sum-add : (l : List ℕ) (n i g : ℕ) → i < n → n ≤ length l → sum_of (take n (set l i (at l i + g))) ≡ sum_of (take n l) + g
+pub sum_add : (l : List ℕ) (n i g : ℕ) → i < n → n ≤ length l → sum_of (take n (set l i (at l i + g))) ≡ sum_of (take n l) + g
 unfolding sum_of
-sum-add [] n i g h m = absurd (omega arith)
-sum-add (x ∷ l) zero i g h m = absurd (omega arith)
-sum-add (x ∷ l) (suc n) zero g h m = omega arith
-sum-add (x ∷ l) (suc n) (suc i) g h m = omega (arith, sum-add l n i g (omega arith) (omega arith))
+sum_add [] n i g h m = absurd (omega arith)
+sum_add (x ∷ l) zero i g h m = absurd (omega arith)
+sum_add (x ∷ l) (suc n) zero g h m = omega arith
+sum_add (x ∷ l) (suc n) (suc i) g h m = omega (arith, sum_add l n i g (omega arith) (omega arith))
 
 -- a row that is stored only at the listed cells
 module _ (f : ℕ → ℕ) (l : List ℕ) {P : ℕ → Type 0} {n count : ℕ} {cell : List ℕ} (c : Listed P n count cell)
     (same : (i : ℕ) → i < n → P i → f i ≡ at l i) where
-  pub listed-before : {x : List ℕ} {k : ℕ} → k < count → x ≡ fill_of f (start_of cell k) l → x ≡ fill_of f (at cell k) l
-  listed-before {x} {k} h e =
-      e ∙ sym (fill-to f l (start_of cell k) (at cell k) (c.rises k h) (λ i a b. same i (omega (arith, c.within k h)) (c.gap k h i a b)))
+  pub listed_before : {x : List ℕ} {k : ℕ} → k < count → x ≡ fill_of f (start_of cell k) l → x ≡ fill_of f (at cell k) l
+  listed_before {x} {k} h e =
+      e ∙ sym (fill_to f l (start_of cell k) (at cell k) (c.rises k h) (λ i a b. same i (omega (arith, c.within k h)) (c.gap k h i a b)))
 
   pub listed_here : {x : List ℕ} {k : ℕ} → k < count → x ≡ fill_of f (start_of cell k) l → at x (at cell k) ≡ at l (at cell k)
   listed_here {x} {k} h e =
-      ap (λ (q : List ℕ). at q (at cell k)) (listed-before h e) ∙ fill-past f (at cell k) l (at cell k) (le_refl (at cell k))
+      ap (λ (q : List ℕ). at q (at cell k)) (listed_before h e) ∙ fill_past f (at cell k) l (at cell k) (le_refl (at cell k))
 
   pub listed_more : {x : List ℕ} {k z : ℕ} → k < count → x ≡ fill_of f (start_of cell k) l → z ≡ f (at cell k)
       → set x (at cell k) z ≡ fill_of f (start_of cell (k + 1)) l
   listed_more {x} {k} {z} h e ez =
-      let b = listed-before h e in
-      let s = start-more cell k in
+      let b = listed_before h e in
+      let s = start_more cell k in
       cc (fill_more f (at cell k) l)
 
-  pub listed-end : {x : List ℕ} {k : ℕ} → k ≡ count → x ≡ fill_of f (start_of cell k) l → x ≡ fill_of f n l
-  listed-end {x} {k} h e =
+  pub listed_end : {x : List ℕ} {k : ℕ} → k ≡ count → x ≡ fill_of f (start_of cell k) l → x ≡ fill_of f n l
+  listed_end {x} {k} h e =
       e ∙ ap (λ (q : ℕ). fill_of f (start_of cell q) l) h
-      ∙ sym (fill-to f l (start_of cell count) n c.last (λ i a b. same i b (c.past i a b)))
+      ∙ sym (fill_to f l (start_of cell count) n c.last (λ i a b. same i b (c.past i a b)))
 
 -- the list is built cell by cell
 module _ {P : ℕ → Type 0} where
-  pub listed-none : {cell : List ℕ} → Listed P 0 0 cell
+  pub listed_none : {cell : List ℕ} → Listed P 0 0 cell
   unfolding start_of
-  listed-none = record {
+  listed_none = record {
     most = omega arith;
     rises = λ k l. absurd (omega arith);
     within = λ k l. absurd (omega arith);
@@ -127,8 +127,8 @@ module _ {P : ℕ → Type 0} where
   }
 
   module _ {i count : ℕ} {cell : List ℕ} (h : Listed P i count cell) where
-    pub listed-skip : P i → Listed P (i + 1) count cell
-    listed-skip p = record {
+    pub listed_skip : P i → Listed P (i + 1) count cell
+    listed_skip p = record {
       most = omega (arith, h.most);
       rises = h.rises;
       within = λ k l. omega (arith, h.within k l);
@@ -152,11 +152,11 @@ module _ {P : ℕ → Type 0} where
       starts zero l = refl
       starts (suc k) l = ap (λ (x : ℕ). x + 1) (kept k l)
 
-      last-start : start_of (set cell count i) (count + 1) ≡ i + 1
-      last-start = start-more (set cell count i) count ∙ ap (λ (x : ℕ). x + 1) stored
+      last_start : start_of (set cell count i) (count + 1) ≡ i + 1
+      last_start = start_more (set cell count i) count ∙ ap (λ (x : ℕ). x + 1) stored
 
-      pub listed-put : Listed P (i + 1) (count + 1) (set cell count i)
-      listed-put = record {
+      pub listed_put : Listed P (i + 1) (count + 1) (set cell count i)
+      listed_put = record {
         most = omega (arith, h.most);
         rises = λ k l. ⊎_elim
             (λ (q : count ≤ k).
@@ -178,12 +178,12 @@ module _ {P : ℕ → Type 0} where
             h.past j (omega (arith, starts count (le_refl count))) (omega (arith, stored)))
             (λ (q : k < count). h.gap k q j (omega (arith, starts k (omega arith))) (omega (arith, kept k q)))
             (order count k);
-        last = omega (arith, last-start);
-        past = λ j a b. absurd (omega (arith, last-start));
+        last = omega (arith, last_start);
+        past = λ j a b. absurd (omega (arith, last_start));
       }
 
-      pub ramps-put : (ramp : List ℕ) → at ramp i ≡ 1 → AtRamps ramp count cell → AtRamps ramp (count + 1) (set cell count i)
-      ramps-put ramp e f k l = ⊎_elim
+      pub ramps_put : (ramp : List ℕ) → at ramp i ≡ 1 → AtRamps ramp count cell → AtRamps ramp (count + 1) (set cell count i)
+      ramps_put ramp e f k l = ⊎_elim
           (λ (q : count ≤ k).
           let same : count ≡ k = omega arith in
           ap (λ (x : ℕ). at ramp (at (set cell count i) x)) (sym same) ∙ ap (at ramp) stored ∙ e)
@@ -195,6 +195,6 @@ pub listed_same : {P : ℕ → Type 0} {n count count' : ℕ} {cell cell' : List
 listed_same {P} {n} {count} {count'} {cell} {cell'} e g h =
     subst (λ (k : ℕ). Listed P n k cell') (sym g) (subst (λ (x : List ℕ). Listed P n count x) (sym e) h)
 
-pub ramps-same : (ramp : List ℕ) {count count' : ℕ} {cell cell' : List ℕ} → cell' ≡ cell → count' ≡ count → AtRamps ramp count cell
+pub ramps_same : (ramp : List ℕ) {count count' : ℕ} {cell cell' : List ℕ} → cell' ≡ cell → count' ≡ count → AtRamps ramp count cell
     → AtRamps ramp count' cell'
-ramps-same ramp e g h = rw (e, g) h
+ramps_same ramp e g h = rw (e, g) h

@@ -9,7 +9,7 @@ use Rattle.model.specs.declared.Road.{Road}
 use Rattle.model.specs.declared.State.{State}
 use Rattle.model.specs.Road.{most_cells, most_rate}
 use Rattle.model.specs.Flow.{capacity_at, supply_at, demand_at}
-use Rattle.passes.specs.Rest.{product-most}
+use Rattle.passes.specs.Rest.{product_most}
 
 -- the supply and the demand of the cell at i, from columns
 unfoldable pub supply_in : List ℕ → List ℕ → List ℕ → List ℕ → ℕ → ℕ
@@ -19,13 +19,13 @@ unfoldable pub demand_in : List ℕ → List ℕ → List ℕ → ℕ → ℕ
 demand_in speed capacity held i = demand_of (at speed i) (at capacity i) (at held i)
 
 -- those of a road and a state are the model's
-pub supply-model : (r : Road) (s : State) (i : ℕ) → supply_in r.wave r.jam r.capacity s.held i ≡ supply_at r s i
+pub supply_model : (r : Road) (s : State) (i : ℕ) → supply_in r.wave r.jam r.capacity s.held i ≡ supply_at r s i
 unfolding supply_in capacity_at
-supply-model r s i = refl
+supply_model r s i = refl
 
-pub demand-model : (r : Road) (s : State) (i : ℕ) → demand_in r.speed r.capacity s.held i ≡ demand_at r s (suc i)
+pub demand_model : (r : Road) (s : State) (i : ℕ) → demand_in r.speed r.capacity s.held i ≡ demand_at r s (suc i)
 unfolding demand_in demand_at capacity_at
-demand-model r s i = refl
+demand_model r s i = refl
 
 -- what their products require from the first `count` entries
 pub record SuppliesRequire (count : ℕ) (wave jam held : List ℕ) : Type 0 where
@@ -58,28 +58,28 @@ module _ {f : ℕ → ℕ} {n : ℕ} {l : List ℕ} where
       same = simp length-set h.same;
     }
 
-    pub filled-end : n ≤ i → x ≡ fill_of f n l
-    filled-end less = let e : i ≡ n = omega (arith, h.within) in let k = h.filled in cc
+    pub filled_end : n ≤ i → x ≡ fill_of f n l
+    filled_end less = let e : i ≡ n = omega (arith, h.within) in let k = h.filled in cc
 
 -- the supply and the demand that the code computes
-pub supply-found : (wave jam capacity held : List ℕ) (i : ℕ) {z : ℕ} → z ≡ min (at capacity i) (at wave i * (at jam i - at held i) / 1000)
+pub supply_found : (wave jam capacity held : List ℕ) (i : ℕ) {z : ℕ} → z ≡ min (at capacity i) (at wave i * (at jam i - at held i) / 1000)
     → z ≡ supply_in wave jam capacity held i
 unfolding supply_in supply_of thousandths_of
-supply-found wave jam capacity held i e = e
+supply_found wave jam capacity held i e = e
 
-pub demand-found : (speed capacity held : List ℕ) (i : ℕ) {z : ℕ} → z ≡ min (at capacity i) (at speed i * at held i / 1000)
+pub demand_found : (speed capacity held : List ℕ) (i : ℕ) {z : ℕ} → z ≡ min (at capacity i) (at speed i * at held i / 1000)
     → z ≡ demand_in speed capacity held i
 unfolding demand_in demand_of thousandths_of
-demand-found speed capacity held i e = e
+demand_found speed capacity held i e = e
 
 -- the bounds of a turn's product
-pub supply-product : {count : ℕ} {wave jam held : List ℕ} → SuppliesRequire count wave jam held → (i : ℕ) → i < count
+pub supply_product : {count : ℕ} {wave jam held : List ℕ} → SuppliesRequire count wave jam held → (i : ℕ) → i < count
     → at wave i * (at jam i - at held i) ≤ 1000000000
-supply-product {wave = wave} {jam} {held} k i l = product-most (at wave i) (at jam i - at held i) (k.waves i l) (omega (arith, k.jams i l))
+supply_product {wave = wave} {jam} {held} k i l = product_most (at wave i) (at jam i - at held i) (k.waves i l) (omega (arith, k.jams i l))
 
-pub demand-product : {count : ℕ} {speed held : List ℕ} → DemandsRequire count speed held → (i : ℕ) → i < count
+pub demand_product : {count : ℕ} {speed held : List ℕ} → DemandsRequire count speed held → (i : ℕ) → i < count
     → at speed i * at held i ≤ 1000000000
-demand-product {speed = speed} {held} k i l = product-most (at speed i) (at held i) (k.speeds i l) (k.helds i l)
+demand_product {speed = speed} {held} k i l = product_most (at speed i) (at held i) (k.speeds i l) (k.helds i l)
 
 -- the cell at i has no ramp
 abbrev pub NoRamp : List ℕ → ℕ → Type 0

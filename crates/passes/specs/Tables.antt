@@ -69,15 +69,15 @@ no_more : (P : Table → Type 0) → P [] → (t : Table) → length t ≡ 0 →
 no_more P p [] e = p
 no_more P p (x ∷ t) e = absurd (omega arith)
 
-pub three-columns : (P : Table → Type 0) → ((a b c : List ℕ) → P (a ∷ b ∷ c ∷ [])) → (t : Table) → length t ≡ 3 → P t
-three-columns P f =
+pub three_columns : (P : Table → Type 0) → ((a b c : List ℕ) → P (a ∷ b ∷ c ∷ [])) → (t : Table) → length t ≡ 3 → P t
+three_columns P f =
     one_more P (λ a. one_more (λ t. P (a ∷ t)) (λ b. one_more (λ t. P (a ∷ b ∷ t)) (λ c. no_more (λ t. P (a ∷ b ∷ c ∷ t)) (f a b c))))
 
-pub four-columns : (P : Table → Type 0) → ((a b c d : List ℕ) → P (a ∷ b ∷ c ∷ d ∷ [])) → (t : Table) → length t ≡ 4 → P t
-four-columns P f = one_more P (λ a. three-columns (λ t. P (a ∷ t)) (f a))
+pub four_columns : (P : Table → Type 0) → ((a b c d : List ℕ) → P (a ∷ b ∷ c ∷ d ∷ [])) → (t : Table) → length t ≡ 4 → P t
+four_columns P f = one_more P (λ a. three_columns (λ t. P (a ∷ t)) (f a))
 
-pub five-columns : (P : Table → Type 0) → ((a b c d e : List ℕ) → P (a ∷ b ∷ c ∷ d ∷ e ∷ [])) → (t : Table) → length t ≡ 5 → P t
-five-columns P f = one_more P (λ a. four-columns (λ t. P (a ∷ t)) (f a))
+pub five_columns : (P : Table → Type 0) → ((a b c d e : List ℕ) → P (a ∷ b ∷ c ∷ d ∷ e ∷ [])) → (t : Table) → length t ≡ 5 → P t
+five_columns P f = one_more P (λ a. four_columns (λ t. P (a ∷ t)) (f a))
 
 -- the tables of a road are its columns, with the list of its cells with a ramp
 pub record RoadTables (r : Road) (z : Size) (rates sizes : Table) (cell : List ℕ) : Type 0 where
@@ -85,9 +85,9 @@ pub record RoadTables (r : Road) (z : Size) (rates sizes : Table) (cell : List �
   pub road : road_in r z rates sizes ≡ r
   pub cells : cell_col sizes ≡ cell
 
-pub road-tables : (r : Road) {z : Size} {rates sizes : Table} (cell list : List ℕ) → rates ≡ r.speed ∷ r.wave ∷ r.share ∷ []
+pub road_tables : (r : Road) {z : Size} {rates sizes : Table} (cell list : List ℕ) → rates ≡ r.speed ∷ r.wave ∷ r.share ∷ []
     → sizes ≡ r.jam ∷ r.capacity ∷ list ∷ [] → (z.n ≡ r.n) × (z.gate_capacity ≡ r.gate_capacity) → RoadTables r z rates (set sizes 2 cell) cell
-road-tables r cell list er es ez = rw (er, es) (record { columns = refl; road = rw (ez.0, ez.1) refl; cells = refl })
+road_tables r cell list er es ez = rw (er, es) (record { columns = refl; road = rw (ez.0, ez.1) refl; cells = refl })
 
 -- a step's capacities are stored
 pub record StoredCapacities (r : Road) (z : Size) (rates sizes sizes₁ : Table) (capacity : List ℕ) : Type 0 where
@@ -95,9 +95,9 @@ pub record StoredCapacities (r : Road) (z : Size) (rates sizes sizes₁ : Table)
   pub road : road_in r z rates sizes₁ ≡ with_capacity (road_in r z rates sizes) capacity
   pub cells : cell_col sizes₁ ≡ cell_col sizes
 
-pub store-capacities : (r : Road) (z : Size) (rates sizes : Table) → length sizes ≡ 3 → (capacity : List ℕ)
+pub store_capacities : (r : Road) (z : Size) (rates sizes : Table) → length sizes ≡ 3 → (capacity : List ℕ)
     → StoredCapacities r z rates sizes (set sizes 1 capacity) capacity
-store-capacities r z rates sizes e capacity = three-columns (λ t. StoredCapacities r z rates t (set t 1 capacity) capacity)
+store_capacities r z rates sizes e capacity = three_columns (λ t. StoredCapacities r z rates t (set t 1 capacity) capacity)
     (λ a b c. record { columns = refl; road = refl; cells = refl })
     sizes e
 
@@ -119,8 +119,8 @@ pub record StoredRooms (work work₁ : Table) (room : List ℕ) : Type 0 where
   pub demands : demand_col work₁ ≡ demand_col work
   pub came : came_col work₁ ≡ came_col work
 
-pub store-rooms : (work : Table) → length work ≡ 5 → (room : List ℕ) → StoredRooms work (set work 0 room) room
-store-rooms work e room = five-columns (λ w. StoredRooms w (set w 0 room) room)
+pub store_rooms : (work : Table) → length work ≡ 5 → (room : List ℕ) → StoredRooms work (set work 0 room) room
+store_rooms work e room = five_columns (λ w. StoredRooms w (set w 0 room) room)
     (λ a b c d e. record { columns = refl; rooms = refl; releases = refl; waits = refl; demands = refl; came = refl })
     work e
 
@@ -132,8 +132,8 @@ pub record StoredDemands (work work₁ : Table) (demand : List ℕ) : Type 0 whe
   pub demands : demand_col work₁ ≡ demand
   pub came : came_col work₁ ≡ came_col work
 
-pub store-demands : (work : Table) → length work ≡ 5 → (demand : List ℕ) → StoredDemands work (set work 3 demand) demand
-store-demands work e demand = five-columns (λ w. StoredDemands w (set w 3 demand) demand)
+pub store_demands : (work : Table) → length work ≡ 5 → (demand : List ℕ) → StoredDemands work (set work 3 demand) demand
+store_demands work e demand = five_columns (λ w. StoredDemands w (set w 3 demand) demand)
     (λ a b c d e. record { columns = refl; rooms = refl; releases = refl; waits = refl; demands = refl; came = refl })
     work e
 
@@ -151,9 +151,9 @@ pub record StoredSent (state state₁ : Table) (i cumulative held rest : ℕ) : 
   pub cumulatives : cumulative_col state₁ ≡ set (cumulative_col state) i cumulative
   pub rests : rest_col state₁ ≡ set (rest_col state) i rest
 
-pub store-sent : (state : Table) → length state ≡ 4 → (i cumulative held rest : ℕ)
+pub store_sent_lem : (state : Table) → length state ≡ 4 → (i cumulative held rest : ℕ)
     → StoredSent state (store_sent state i cumulative held rest) i cumulative held rest
-store-sent state e i cumulative held rest = four-columns
+store_sent_lem state e i cumulative held rest = four_columns
     (λ t. StoredSent t (store_sent t i cumulative held rest) i cumulative held rest)
     (λ a b c d. record { columns = refl; helds = refl; queues = refl; cumulatives = refl; rests = refl })
     state e
@@ -169,8 +169,8 @@ pub record StoredAdded (state state₁ : Table) (i held queue : ℕ) : Type 0 wh
   pub cumulatives : cumulative_col state₁ ≡ cumulative_col state
   pub rests : rest_col state₁ ≡ rest_col state
 
-pub store-added : (state : Table) → length state ≡ 4 → (i held queue : ℕ) → StoredAdded state (store_added state i held queue) i held queue
-store-added state e i held queue = four-columns
+pub store_added_lem : (state : Table) → length state ≡ 4 → (i held queue : ℕ) → StoredAdded state (store_added state i held queue) i held queue
+store_added_lem state e i held queue = four_columns
     (λ t. StoredAdded t (store_added t i held queue) i held queue)
     (λ a b c d. record { columns = refl; helds = refl; queues = refl; cumulatives = refl; rests = refl })
     state e

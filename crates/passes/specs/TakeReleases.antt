@@ -3,14 +3,14 @@ use Rattle.std.specs.Prelude.{◌≡◌, Bool, true, false, List, ℕ, ◌+◌, 
 use Rattle.std.proofs.Math.Path.{refl}
 use Rattle.std.proofs.Common.{ap, subst, ◌∙◌, ⊎_elim, arith}
 use Rattle.model.specs.Numbers.{fill_of, at}
-use Rattle.numbers.specs.RowsLaws.{fill-at}
+use Rattle.numbers.specs.RowsLaws.{fill_at}
 use Rattle.model.specs.Road.{most_cells, most_rate, most_steps}
 use Rattle.model.specs.Limits.{most_queue}
 use Rattle.numbers.specs.Tests.{order}
 use Rattle.model.specs.Record.{number_of, row_size}
-use Rattle.passes.specs.Tables.{Table, room_col, release_col, waiting_col, demand_col, came_col, five-columns}
-use Rattle.passes.specs.Supplies.{FilledTo, filled_none, filled_more, filled-end}
-use Rattle.passes.specs.RampList.{start_of, start-more, Listed, Upto, listed_here, listed_more, listed-end}
+use Rattle.passes.specs.Tables.{Table, room_col, release_col, waiting_col, demand_col, came_col, five_columns}
+use Rattle.passes.specs.Supplies.{FilledTo, filled_none, filled_more, filled_end}
+use Rattle.passes.specs.RampList.{start_of, start_more, Listed, Upto, listed_here, listed_more, listed_end}
 
 -- the columns that taking leaves as they are
 pub record OtherKept (work₀ work : Table) : Type 0 where
@@ -33,9 +33,9 @@ record Stored (work work₁ : Table) (i room k release waiting : ℕ) : Type 0 w
   demands : demand_col work₁ ≡ demand_col work
   came : came_col work₁ ≡ came_col work
 
-store-taken : (work : Table) → length work ≡ 5 → (i room k release waiting : ℕ)
+store_taken_lem : (work : Table) → length work ≡ 5 → (i room k release waiting : ℕ)
     → Stored work (store_taken work i room k release waiting) i room k release waiting
-store-taken work e i room k release waiting = five-columns
+store_taken_lem work e i room k release waiting = five_columns
     (λ w. Stored w (store_taken w i room k release waiting) i room k release waiting)
     (λ a b c d e. record { columns = refl; rooms = refl; releases = refl; waits = refl; demands = refl; came = refl })
     work e
@@ -114,8 +114,8 @@ module _ {bytes : List ℕ} {start n ramps : ℕ} {cell queue : List ℕ} {work�
     kept = record { columns = t.columns; demands = refl; came = refl };
   }
 
-  pub take-turn : {k : ℕ} → k < ramps → TakeTurn start (at cell k) (length bytes) (at queue (at cell k)) (arrive_in bytes start (at cell k)) n
-  take-turn {k} l =
+  pub take_turn : {k : ℕ} → k < ramps → TakeTurn start (at cell k) (length bytes) (at queue (at cell k)) (arrive_in bytes start (at cell k)) n
+  take_turn {k} l =
       let inside = t.listed.within k l in
       record { within = inside; cells = t.cells; row = t.row; queue = t.queues (at cell k) inside; arrivals = t.arrivals (at cell k) inside }
 
@@ -123,24 +123,24 @@ module _ {bytes : List ℕ} {start n ramps : ℕ} {cell queue : List ℕ} {work�
   same i l e = omega arith
 
   module _ {work : Table} {k : ℕ} (h : TakeSoFar bytes start ramps cell queue work₀ work k) (l : k < ramps) where
-    pub room-here : at (room_col work) (at cell k) ≡ at (room_col work₀) (at cell k)
-    room-here = listed_here (less_at bytes start (room_col work₀)) (room_col work₀) t.listed same l h.rooms
+    pub room_here : at (room_col work) (at cell k) ≡ at (room_col work₀) (at cell k)
+    room_here = listed_here (less_at bytes start (room_col work₀)) (room_col work₀) t.listed same l h.rooms
 
     -- a release does not fit
-    pub take-stop : (Fits bytes start queue (room_col work₀) (at cell k) → ⊥) → ((i : ℕ) → i < n → Fits bytes start queue (room_col work₀) i) → ⊥
-    take-stop bad all = bad (all (at cell k) (t.listed.within k l))
+    pub take_stop : (Fits bytes start queue (room_col work₀) (at cell k) → ⊥) → ((i : ℕ) → i < n → Fits bytes start queue (room_col work₀) i) → ⊥
+    take_stop bad all = bad (all (at cell k) (t.listed.within k l))
 
     pub take_more : {most given : ℕ} → most ≡ at queue (at cell k) + arrive_in bytes start (at cell k) → given ≡ give_in bytes start (at cell k)
         → given ≤ most → given ≤ at (room_col work) (at cell k)
         → TakeSoFar bytes start ramps cell queue work₀ (store_taken work (at cell k) (at (room_col work) (at cell k) - given) k given (most - given)) (k + 1)
     take_more {most} {given} ec eg a b =
         let i = at cell k in
-        let there = room-here in
+        let there = room_here in
         let fit : Fits bytes start queue (room_col work₀) i = record { ramp = omega arith; supply = omega arith } in
-        let st = store-taken work h.kept.columns i (at (room_col work) i - given) k given (most - given) in
+        let st = store_taken_lem work h.kept.columns i (at (room_col work) i - given) k given (most - given) in
         record {
           rooms = st.rooms ∙ listed_more (less_at bytes start (room_col work₀)) (room_col work₀) t.listed same l h.rooms (omega arith);
-          fits = λ j m. go j (subst (λ (q : ℕ). j < q) (start-more cell k) m) fit;
+          fits = λ j m. go j (subst (λ (q : ℕ). j < q) (start_more cell k) m) fit;
           releases = rw st.releases (filled_more h.releases l eg);
           waits = rw st.waits (filled_more h.waits l (omega arith));
           kept = record { columns = st.columns; demands = st.demands ∙ h.kept.demands; came = st.came ∙ h.kept.came };
@@ -161,23 +161,23 @@ module _ {bytes : List ℕ} {start n ramps : ℕ} {cell queue : List ℕ} {work�
             (λ (p : j < start_of cell k). h.fits j p)
             (order (start_of cell k) j)
 
-  pub take-end : {work : Table} {k : ℕ} → TakeSoFar bytes start ramps cell queue work₀ work k
+  pub take_end : {work : Table} {k : ℕ} → TakeSoFar bytes start ramps cell queue work₀ work k
       → Upto ramps k → ramps ≤ k → TakeGives bytes start n ramps cell queue work₀ work
-  take-end {k = k} h b l =
+  take_end {k = k} h b l =
       let e : k ≡ ramps = omega (arith, b.within) in
       let big = b.cells in
       record {
-        rooms = listed-end (less_at bytes start (room_col work₀)) (room_col work₀) t.listed same e h.rooms;
+        rooms = listed_end (less_at bytes start (room_col work₀)) (room_col work₀) t.listed same e h.rooms;
         fits = λ i m. ⊎_elim
             (λ (p : start_of cell k ≤ i).
             let z = t.listed.past i (subst (λ (q : ℕ). start_of cell q ≤ i) e p) m in
             record { ramp = omega arith; supply = omega arith })
             (λ (p : i < start_of cell k). h.fits i p)
             (order (start_of cell k) i);
-        releases = λ j m. ap (λ (x : List ℕ). at x j) (filled-end h.releases l)
-            ∙ fill-at (λ j. give_in bytes start (at cell j)) ramps (release_col work₀) j m (omega (arith, t.long_release));
-        waits = λ j m. ap (λ (x : List ℕ). at x j) (filled-end h.waits l)
-            ∙ fill-at (λ j. wait_in bytes start queue (at cell j)) ramps (waiting_col work₀) j m (omega (arith, t.long_waiting));
+        releases = λ j m. ap (λ (x : List ℕ). at x j) (filled_end h.releases l)
+            ∙ fill_at (λ j. give_in bytes start (at cell j)) ramps (release_col work₀) j m (omega (arith, t.long_release));
+        waits = λ j m. ap (λ (x : List ℕ). at x j) (filled_end h.waits l)
+            ∙ fill_at (λ j. wait_in bytes start queue (at cell j)) ramps (waiting_col work₀) j m (omega (arith, t.long_waiting));
         same_release = h.releases.same;
         same_waiting = h.waits.same;
         kept = h.kept;

@@ -12,35 +12,35 @@ use Rattle.model.specs.Listing.{printed_within, most_outflows, refused_line, pri
 use Rattle.model.specs.Numbers.{unless}
 use Rattle.model.specs.Schedules.{outflows_at, proposed_at}
 use Rattle.model.specs.Reading.{cells_of, ReadAnswer, reading_within, reading_of, study_of}
-use Rattle.reading.specs.Caller.{Beyond, beyond-refused, within-other, within-kept, within-accepted}
+use Rattle.reading.specs.Caller.{Beyond, beyond_refused, within_other, within_kept, within_accepted}
 use Rattle.reading.specs.Table.{read_table}
 use Rattle.model.specs.Running.{steps_made, running_of, list_after}
-use Rattle.theory.proofs.TableLaws.{table-row}
-use Rattle.theory.proofs.RunEnds.{runs-refused, runs-long}
-use Rattle.theory.specs.Readable.{readable-open, openable-empty}
+use Rattle.theory.proofs.TableLaws.{table_row}
+use Rattle.theory.proofs.RunEnds.{runs_refused, runs_long}
+use Rattle.theory.specs.Readable.{readable_open, openable_empty}
 
 -- the text with only the model's limits
 abbrev pub printed_of : List ℕ → List ℕ
 printed_of bytes = printed_within most_cells most_bytes bytes
 
 module _ (bytes list : List ℕ) (long : most_outflows ≤ length list) where
-  pub printed-runs : printed_of bytes ≡ printed_end (study_of bytes []) (running_of bytes [] list)
+  pub printed_runs : printed_of bytes ≡ printed_end (study_of bytes []) (running_of bytes [] list)
   unfolding printed_within printed_run
-  printed-runs = go (eqb (reading_of bytes).number 0) refl
+  printed_runs = go (eqb (reading_of bytes).number 0) refl
     where
       go : (b : Bool) → eqb (reading_of bytes).number 0 ≡ b → printed_of bytes ≡ printed_end (study_of bytes []) (running_of bytes [] list)
       go true e =
           let z = eqb-true (reading_of bytes).number 0 e in
-          rw (runs-long bytes [] (openable-empty bytes z) list (omega (arith, read_table bytes (reading_of bytes) refl z)), eq-eqb (reading_of bytes).number 0 z)
+          rw (runs_long bytes [] (openable_empty bytes z) list (omega (arith, read_table bytes (reading_of bytes) refl z)), eq-eqb (reading_of bytes).number 0 z)
       go false e =
           let n = eqb-false (reading_of bytes).number 0 e in
-          rw (runs-refused bytes [] n list, ne_eqb (reading_of bytes).number 0 n)
+          rw (runs_refused bytes [] n list, ne_eqb (reading_of bytes).number 0 n)
 
   -- the outflows in its lines are the rows that running writes
-  pub printed-rows : (reading_of bytes).number ≡ 0 → (k : ℕ) → k < steps_made (study_of bytes []) (running_of bytes [] list)
+  pub printed_rows : (reading_of bytes).number ≡ 0 → (k : ℕ) → k < steps_made (study_of bytes []) (running_of bytes [] list)
       → proposed_at (study_of bytes []) (list_after bytes [] list) k ≡ outflows_at (study_of bytes []) k
   unfolding list_after
-  printed-rows z k l = table-row (study_of bytes []) (readable-open bytes (reading_of bytes) refl z).ok list (steps_made (study_of bytes []) (running_of bytes [] list)) k l
+  printed_rows z k l = table_row (study_of bytes []) (readable_open bytes (reading_of bytes) refl z).ok list (steps_made (study_of bytes []) (running_of bytes [] list)) k l
 
 -- what is printed if reading answers x
 abbrev printed_by : ReadAnswer → List ℕ → List ℕ
@@ -48,22 +48,22 @@ printed_by x bytes = unless (eqb x.number 0) (refused_line x.number 0 x.place) (
 
 module _ (cells most : ℕ) (bytes : List ℕ) where
   -- if the caller's limits don't refuse the record, the text is the full program's
-  printed-same : reading_within cells most bytes ≡ reading_of bytes → printed_within cells most bytes ≡ printed_of bytes
+  printed_same : reading_within cells most bytes ≡ reading_of bytes → printed_within cells most bytes ≡ printed_of bytes
   unfolding printed_within
-  printed-same e = ap (λ (x : ReadAnswer). printed_by x bytes) e
+  printed_same e = ap (λ (x : ReadAnswer). printed_by x bytes) e
 
-  pub printed-other : ((reading_within cells most bytes).number ≡ 26 → ⊥) → printed_within cells most bytes ≡ printed_of bytes
-  printed-other h = printed-same (within-other bytes cells most h)
+  pub printed_other : ((reading_within cells most bytes).number ≡ 26 → ⊥) → printed_within cells most bytes ≡ printed_of bytes
+  printed_other h = printed_same (within_other bytes cells most h)
 
   -- so it is for every record within them
-  pub printed-kept : cells_of bytes ≤ cells → length bytes ≤ most → printed_within cells most bytes ≡ printed_of bytes
-  printed-kept h k = printed-same (within-kept bytes cells most h k)
+  pub printed_kept : cells_of bytes ≤ cells → length bytes ≤ most → printed_within cells most bytes ≡ printed_of bytes
+  printed_kept h k = printed_same (within_kept bytes cells most h k)
 
   -- and for every record that they accept
-  pub printed-accepted : (reading_within cells most bytes).number ≡ 0 → printed_within cells most bytes ≡ printed_of bytes
-  printed-accepted h = printed-same (within-accepted bytes cells most h)
+  pub printed_accepted : (reading_within cells most bytes).number ≡ 0 → printed_within cells most bytes ≡ printed_of bytes
+  printed_accepted h = printed_same (within_accepted bytes cells most h)
 
   -- if they refuse it, only the line of 26 is printed
-  pub printed-beyond : Beyond cells most bytes → printed_within cells most bytes ≡ refused_line 26 0 0
+  pub printed_beyond : Beyond cells most bytes → printed_within cells most bytes ≡ refused_line 26 0 0
   unfolding printed_within
-  printed-beyond b = ap (λ (x : ReadAnswer). printed_by x bytes) (beyond-refused bytes cells most b)
+  printed_beyond b = ap (λ (x : ReadAnswer). printed_by x bytes) (beyond_refused bytes cells most b)

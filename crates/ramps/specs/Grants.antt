@@ -10,13 +10,13 @@ use native.Mathlib.Omega.{arith}
 use Rattle.std.proofs.Math.ListN.{length}
 use Rattle.model.specs.Numbers.{at, fill_of, placed}
 use Rattle.model.specs.Flow.{room_of}
-use Rattle.numbers.specs.RowsLaws.{fill-at, fill-past, length-fill}
+use Rattle.numbers.specs.RowsLaws.{fill_at, fill_past, length_fill}
 use Rattle.model.specs.declared.Road.{Road}
 use Rattle.model.specs.Road.{most_cells, most_rate, most_steps}
 use Rattle.model.specs.Limits.{most_queue, most_cumulative}
 use Rattle.limits.specs.LimitsLaws.{RowOk}
 use Rattle.model.specs.Record.{number_size, bytes_of, number_of, version_of, row_size, row_start, record_row}
-use Rattle.fields.specs.FieldsLaws.{HoldsRow, row-at}
+use Rattle.fields.specs.FieldsLaws.{HoldsRow, row_at_lem}
 use Rattle.fields.specs.BytesStored.{StoredBytes}
 use Rattle.model.specs.declared.Law.{Law}
 use Rattle.model.specs.Meter.{wish_of, whole_below, law_at}
@@ -28,11 +28,11 @@ use Rattle.stepping.specs.StepNeeds.{Steppable}
 use Rattle.outflows.specs.Rooms.{Rooms}
 use Rattle.model.specs.Filling.{MeterState, meter_state, wish_at, cap_at, granted_at, filled_row}
 use Rattle.model.specs.Put.{release_number, put_entry, put_releases}
-use Rattle.put.specs.ReleasesLaws.{PutRow, put-releases, put-to, released-arrivals}
-use Rattle.passes.specs.Tables.{Table, state_in, room_col, release_col, waiting_col, demand_col, came_col, LongColumns, five-columns}
-use Rattle.passes.specs.Supplies.{NoRamp, FilledTo, filled_none, filled_more, filled-end}
-use Rattle.passes.specs.RampList.{start_of, start-more, AtRamps, Listed, listed_here, listed_more, listed-end}
-use Rattle.ramps.specs.RampsLaws.{granted-release, granted-bounds, granted-small, filled-release, filled-arrivals}
+use Rattle.put.specs.ReleasesLaws.{PutRow, put_releases_lem, put_to, released_arrivals}
+use Rattle.passes.specs.Tables.{Table, state_in, room_col, release_col, waiting_col, demand_col, came_col, LongColumns, five_columns}
+use Rattle.passes.specs.Supplies.{NoRamp, FilledTo, filled_none, filled_more, filled_end}
+use Rattle.passes.specs.RampList.{start_of, start_more, AtRamps, Listed, listed_here, listed_more, listed_end}
+use Rattle.ramps.specs.RampsLaws.{granted_release, granted_bounds, granted_small, filled_release, filled_arrivals}
 
 -- what the wishes of a step are computed from, with the state in a table
 abbrev pub meter_in : Ledger → Table → List ℕ → List ℕ → MeterState
@@ -114,9 +114,9 @@ record Stored (work work₁ : Table) (i room k release waiting into : ℕ) : Typ
   demands : demand_col work₁ ≡ demand_col work
   came : came_col work₁ ≡ set (came_col work) i into
 
-store-granted : (work : Table) → length work ≡ 5 → (i room k release waiting came : ℕ)
+store_granted_lem : (work : Table) → length work ≡ 5 → (i room k release waiting came : ℕ)
     → Stored work (store_granted work i room k release waiting came) i room k release waiting came
-store-granted work e i room k release waiting came = five-columns
+store_granted_lem work e i room k release waiting came = five_columns
     (λ w. Stored w (store_granted w i room k release waiting came) i room k release waiting came)
     (λ a b c d e. record { columns = refl; rooms = refl; releases = refl; waits = refl; demands = refl; came = refl })
     work e
@@ -152,15 +152,15 @@ module _ {laws : List Law} {q : Road} {m : MeterState} {bytes : List ℕ} {k sta
   idle : (i : ℕ) → i < q.n → NoRamp q.ramp i → (give i ≡ 0) × (release_at row i ≡ 0)
   idle i l p =
       let z : at q.ramp i ≡ 0 = omega (arith, g.step.input.road.ramp i l, p) in
-      ((granted-release laws q m row i).no_ramp z, g.row.no_release i l z)
+      ((granted_release laws q m row i).no_ramp z, g.row.no_release i l z)
 
   less : (i : ℕ) → i < q.n → NoRamp q.ramp i → at room₀ i - give i ≡ at room₀ i
   less i l p = omega (arith, (idle i l p).0)
 
-  starts-most : (j : ℕ) → j ≤ ramps → start_of cell j ≤ q.n
+  starts_most : (j : ℕ) → j ≤ ramps → start_of cell j ≤ q.n
   unfolding start_of
-  starts-most zero l = omega arith
-  starts-most (suc j) l = omega (arith, g.listed.within j l)
+  starts_most zero l = omega arith
+  starts_most (suc j) l = omega (arith, g.listed.within j l)
 
   -- the cells listed before it are lower
   lower : (j : ℕ) → j ≤ ramps → (i : ℕ) → i < j → at cell i < start_of cell j
@@ -174,11 +174,11 @@ module _ {laws : List Law} {q : Road} {m : MeterState} {bytes : List ℕ} {k sta
   put_up : (a b : ℕ) → a ≤ b → b ≤ q.n → ((i : ℕ) → a ≤ i → i < b → NoRamp q.ramp i)
       → put_releases bytes q.n k give b ≡ put_releases bytes q.n k give a
   put_up a b h l z =
-      put-to bytes q.n k give g.held (granted-small laws q m row) a b h l (λ i x y. idle i (omega arith) (z i x y))
+      put_to bytes q.n k give g.held (granted_small laws q m row) a b h l (λ i x y. idle i (omega arith) (z i x y))
 
-  pub grant-none : GrantSoFar (granted_at laws q m (record_row bytes q.n k)) q m bytes k ramps cell work₀ bytes work₀ 0
+  pub grant_none : GrantSoFar (granted_at laws q m (record_row bytes q.n k)) q m bytes k ramps cell work₀ bytes work₀ 0
   unfolding put_releases fill_of start_of
-  grant-none = record {
+  grant_none = record {
     puts = refl;
     rooms = refl;
     releases = filled_none;
@@ -200,7 +200,7 @@ module _ {laws : List Law} {q : Road} {m : MeterState} {bytes : List ℕ} {k sta
 
     changed : PutRow bytes put q.n k give (start_of cell j)
     changed =
-        rw h.puts (put-releases bytes q.n k give (start_of cell j) (starts-most j h.releases.within) g.held (λ i _. granted-small laws q m row i))
+        rw h.puts (put_releases_lem bytes q.n k give (start_of cell j) (starts_most j h.releases.within) g.held (λ i _. granted_small laws q m row i))
 
     pub same_size : length put ≡ length bytes
     same_size = changed.size
@@ -216,28 +216,28 @@ module _ {laws : List Law} {q : Road} {m : MeterState} {bytes : List ℕ} {k sta
       inside = g.listed.within j l
 
       -- what the arrays hold for the cell
-      pub arrives-here : number_of put (start + 4 + 8 * at cell j) number_size ≡ arrivals_at (record_row bytes q.n k) (at cell j)
-      arrives-here =
+      pub arrives_here : number_of put (start + 4 + 8 * at cell j) number_size ≡ arrivals_at (record_row bytes q.n k) (at cell j)
+      arrives_here =
           let e : start + 4 + 8 * i ≡ row_start (version_of put) q.n k + number_size * (2 * i + 1) = omega (arith, g.starts, same_start) in
           ap (λ (p : ℕ). number_of put p number_size) e
-          ∙ sym (row-at put q.n k (2 * i + 1) (omega (arith, inside)))
+          ∙ sym (row_at_lem put q.n k (2 * i + 1) (omega (arith, inside)))
           ∙ ap (λ (x : List ℕ). at x (2 * i + 1)) changed.row
-          ∙ released-arrivals give (start_of cell j) row i
+          ∙ released_arrivals give (start_of cell j) row i
 
-      room-here : at room (at cell j) ≡ at room₀ (at cell j)
-      room-here = listed_here (λ i. at room₀ i - give i) room₀ g.listed less l h.rooms
+      room_here : at room (at cell j) ≡ at room₀ (at cell j)
+      room_here = listed_here (λ i. at room₀ i - give i) room₀ g.listed less l h.rooms
 
-      came-here : at came (at cell j) ≡ at (came_col work₀) (at cell j)
-      came-here = h.later i (g.listed.rises j l)
+      came_here : at came (at cell j) ≡ at (came_col work₀) (at cell j)
+      came_here = h.later i (g.listed.rises j l)
 
-      last-here : at (release_col work) j ≡ at m.releases (at cell j)
-      last-here =
-          ap (λ (x : List ℕ). at x j) h.releases.filled ∙ fill-past (λ i. give (at cell i)) j (release_col work₀) j (le_refl j) ∙ g.lasts.releases j l
+      last_here : at (release_col work) j ≡ at m.releases (at cell j)
+      last_here =
+          ap (λ (x : List ℕ). at x j) h.releases.filled ∙ fill_past (λ i. give (at cell i)) j (release_col work₀) j (le_refl j) ∙ g.lasts.releases j l
 
       -- the facts about a turn
-      pub grant-turn : GrantTurn start (at cell j) (length put) (at m.state.queue (at cell j)) (arrivals_at (record_row bytes q.n k) (at cell j))
+      pub grant_turn : GrantTurn start (at cell j) (length put) (at m.state.queue (at cell j)) (arrivals_at (record_row bytes q.n k) (at cell j))
           (at m.state.held (at cell j)) (at m.state.cumulative (at cell j)) (at (came_col work) (at cell j)) q.n
-      grant-turn =
+      grant_turn =
           let s = g.step.input.state in
           record {
             within = inside;
@@ -247,7 +247,7 @@ module _ {laws : List Law} {q : Road} {m : MeterState} {bytes : List ℕ} {k sta
             arrive = g.row.arrivals i inside;
             helds = omega (arith, s.held i inside, g.step.input.road.jam i inside);
             cumulatives = omega (arith, s.cumulative i inside, s.done);
-            comes = omega (arith, came-here, g.lasts.entries j l);
+            comes = omega (arith, came_here, g.lasts.entries j l);
           }
 
       -- where its release is put, and what the bytes hold before it
@@ -267,45 +267,45 @@ module _ {laws : List Law} {q : Road} {m : MeterState} {bytes : List ℕ} {k sta
         unfolding most_release_at
         found =
             let lawful : law ≡ law_at laws i = el ∙ g.columns i (omega (arith, inside, g.step.input.road.cells)) in
-            let entry : entered ≡ at m.entries i = omega (arith, came-here, g.lasts.entries j l) in
-            let come : arrivals ≡ arrivals_at row i = ea ∙ arrives-here in
-            let supply : at room i ≡ supply_at q m.state i = room-here ∙ g.supplies i inside in
-            let wished : x ≡ whole_below (wish_at laws m i) (cap_at q m.state row i) = ex ∙ rw (lawful, last-here, entry, ec, come, supply) in
-            wished ∙ sym ((granted-release laws q m row i).ramped (λ z. omega (arith, g.ramped j l)))
+            let entry : entered ≡ at m.entries i = omega (arith, came_here, g.lasts.entries j l) in
+            let come : arrivals ≡ arrivals_at row i = ea ∙ arrives_here in
+            let supply : at room i ≡ supply_at q m.state i = room_here ∙ g.supplies i inside in
+            let wished : x ≡ whole_below (wish_at laws m i) (cap_at q m.state row i) = ex ∙ rw (lawful, last_here, entry, ec, come, supply) in
+            wished ∙ sym ((granted_release laws q m row i).ramped (λ z. omega (arith, g.ramped j l)))
 
-        pub turn-release : TurnRelease x (at m.state.queue (at cell j) + arrivals) (at (room_col work) (at cell j))
+        pub turn_release : TurnRelease x (at m.state.queue (at cell j) + arrivals) (at (room_col work) (at cell j))
         unfolding most_release_at
-        turn-release =
-            let c = granted-bounds laws q m row i in
+        turn_release =
+            let c = granted_bounds laws q m row i in
             record {
-              there = omega (arith, found, c.there, ea, arrives-here);
-              taken = omega (arith, found, c.taken, room-here, g.supplies i inside);
+              there = omega (arith, found, c.there, ea, arrives_here);
+              taken = omega (arith, found, c.taken, room_here, g.supplies i inside);
               rate = omega (arith, found, c.rate);
             }
 
-        puts-more : {next : List ℕ} {end : ℕ} → StoredBytes put (start + 4 + 8 * at cell j + 4) number_size x next end
+        puts_more : {next : List ℕ} {end : ℕ} → StoredBytes put (start + 4 + 8 * at cell j + 4) number_size x next end
             → next ≡ put_releases bytes q.n k give (start_of cell (j + 1))
         unfolding put_releases
-        puts-more p =
+        puts_more p =
             p.bytes
             ∙ ap (λ (a : ℕ). placed put a (bytes_of number_size x)) place
             ∙ ap (put_entry put q.n k (release_number i)) found
             ∙ ap (λ (u : List ℕ). put_entry u q.n k (release_number i) (give i)) before
-            ∙ sym (ap (put_releases bytes q.n k give) (start-more cell j ∙ add-one i))
+            ∙ sym (ap (put_releases bytes q.n k give) (start_more cell j ∙ add-one i))
 
         -- one more release is granted
-        pub grant-more : {next : List ℕ} {end : ℕ} → StoredBytes put (start + 4 + 8 * at cell j + 4) number_size x next end
+        pub grant_more : {next : List ℕ} {end : ℕ} → StoredBytes put (start + 4 + 8 * at cell j + 4) number_size x next end
             → GrantSoFar (granted_at laws q m (record_row bytes q.n k)) q m bytes k ramps cell work₀ next
             (store_granted work (at cell j) (at (room_col work) (at cell j) - x) j x (at m.state.queue (at cell j) + arrivals - x)
             (at m.state.held (at cell j) + at m.state.cumulative (at cell j) + x)) (j + 1)
-        grant-more {next} p =
-            let st = store-granted work h.columns i (at room i - x) j x (at m.state.queue i + arrivals - x)
+        grant_more {next} p =
+            let st = store_granted_lem work h.columns i (at room i - x) j x (at m.state.queue i + arrivals - x)
             (at m.state.held i + at m.state.cumulative i + x) in
             record {
-              puts = puts-more p;
-              rooms = st.rooms ∙ listed_more (λ i. at room₀ i - give i) room₀ g.listed less l h.rooms (omega (arith, room-here, found));
+              puts = puts_more p;
+              rooms = st.rooms ∙ listed_more (λ i. at room₀ i - give i) room₀ g.listed less l h.rooms (omega (arith, room_here, found));
               releases = rw st.releases (filled_more h.releases l found);
-              waiting = rw st.waits (filled_more h.waiting l (omega (arith, found, ea, arrives-here)));
+              waiting = rw st.waits (filled_more h.waiting l (omega (arith, found, ea, arrives_here)));
               reached = λ y less. ap (λ (x : List ℕ). at x (at cell y)) st.came ∙ ⊎_elim
                   (λ (e : y ≡ j).
                   rw e (get_or-set_same came i _ 0 (omega (arith, h.same_came, g.long.came, inside)) ∙ ap (λ (x : ℕ). came_at m (λ _. x) i) found))
@@ -313,7 +313,7 @@ module _ {laws : List Law} {q : Road} {m : MeterState} {bytes : List ℕ} {k sta
                   get_or-set_other came i (at cell y) _ 0 (λ e. omega (arith, lower j (omega arith) y d, g.listed.rises j l)) ∙ h.reached y d)
                   (eq-or-lt_of_le (let z : y ≤ j = omega arith in z));
               later = λ y past.
-                  let above : i + 1 ≤ y = omega (arith, start-more cell j) in
+                  let above : i + 1 ≤ y = omega (arith, start_more cell j) in
                   ap (λ (x : List ℕ). at x y) st.came ∙ get_or-set_other came i y _ 0 (λ e. omega arith) ∙ h.later y (omega (arith, g.listed.rises j l));
               same_came = ap length st.came ∙ simp length-set h.same_came;
               columns = st.columns;
@@ -321,31 +321,31 @@ module _ {laws : List Law} {q : Road} {m : MeterState} {bytes : List ℕ} {k sta
             }
 
     -- all releases are granted
-    pub grant-end : ramps ≤ j → GrantGives laws q m bytes k ramps cell put work
+    pub grant_end : ramps ≤ j → GrantGives laws q m bytes k ramps cell put work
     unfolding room_of
-    grant-end l =
+    grant_end l =
         let e : j ≡ ramps = omega (arith, h.releases.within) in
         record {
           puts =
               h.puts
               ∙ ap (λ (c : ℕ). put_releases bytes q.n k give (start_of cell c)) e
               ∙ sym (put_up (start_of cell ramps) q.n g.listed.last (le_refl q.n) g.listed.past);
-          rooms = λ i less-n.
+          rooms = λ i less_n.
               let there =
-              ap (λ (x : List ℕ). at x i) (listed-end (λ i. at room₀ i - give i) room₀ g.listed less e h.rooms)
-              ∙ fill-at (λ i. at room₀ i - give i) q.n room₀ i less-n g.long.room in
-              omega (arith, there, g.supplies i less-n, filled-release laws q m row g.row.numbers i less-n);
-          releases = λ y d. ap (λ (x : List ℕ). at x y) (filled-end h.releases l)
-              ∙ fill-at (λ i. give (at cell i)) ramps (release_col work₀) y d (omega (arith, g.long.release, g.listed.most));
+              ap (λ (x : List ℕ). at x i) (listed_end (λ i. at room₀ i - give i) room₀ g.listed less e h.rooms)
+              ∙ fill_at (λ i. at room₀ i - give i) q.n room₀ i less_n g.long.room in
+              omega (arith, there, g.supplies i less_n, filled_release laws q m row g.row.numbers i less_n);
+          releases = λ y d. ap (λ (x : List ℕ). at x y) (filled_end h.releases l)
+              ∙ fill_at (λ i. give (at cell i)) ramps (release_col work₀) y d (omega (arith, g.long.release, g.listed.most));
           waiting = λ y d.
               let there =
-              ap (λ (x : List ℕ). at x y) (filled-end h.waiting l)
-              ∙ fill-at (λ i. wait_at m row give (at cell i)) ramps (waiting_col work₀) y d (omega (arith, g.long.waiting, g.listed.most)) in
-              omega (arith, there, filled-arrivals laws q m row (at cell y), filled-release laws q m row g.row.numbers (at cell y) (g.listed.within y d));
+              ap (λ (x : List ℕ). at x y) (filled_end h.waiting l)
+              ∙ fill_at (λ i. wait_at m row give (at cell i)) ramps (waiting_col work₀) y d (omega (arith, g.long.waiting, g.listed.most)) in
+              omega (arith, there, filled_arrivals laws q m row (at cell y), filled_release laws q m row g.row.numbers (at cell y) (g.listed.within y d));
           reached = λ y d. h.reached y (omega arith);
           long = record {
             columns = h.columns;
-            room = omega (arith, ap length h.rooms, length-fill (λ i. at room₀ i - give i) (start_of cell j) room₀, g.long.room);
+            room = omega (arith, ap length h.rooms, length_fill (λ i. at room₀ i - give i) (start_of cell j) room₀, g.long.room);
             release = omega (arith, h.releases.same, g.long.release);
             waiting = omega (arith, h.waiting.same, g.long.waiting);
             demand = omega (arith, ap length h.demands, g.long.demand);

@@ -8,17 +8,17 @@ use Rattle.model.specs.declared.Road.{Road}
 use Rattle.model.specs.declared.State.{State}
 use Rattle.model.specs.Road.{most_cells, most_steps, most_bytes}
 use Rattle.model.specs.Record.{version_of, seconds_of, count_size, number_of, record_row}
-use Rattle.fields.specs.FieldsLaws.{length-row}
-use Rattle.numbers.specs.Tests.{unless-elim, le-head}
-use Rattle.numbers.specs.FirstLaws.{First, first, first-none, all-at}
+use Rattle.fields.specs.FieldsLaws.{length_row}
+use Rattle.numbers.specs.Tests.{unless_elim, le_head}
+use Rattle.numbers.specs.FirstLaws.{First, first, first_none, all_at}
 use Rattle.model.specs.Limits.{place_ok}
-use Rattle.limits.specs.LimitsLaws.{RoadOk, StateOk, RowOk, places-road, places-state, row-facts}
+use Rattle.limits.specs.LimitsLaws.{RoadOk, StateOk, RowOk, places_road, places_state, row_facts}
 use Rattle.model.specs.Reading.{cells_of, steps_of, size_of, both_versions, length_ok, cells_and_steps_ok}
 use Rattle.model.specs.Reading.{seconds_ok, caller_ok, ReadAnswer, road_of, start_of, step_ok, refused_of}
 use Rattle.model.specs.Reading.{accepted_of, reading_by, reading_within, reading_of}
-use Rattle.fields.specs.HeaderLaws.{length-facts, counts-facts}
+use Rattle.fields.specs.HeaderLaws.{length_facts, counts_facts}
 use Rattle.reading.specs.Headers.{Header}
-use Rattle.reading.specs.ReadingLaws.{Body, answer-accepted}
+use Rattle.reading.specs.ReadingLaws.{Body, answer_accepted}
 
 -- Classes of refusals, by their numbers. First those that reading finds before it tests a place or a step: their place is 0
 unfoldable pub in_header : ℕ → Bool
@@ -95,36 +95,36 @@ module _ (s : List ℕ) where
 
   accepted : Header s (cells_of s) (steps_of s) → places_fit ≡ true → rows_fit ≡ true → AcceptedRecord s (steps_of s) (road_of s) (start_of s)
   accepted h f g =
-      let n = counts-facts (cells_of s) (steps_of s) h.counts in
-      let counted = (le-head (length s) most_bytes _ (le-head _ (length s) _ h.lengths).1).1 in
-      let all = all-at (place_ok (road_of s) (start_of s)) (cells_of s + 1) f in
-      let road = places-road (road_of s) (start_of s) all n.some_cells n.cells in
+      let n = counts_facts (cells_of s) (steps_of s) h.counts in
+      let counted = (le_head (length s) most_bytes _ (le_head _ (length s) _ h.lengths).1).1 in
+      let all = all_at (place_ok (road_of s) (start_of s)) (cells_of s + 1) f in
+      let road = places_road (road_of s) (start_of s) all n.some_cells n.cells in
       record {
         header = h;
         size = h.size;
-        bytes = (length-facts s h.lengths).1;
+        bytes = (length_facts s h.lengths).1;
         count = eqb-true (number_of s 0 count_size) (length s - count_size) counted;
         version = h.version;
         seconds = h.seconds;
         some_steps = n.some_steps;
         steps = n.steps;
         road = road;
-        state = places-state (road_of s) (start_of s) all (omega arith) (omega arith);
-        row = λ t l. row-facts (road_of s) (record_row s (cells_of s) t) (length-row s (cells_of s) t) road.ramp (all-at (step_ok s (road_of s)) (steps_of s) g t l);
+        state = places_state (road_of s) (start_of s) all (omega arith) (omega arith);
+        row = λ t l. row_facts (road_of s) (record_row s (cells_of s) t) (length_row s (cells_of s) t) road.ramp (all_at (step_ok s (road_of s)) (steps_of s) g t l);
       }
 
   -- for all limits of the caller
   pub found_within : (cells most : ℕ) → ReadingEnds s (reading_within cells most s)
   unfolding reading_by in_header one_of
   found_within cells most =
-      unless-elim (ReadingEnds s) length_fits (λ _. early 1 refl) (λ a.
-      unless-elim (ReadingEnds s) version_known (λ _. early 2 refl) (λ b.
-      unless-elim (ReadingEnds s) counts_fit (λ _. early 3 refl) (λ c.
-      unless-elim (ReadingEnds s) seconds_fit (λ _. early 19 refl) (λ d.
-      unless-elim (ReadingEnds s) size_fits (λ _. early 4 refl) (λ e.
-      unless-elim (ReadingEnds s) (caller_takes cells most) (λ _. early 26 refl) (λ _.
-      unless-elim (ReadingEnds s) places_fit (λ f. at_place _ (lowest (place_ok (road_of s) (start_of s)) (cells_of s + 1) f)) (λ f.
-      unless-elim (ReadingEnds s) rows_fit (λ g. at_step _ (lowest (step_ok s (road_of s)) (steps_of s) g)) (λ g.
+      unless_elim (ReadingEnds s) length_fits (λ _. early 1 refl) (λ a.
+      unless_elim (ReadingEnds s) version_known (λ _. early 2 refl) (λ b.
+      unless_elim (ReadingEnds s) counts_fit (λ _. early 3 refl) (λ c.
+      unless_elim (ReadingEnds s) seconds_fit (λ _. early 19 refl) (λ d.
+      unless_elim (ReadingEnds s) size_fits (λ _. early 4 refl) (λ e.
+      unless_elim (ReadingEnds s) (caller_takes cells most) (λ _. early 26 refl) (λ _.
+      unless_elim (ReadingEnds s) places_fit (λ f. at_place _ (lowest (place_ok (road_of s) (start_of s)) (cells_of s + 1) f)) (λ f.
+      unless_elim (ReadingEnds s) rows_fit (λ g. at_step _ (lowest (step_ok s (road_of s)) (steps_of s) g)) (λ g.
       clear (accepted (header_of_lem a b c d e) f g)))))))))
 
   pub read_found : ReadingEnds s (reading_of s)
@@ -134,10 +134,10 @@ module _ (s : List ℕ) where
 pub reads : {s : List ℕ} {n T : ℕ} → Header s n T → ((p : ℕ) → p < n + 1 → place_ok (road_of s) (start_of s) p ≡ true)
     → ((t : ℕ) → t < T → step_ok s (road_of s) t ≡ true) → reading_of s ≡ accepted_of T (road_of s) (start_of s)
 reads {s} {n} {T} h places rows =
-    let none = first-none (place_ok (road_of s) (start_of s)) (cells_of s + 1) (λ p l. places p (omega (arith, h.cells))) in
+    let none = first_none (place_ok (road_of s) (start_of s)) (cells_of s + 1) (λ p l. places p (omega (arith, h.cells))) in
     let body : Body s n T (road_of s) (start_of s) (first_of (place_ok (road_of s) (start_of s)) (cells_of s + 1)) =
     record { header = h; road = refl; start = refl; place = refl } in
-    sym (answer-accepted body (omega (arith, none, h.cells)) refl (first-none (step_ok s (road_of s)) T rows))
+    sym (answer_accepted body (omega (arith, none, h.cells)) refl (first_none (step_ok s (road_of s)) T rows))
 
 -- none of the header's refusals is 0, 5 or 6
 module _ {number : ℕ} (h : in_header number ≡ true) where
@@ -147,14 +147,14 @@ module _ {number : ℕ} (h : in_header number ≡ true) where
       let f : ◌≡◌ {A = ℕ} 0 1 = cc in
       omega arith
 
-  pub early-refused : number ≡ 0 → ⊥
+  pub early_refused : number ≡ 0 → ⊥
   unfolding in_header one_of
-  early-refused = other 0 refl
+  early_refused = other 0 refl
 
-  pub early-no-place : number ≡ 5 → ⊥
+  pub early_no_place : number ≡ 5 → ⊥
   unfolding in_header one_of
-  early-no-place = other 5 refl
+  early_no_place = other 5 refl
 
-  pub early-no-step : number ≡ 6 → ⊥
+  pub early_no_step : number ≡ 6 → ⊥
   unfolding in_header one_of
-  early-no-step = other 6 refl
+  early_no_step = other 6 refl

@@ -8,10 +8,10 @@ use Rattle.numbers.specs.Tests.{order}
 use Rattle.model.specs.Road.{most_cells}
 use Rattle.numbers.specs.RowsLaws.{list_at}
 use Rattle.model.specs.Record.{number_size, row_numbers, row_size, row_start, entry_start, number_of, version_of, record_row}
-use Rattle.fields.specs.FieldsLaws.{row-at}
-use Rattle.fields.specs.BytesLaws.{number-le}
+use Rattle.fields.specs.FieldsLaws.{row_at_lem}
+use Rattle.fields.specs.BytesLaws.{number_le}
 use Rattle.model.specs.Limits.{row_ok}
-use Rattle.limits.specs.LimitsLaws.{row-less}
+use Rattle.limits.specs.LimitsLaws.{row_less}
 use Rattle.reading.specs.Headers.{Steps}
 
 -- the numbers of a row of n cells that starts at a byte
@@ -32,8 +32,8 @@ pub record RaiseRequires (s : List ℕ) (start size count : ℕ) (greatest : Lis
   pub room : most_row ≤ length greatest
 
 -- each part ends within all of them
-pub part-within : (size k count : ℕ) → k < count → k * size + size ≤ count * size
-part-within size k count l = omega (arith, suc-mul k size, mul-le-mul_right size l)
+pub part_within : (size k count : ℕ) → k < count → k * size + size ≤ count * size
+part_within size k count l = omega (arith, suc-mul k size, mul-le-mul_right size l)
 
 -- no byte is below its earlier value, or below the byte of s at its position in the `size` bytes from `start` on
 pub record AbovePart (s : List ℕ) (start size : ℕ) (before after : List ℕ) : Type 0 where
@@ -48,8 +48,8 @@ pub record AboveParts (s : List ℕ) (start size count : ℕ) (before after : Li
   pub above : (k : ℕ) → k < count → (j : ℕ) → j < size → at s (start + k * size + j) ≤ at after j
 
 -- storing a greater byte makes no byte smaller
-set-raises : (l : List ℕ) (i x : ℕ) → i < length l → at l i ≤ x → (j : ℕ) → at l j ≤ at (set l i x) j
-set-raises l i x h le j = go (eqb j i) refl
+set_raises : (l : List ℕ) (i x : ℕ) → i < length l → at l i ≤ x → (j : ℕ) → at l j ≤ at (set l i x) j
+set_raises l i x h le j = go (eqb j i) refl
   where
     go : (t : Bool) → eqb j i ≡ t → at l j ≤ at (set l i x) j
     go true e = rw (eqb-true j i e) (omega (arith, get_or-set_same l i x 0 h))
@@ -60,11 +60,11 @@ module _ {s : List ℕ} {start : ℕ} {before : List ℕ} where
   pub part_none : AbovePart s start 0 before before
   part_none = record { same = refl; kept = λ j. le_refl (at before j); above = below_none _ }
 
-  pub part-more : {i x : ℕ} {now : List ℕ} → AbovePart s start i before now → i < length before → at now i ≤ x → at s (start + i) ≤ x
+  pub part_more : {i x : ℕ} {now : List ℕ} → AbovePart s start i before now → i < length before → at now i ≤ x → at s (start + i) ≤ x
       → AbovePart s start (i + 1) before (set now i x)
-  part-more {i} {x} {now} h l old new =
+  part_more {i} {x} {now} h l old new =
       let there : i < length now = omega (arith, h.same) in
-      let more = set-raises now i x there old in
+      let more = set_raises now i x there old in
       record {
         same = length-set now i x ∙ h.same;
         kept = λ j. omega (arith, h.kept j, more j);
@@ -91,13 +91,13 @@ module _ {s : List ℕ} {start size : ℕ} {before : List ℕ} where
   pub parts_next : {count k from : ℕ} {now : List ℕ} → RaiseRequires s start size count before → k < count → AboveParts s start size k before now
       → from ≡ start + k * size → RaiseRequires s from size 1 now
   parts_next {count} {k} a l h e = record {
-    parts = let one : 1 * size ≡ size = omega arith in omega (arith, one, e, a.parts, part-within size k count l);
+    parts = let one : 1 * size ≡ size = omega arith in omega (arith, one, e, a.parts, part_within size k count l);
     small = a.small;
     room = omega (arith, a.room, h.same);
   }
 
-  pub parts-end : {k count : ℕ} {now : List ℕ} → AboveParts s start size k before now → count ≤ k → AboveParts s start size count before now
-  parts-end h l = record { same = h.same; kept = h.kept; above = λ q m. h.above q (omega arith) }
+  pub parts_end : {k count : ℕ} {now : List ℕ} → AboveParts s start size k before now → count ≤ k → AboveParts s start size count before now
+  parts_end h l = record { same = h.same; kept = h.kept; above = λ q m. h.above q (omega arith) }
 
 -- T rows in blocks; a block is as many rows side by side as the longest row has room for. The rows after the blocks are single
 pub record Blocks (n beside blocks T : ℕ) : Type 0 where
@@ -116,19 +116,19 @@ in_blocks n T h =
 
 -- what each of the three passes requires: over the blocks, over the rows of the greatest block, and over the rows after the blocks
 module _ {s : List ℕ} {n T beside blocks : ℕ} (held : Steps s n T) (plan : Blocks n beside blocks T) where
-  pub blocks-there : row_start (version_of s) n (blocks * beside) ≤ length s
-  blocks-there = omega (arith, mul-le-mul_right (row_size n) plan.rows, held.held)
+  pub blocks_there : row_start (version_of s) n (blocks * beside) ≤ length s
+  blocks_there = omega (arith, mul-le-mul_right (row_size n) plan.rows, held.held)
 
-  pub blocks-ready : {start : ℕ} {zeros : List ℕ} → start ≡ row_start (version_of s) n 0 → most_row ≤ length zeros
+  pub blocks_ready : {start : ℕ} {zeros : List ℕ} → start ≡ row_start (version_of s) n 0 → most_row ≤ length zeros
       → RaiseRequires s start (beside * row_size n) blocks zeros
-  blocks-ready e l = record { parts = omega (arith, mul_assoc blocks beside (row_size n), e, blocks-there); small = plan.span; room = l }
+  blocks_ready e l = record { parts = omega (arith, mul_assoc blocks beside (row_size n), e, blocks_there); small = plan.span; room = l }
 
-  pub block-ready : {block zeros : List ℕ} → most_row ≤ length block → most_row ≤ length zeros → RaiseRequires block 0 (row_size n) beside zeros
-  block-ready l m = record { parts = omega (arith, plan.span); small = omega (arith, held.most); room = m }
+  pub block_ready : {block zeros : List ℕ} → most_row ≤ length block → most_row ≤ length zeros → RaiseRequires block 0 (row_size n) beside zeros
+  block_ready l m = record { parts = omega (arith, plan.span); small = omega (arith, held.most); room = m }
 
-  pub rest-ready : {start count : ℕ} {row : List ℕ} → start ≡ row_start (version_of s) n (blocks * beside) → blocks * beside + count ≤ T
+  pub rest_ready : {start count : ℕ} {row : List ℕ} → start ≡ row_start (version_of s) n (blocks * beside) → blocks * beside + count ≤ T
       → most_row ≤ length row → RaiseRequires s start (row_size n) count row
-  rest-ready {count = count} e f l = record {
+  rest_ready {count = count} e f l = record {
     parts = omega (arith, e, add-mul (blocks * beside) count (row_size n), mul-le-mul_right (row_size n) f, held.held);
     small = omega (arith, held.most);
     room = l;
@@ -147,7 +147,7 @@ module _ {s zeros block first row : List ℕ} {n beside blocks T start left coun
       let r = t % beside in
       let size = row_size n in
       let under : r < beside = mod-lt t plan.some in
-      let inside : r * size + j < beside * size = omega (arith, part-within size r beside under) in
+      let inside : r * size + j < beside * size = omega (arith, part_within size r beside under) in
       let sum : (q * beside + r) * size ≡ t * size = ap (λ (x : ℕ). x * size) (div-add-mod' t beside) in
       let place : start + q * (beside * size) + (r * size + j) ≡ row_start (version_of s) n t + j =
       omega (arith, starts, sum, add-mul (q * beside) r size, mul_assoc q beside size) in
@@ -158,8 +158,8 @@ module _ {s zeros block first row : List ℕ} {n beside blocks T start left coun
       let below : at block (r * size + j) ≤ at first j = subst (λ (i : ℕ). at block i ≤ at first j) flat (folded.above r under j m) in
       omega (arith, above, below, rest.kept j)
 
-  after-blocks : (t j : ℕ) → blocks * beside ≤ t → t < T → j < row_size n → at s (row_start (version_of s) n t + j) ≤ at row j
-  after-blocks t j l m k =
+  after_blocks : (t j : ℕ) → blocks * beside ≤ t → t < T → j < row_size n → at s (row_start (version_of s) n t + j) ≤ at row j
+  after_blocks t j l m k =
       let d = t - blocks * beside in
       let sum : (blocks * beside + d) * row_size n ≡ t * row_size n = ap (λ (x : ℕ). x * row_size n) (omega arith) in
       let place : left + d * row_size n + j ≡ row_start (version_of s) n t + j = omega (arith, lefts, sum, add-mul (blocks * beside) d (row_size n)) in
@@ -167,19 +167,19 @@ module _ {s zeros block first row : List ℕ} {n beside blocks T start left coun
 
   above_rows : (t j : ℕ) → t < T → j < row_size n → at s (row_start (version_of s) n t + j) ≤ at row j
   above_rows t j l m =
-      ⊎_elim (λ (k : blocks * beside ≤ t). after-blocks t j k l m) (λ (k : t < blocks * beside). in_block t j k m) (order (blocks * beside) t)
+      ⊎_elim (λ (k : blocks * beside ≤ t). after_blocks t j k l m) (λ (k : t < blocks * beside). in_block t j k m) (order (blocks * beside) t)
 
-  numbers-above : (t : ℕ) → t < T → (k : ℕ) → k < row_numbers n → at (record_row s n t) k ≤ at (row_at row n 0) k
-  numbers-above t l k m =
+  numbers_above : (t : ℕ) → t < T → (k : ℕ) → k < row_numbers n → at (record_row s n t) k ≤ at (row_at row n 0) k
+  numbers_above t l k m =
       let place = entry_start (version_of s) n t k in
       let le : number_of s place number_size ≤ number_of row (0 + number_size * k) number_size =
-      number-le s row place (0 + number_size * k) number_size
+      number_le s row place (0 + number_size * k) number_size
       (λ i u.
       let j = 0 + number_size * k + i in
       let there : row_start (version_of s) n t + j ≡ place + i = omega arith in
       subst (λ (x : ℕ). at s x ≤ at row j) there (above_rows t j l (omega arith))) in
-      omega (arith, le, row-at s n t k m, row_number row n 0 k m)
+      omega (arith, le, row_at_lem s n t k m, row_number row n 0 k m)
 
   -- if the row of the greatest bytes is within its limits, every row is
-  pub rows-within : (ramp : List ℕ) → row_ok ramp n (row_at row n 0) ≡ true → (t : ℕ) → t < T → row_ok ramp n (record_row s n t) ≡ true
-  rows-within ramp h t l = row-less ramp n (record_row s n t) (row_at row n 0) (numbers-above t l) h
+  pub rows_within : (ramp : List ℕ) → row_ok ramp n (row_at row n 0) ≡ true → (t : ℕ) → t < T → row_ok ramp n (record_row s n t) ≡ true
+  rows_within ramp h t l = row_less ramp n (record_row s n t) (row_at row n 0) (numbers_above t l) h

@@ -8,9 +8,9 @@ use Rattle.model.specs.Record.{short_size, number_size, number_of, version_of, s
 use Rattle.model.specs.Record.{gate_queue_offset, speed_offset, wave_offset, share_offset, ramp_offset}
 use Rattle.model.specs.Record.{jam_offset, capacity_offset, held_offset, queue_offset}
 use Rattle.fields.specs.FieldsLaws.{Column, column}
-use Rattle.numbers.specs.Zeros.{length-zeros}
+use Rattle.numbers.specs.Zeros.{length_zeros}
 use Rattle.model.specs.Reading.{cells_of, steps_of, ReadAnswer, reading_of}
-use Rattle.reading.specs.Cases.{ReadingEnds, read_found, early-refused}
+use Rattle.reading.specs.Cases.{ReadingEnds, read_found, early_refused}
 
 pub record Numbers (s : List ℕ) (T : ℕ) (r : Road) (q : State) : Type 0 where
   pub cells : r.n ≡ cells_of s
@@ -35,11 +35,11 @@ pub record Numbers (s : List ℕ) (T : ℕ) (r : Road) (q : State) : Type 0 wher
   pub gate_cumulative : q.gate_cumulative ≡ 0
   pub cumulative : q.cumulative ≡ zeros
 
-found-numbers : (s : List ℕ) {a : ReadAnswer} → ReadingEnds s a → a.number ≡ 0 → Numbers s a.steps a.road a.state
-found-numbers s (ReadingEnds.early k l) h = absurd (early-refused l h)
-found-numbers s (ReadingEnds.at_place p l) h = absurd (omega arith)
-found-numbers s (ReadingEnds.at_step t l) h = absurd (omega arith)
-found-numbers s (ReadingEnds.clear w) h =
+found_numbers : (s : List ℕ) {a : ReadAnswer} → ReadingEnds s a → a.number ≡ 0 → Numbers s a.steps a.road a.state
+found_numbers s (ReadingEnds.early k l) h = absurd (early_refused l h)
+found_numbers s (ReadingEnds.at_place p l) h = absurd (omega arith)
+found_numbers s (ReadingEnds.at_step t l) h = absurd (omega arith)
+found_numbers s (ReadingEnds.clear w) h =
     let n = cells_of s in
     let m = w.road.cells in
     record {
@@ -65,8 +65,8 @@ found-numbers s (ReadingEnds.clear w) h =
       cumulative = refl;
     }
 
-pub read-numbers : (s : List ℕ) (a : ReadAnswer) → a ≡ reading_of s → a.number ≡ 0 → Numbers s a.steps a.road a.state
-read-numbers s a e h = let f : ReadingEnds s a = rw e (read_found s) in found-numbers s f h
+pub read_numbers : (s : List ℕ) (a : ReadAnswer) → a ≡ reading_of s → a.number ≡ 0 → Numbers s a.steps a.road a.state
+read_numbers s a e h = let f : ReadingEnds s a = rw e (read_found s) in found_numbers s f h
 
 -- the state's arrays have 64 entries
 pub record Entries (q : State) : Type 0 where
@@ -74,7 +74,7 @@ pub record Entries (q : State) : Type 0 where
   pub queue : length q.queue ≡ 64
   pub cumulative : length q.cumulative ≡ 64
 
-pub read-entries : (s : List ℕ) (a : ReadAnswer) → a ≡ reading_of s → a.number ≡ 0 → Entries a.state
-read-entries s a e h =
-    let n = read-numbers s a e h in
-    record { held = n.held.entries; queue = n.queue.entries; cumulative = ap length n.cumulative ∙ length-zeros }
+pub read_entries : (s : List ℕ) (a : ReadAnswer) → a ≡ reading_of s → a.number ≡ 0 → Entries a.state
+read_entries s a e h =
+    let n = read_numbers s a e h in
+    record { held = n.held.entries; queue = n.queue.entries; cumulative = ap length n.cumulative ∙ length_zeros }

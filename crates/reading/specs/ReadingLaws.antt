@@ -15,43 +15,43 @@ use Rattle.reading.specs.Greatest.{row_at, row_number}
 use Rattle.model.specs.Reading.{cells_of, steps_of, size_of, both_versions, length_ok, cells_and_steps_ok}
 use Rattle.model.specs.Reading.{seconds_ok, caller_ok, road_of, start_of, step_ok, ReadAnswer, refused_of}
 use Rattle.model.specs.Reading.{accepted_of, reading_by, reading_within, reading_of}
-use Rattle.fields.specs.HeaderLaws.{Counts, length-facts, counts-facts, caller-passes}
+use Rattle.fields.specs.HeaderLaws.{Counts, length_facts, counts_facts, caller_passes}
 
 -- a record with such a header holds its cells and rows
 module _ {s : List ℕ} {n T : ℕ} (h : Header s n T) where
-  header-counts : Counts n T
-  header-counts = counts-facts n T h.counts
+  header_counts : Counts n T
+  header_counts = counts_facts n T h.counts
 
-  pub header-cells : Cells s n
-  header-cells = record {
+  pub header_cells : Cells s n
+  header_cells = record {
     count = h.cells;
-    most = header-counts.cells;
+    most = header_counts.cells;
     held = let z : 0 * row_size n ≡ 0 = omega arith in omega (arith, h.size);
   }
 
-  pub header-done : {q : State} → q ≡ start_of s → q.done ≤ most_steps
-  header-done e = rw e (omega arith)
+  pub header_done : {q : State} → q ≡ start_of s → q.done ≤ most_steps
+  header_done e = rw e (omega arith)
 
   module _ {r : Road} (e : r ≡ road_of s) where
-    header-road : r.n ≡ n
-    header-road = ap (λ (x : Road). x.n) e ∙ sym h.cells
+    header_road : r.n ≡ n
+    header_road = ap (λ (x : Road). x.n) e ∙ sym h.cells
 
-    pub header-most : r.n ≤ most_cells
-    header-most = omega (arith, header-road, header-counts.cells)
+    pub header_most : r.n ≤ most_cells
+    header_most = omega (arith, header_road, header_counts.cells)
 
-    pub header-steps : Steps s r.n T
-    header-steps = rw header-road (record { most = header-counts.cells; held = omega (arith, h.size) })
+    pub header_steps : Steps s r.n T
+    header_steps = rw header_road (record { most = header_counts.cells; held = omega (arith, h.size) })
 
 -- the refusals of the header, each from the tests before it, for all limits of the caller
 module _ (cells most : ℕ) (s : List ℕ) where
-  pub answer-length : {x : ReadAnswer} → length_ok both_versions s ≡ false → x ≡ refused_of 1 0 → x ≡ reading_within cells most s
+  pub answer_length : {x : ReadAnswer} → length_ok both_versions s ≡ false → x ≡ refused_of 1 0 → x ≡ reading_within cells most s
   unfolding reading_by
-  answer-length h g = g ∙ rw h refl
+  answer_length h g = g ∙ rw h refl
 
-  pub answer-version : {x : ReadAnswer} → length_ok both_versions s ≡ true → one_of both_versions (version_of s) ≡ false → x ≡ refused_of 2 0
+  pub answer_version : {x : ReadAnswer} → length_ok both_versions s ≡ true → one_of both_versions (version_of s) ≡ false → x ≡ refused_of 2 0
       → x ≡ reading_within cells most s
   unfolding reading_by
-  answer-version h k g = g ∙ rw (h, k) refl
+  answer_version h k g = g ∙ rw (h, k) refl
 
 -- a record to which refusals 1 and 2 do not apply, with its n and T
 pub record LengthAndVersionOk (s : List ℕ) (n T : ℕ) : Type 0 where
@@ -61,24 +61,24 @@ pub record LengthAndVersionOk (s : List ℕ) (n T : ℕ) : Type 0 where
   pub steps : T ≡ steps_of s
 
 module _ (cells most : ℕ) {s : List ℕ} {n T : ℕ} (h : LengthAndVersionOk s n T) where
-  pub answer-counts : {x : ReadAnswer} → cells_and_steps_ok n T ≡ false → x ≡ refused_of 3 0 → x ≡ reading_within cells most s
+  pub answer_counts : {x : ReadAnswer} → cells_and_steps_ok n T ≡ false → x ≡ refused_of 3 0 → x ≡ reading_within cells most s
   unfolding reading_by
-  answer-counts k g = g ∙ rw (h.lengths, h.version, ← h.cells, ← h.steps, k) refl
+  answer_counts k g = g ∙ rw (h.lengths, h.version, ← h.cells, ← h.steps, k) refl
 
   module _ (k : cells_and_steps_ok n T ≡ true) where
-    pub answer-seconds : {x : ReadAnswer} → seconds_ok (version_of s) (seconds_of s) ≡ false → x ≡ refused_of 19 0 → x ≡ reading_within cells most s
+    pub answer_seconds : {x : ReadAnswer} → seconds_ok (version_of s) (seconds_of s) ≡ false → x ≡ refused_of 19 0 → x ≡ reading_within cells most s
     unfolding reading_by
-    answer-seconds l g = g ∙ rw (h.lengths, h.version, ← h.cells, ← h.steps, k, l) refl
+    answer_seconds l g = g ∙ rw (h.lengths, h.version, ← h.cells, ← h.steps, k, l) refl
 
-    pub answer-size : seconds_ok (version_of s) (seconds_of s) ≡ true → {size : ℕ} → size ≡ size_of (version_of s) n T
+    pub answer_size : seconds_ok (version_of s) (seconds_of s) ≡ true → {size : ℕ} → size ≡ size_of (version_of s) n T
         → {x : ReadAnswer} → (length s ≡ size → ⊥) → x ≡ refused_of 4 0 → x ≡ reading_within cells most s
     unfolding reading_by
-    answer-size l e z g =
+    answer_size l e z g =
         g ∙ rw (h.lengths, h.version, ← h.cells, ← h.steps, k, l, ne_eqb (length s) (size_of (version_of s) n T) (λ x. z (x ∙ sym e))) refl
 
-pub header-passed : {s : List ℕ} {n T : ℕ} → LengthAndVersionOk s n T → cells_and_steps_ok n T ≡ true → seconds_ok (version_of s) (seconds_of s) ≡ true
+pub header_passed : {s : List ℕ} {n T : ℕ} → LengthAndVersionOk s n T → cells_and_steps_ok n T ≡ true → seconds_ok (version_of s) (seconds_of s) ≡ true
     → {size : ℕ} → size ≡ size_of (version_of s) n T → length s ≡ size → Header s n T
-header-passed h k l e z = record {
+header_passed h k l e z = record {
   lengths = h.lengths;
   version = h.version;
   cells = h.cells;
@@ -90,9 +90,9 @@ header-passed h k l e z = record {
 
 -- 26, for a record to which none of these apply
 module _ (cells most : ℕ) {s : List ℕ} {n T : ℕ} (h : Header s n T) where
-  pub answer-caller : {x : ReadAnswer} → caller_ok cells most n (length s) ≡ false → x ≡ refused_of 26 0 → x ≡ reading_within cells most s
+  pub answer_caller : {x : ReadAnswer} → caller_ok cells most n (length s) ≡ false → x ≡ refused_of 26 0 → x ≡ reading_within cells most s
   unfolding reading_by
-  answer-caller k g =
+  answer_caller k g =
       let size = eq-eqb (length s) (size_of (version_of s) n T) h.size in
       g ∙ rw (h.lengths, h.version, ← h.cells, ← h.steps, h.counts, h.seconds, size, k) refl
 
@@ -125,25 +125,25 @@ module _ {s : List ℕ} {n T : ℕ} {r : Road} {q : State} {p : ℕ} (b : Body s
         h.counts,
         h.seconds,
         eq-eqb (length s) (size_of (version_of s) n T) h.size,
-        caller-passes {cells = most_cells} {most = most_bytes} (header-counts h).cells (length-facts s h.lengths).1,
+        caller_passes {cells = most_cells} {most = most_bytes} (header_counts h).cells (length_facts s h.lengths).1,
       )
 
   places : r.n ≡ n
-  places = header-road b.header b.road
+  places = header_road b.header b.road
 
-  pub answer-place : {x : ReadAnswer} → (p ≡ n + 1 → ⊥) → x ≡ refused_of 5 p → x ≡ reading_of s
-  answer-place k g = g ∙ rw (← body, ← b.place, ne_eqb p (r.n + 1) (λ z. k (omega (arith, places))))
+  pub answer_place : {x : ReadAnswer} → (p ≡ n + 1 → ⊥) → x ≡ refused_of 5 p → x ≡ reading_of s
+  answer_place k g = g ∙ rw (← body, ← b.place, ne_eqb p (r.n + 1) (λ z. k (omega (arith, places))))
 
   module _ (k : p ≡ n + 1) {t : ℕ} (e : t ≡ first_of (step_ok s r) T) where
-    pub answer-step : {x : ReadAnswer} → (t ≡ T → ⊥) → x ≡ refused_of 6 t → x ≡ reading_of s
-    answer-step l g = g ∙ rw (← body, ← b.place, eq-eqb p (r.n + 1) (omega (arith, places)), ← e, ne_eqb t T l)
+    pub answer_step : {x : ReadAnswer} → (t ≡ T → ⊥) → x ≡ refused_of 6 t → x ≡ reading_of s
+    answer_step l g = g ∙ rw (← body, ← b.place, eq-eqb p (r.n + 1) (omega (arith, places)), ← e, ne_eqb t T l)
 
-    pub answer-accepted : t ≡ T → accepted_of T r q ≡ reading_of s
-    answer-accepted l = rw (← body, ← b.place, eq-eqb p (r.n + 1) (omega (arith, places)), ← e, eq-eqb t T l)
+    pub answer_accepted : t ≡ T → accepted_of T r q ≡ reading_of s
+    answer_accepted l = rw (← body, ← b.place, eq-eqb p (r.n + 1) (omega (arith, places)), ← e, eq-eqb t T l)
 
 -- a record that holds the rows of T steps holds each of them
-pub steps-row : {s : List ℕ} {n T t : ℕ} → Steps s n T → t < T → HoldsRow s n t
-steps-row {s} {n} {T} {t} h l = holds_row s n t T h.most h.held l
+pub steps_row : {s : List ℕ} {n T t : ℕ} → Steps s n T → t < T → HoldsRow s n t
+steps_row {s} {n} {T} {t} h l = holds_row s n t T h.most h.held l
 
 -- number k of a row that starts at a byte, as the code reads it
 pub entry_read : (s : List ℕ) (n start k : ℕ) {place x : ℕ} → place ≡ start + number_size * k → x ≡ number_of s place number_size
@@ -151,7 +151,7 @@ pub entry_read : (s : List ℕ) (n start k : ℕ) {place x : ℕ} → place ≡ 
 entry_read s n start k p ex l = ex ∙ ap (λ (i : ℕ). number_of s i number_size) p ∙ sym (row_number s n start k l)
 
 -- the code's test of a cell's rates
-pub rates-read : (ramp row : List ℕ) (i : ℕ) {arrivals release : ℕ} {b : Bool} → b ≡ rates_ok (at ramp i) arrivals release
+pub rates_read : (ramp row : List ℕ) (i : ℕ) {arrivals release : ℕ} {b : Bool} → b ≡ rates_ok (at ramp i) arrivals release
     → arrivals ≡ at row (2 * i + 1) → release ≡ at row (2 * i + 2) → b ≡ rates_at ramp row i
-rates-read ramp row i {release = release} e a r =
+rates_read ramp row i {release = release} e a r =
     e ∙ ap (λ (x : ℕ). rates_ok (at ramp i) x release) a ∙ ap (rates_ok (at ramp i) (at row (2 * i + 1))) r

@@ -4,7 +4,7 @@ use Rattle.std.proofs.Common.{mul-add, mul-le-mul, mul-le-mul_left, arith, leb-t
 use Rattle.model.specs.Road.{most_steps, most_bytes}
 use Rattle.model.specs.Record.{version_of, row_size}
 use Rattle.model.specs.Reading.{size_of, ReadAnswer, reading_of}
-use Rattle.reading.specs.Within.{read-within}
+use Rattle.reading.specs.Within.{read_within_lem}
 use Rattle.model.specs.Listing.{most_outflows}
 
 -- up to 5 cells the limit of the steps bounds them
@@ -21,8 +21,8 @@ many version n T h l =
     let k : 60 ≤ row_size n = omega arith in
     omega (arith, mul-le-mul_left T k, mul-add T n 1, mul-add T 4 (8 * n))
 
-pub table-most : (version n T : ℕ) → T ≤ most_steps → size_of version n T ≤ most_bytes → T * (n + 1) ≤ most_outflows
-table-most version n T h l = go (leb n 5) (leb 7 n) refl refl
+pub table_most : (version n T : ℕ) → T ≤ most_steps → size_of version n T ≤ most_bytes → T * (n + 1) ≤ most_outflows
+table_most version n T h l = go (leb n 5) (leb 7 n) refl refl
   where
     go : (a b : Bool) → leb n 5 ≡ a → leb 7 n ≡ b → T * (n + 1) ≤ most_outflows
     go true b e f = few n T (leb-true n 5 e) h
@@ -31,5 +31,5 @@ table-most version n T h l = go (leb n 5) (leb 7 n) refl refl
 
 pub read_table : (s : List ℕ) (a : ReadAnswer) → a ≡ reading_of s → a.number ≡ 0 → a.steps * (a.road.n + 1) ≤ most_outflows
 read_table s a e h =
-    let w = read-within s a e h in
-    table-most (version_of s) a.road.n a.steps w.steps (omega (arith, w.size, w.bytes))
+    let w = read_within_lem s a e h in
+    table_most (version_of s) a.road.n a.steps w.steps (omega (arith, w.size, w.bytes))

@@ -3,7 +3,7 @@ use Rattle.std.specs.Prelude.{◌≡◌, refl, List, [], ◌∷◌, ℕ, ◌≤�
 use Rattle.std.proofs.Common.{sym, subst, arith}
 use Rattle.std.proofs.lemmas.List.{length-replicate}
 use Rattle.model.specs.Numbers.{fill_of}
-use Rattle.numbers.specs.RowsLaws.{fill-at, length-fill}
+use Rattle.numbers.specs.RowsLaws.{fill_at, length_fill}
 use Rattle.model.specs.declared.Road.{Road}
 use Rattle.model.specs.declared.State.{State}
 use Rattle.model.specs.Road.{zeros}
@@ -23,9 +23,9 @@ start_table r s = s.held ∷ s.queue ∷ s.cumulative ∷ fill_of (rest_in r.sha
 abbrev pub empty_table : Table
 empty_table = replicate 5 (replicate 65 0)
 
-pub arrays-start : {a : Study} (s : State) {ramps : ℕ} {cell : List ℕ} {state : Table} → StudyOk a → Listed (NoRamp a.road.ramp) a.road.n ramps cell
+pub arrays_start : {a : Study} (s : State) {ramps : ℕ} {cell : List ℕ} {state : Table} → StudyOk a → Listed (NoRamp a.road.ramp) a.road.n ramps cell
     → state ≡ start_table a.road s → Arrays a.road ramps cell state empty_table
-arrays-start {a} s ok listed e =
+arrays_start {a} s ok listed e =
     let cells = ok.road.cells in
     let f = rest_in a.road.share s.cumulative in
     let short : a.road.n ≤ length zeros = omega (arith, length-replicate {A = ℕ} 64 0) in
@@ -33,19 +33,19 @@ arrays-start {a} s ok listed e =
     rw e (record {
       listed = listed;
       columns = refl;
-      rests = record { are = λ i l. fill-at f a.road.n zeros i l short; long = omega (arith, length-fill f a.road.n zeros, short) };
+      rests = record { are = λ i l. fill_at f a.road.n zeros i l short; long = omega (arith, length_fill f a.road.n zeros, short) };
       long = record { columns = refl; room = long; release = long; waiting = long; demand = long; came = long };
     })
 
 module _ {a : Study} {q : Road} (on : OnRoad a q) {ramps : ℕ} {cell : List ℕ} {state work : Table} where
   -- the road of a step differs only in its capacities
-  pub arrays-on : Arrays a.road ramps cell state work → Arrays q ramps cell state work
-  arrays-on h =
+  pub arrays_on : Arrays a.road ramps cell state work → Arrays q ramps cell state work
+  arrays_on h =
       let w = subst (λ (x : Road). Arrays x ramps cell state work) (sym on.other) h in
       record { listed = w.listed; columns = w.columns; rests = record { are = w.rests.are; long = w.rests.long }; long = w.long }
 
-  pub arrays-off : Arrays q ramps cell state work → Arrays a.road ramps cell state work
-  arrays-off h = subst (λ (x : Road). Arrays x ramps cell state work) on.other (record {
+  pub arrays_off : Arrays q ramps cell state work → Arrays a.road ramps cell state work
+  arrays_off h = subst (λ (x : Road). Arrays x ramps cell state work) on.other (record {
     listed = h.listed;
     columns = h.columns;
     rests = record { are = h.rests.are; long = h.rests.long };

@@ -5,7 +5,7 @@ use Rattle.model.specs.declared.State.{State}
 use Rattle.model.specs.Road.{most_steps}
 use Rattle.model.specs.Schedules.{Study, engine_after}
 use Rattle.model.specs.Weights.{weighted_present, weighted_total}
-use Rattle.theory.specs.WeightsLaws.{weighted-total-none, weighted-total-more}
+use Rattle.theory.specs.WeightsLaws.{weighted_total_none, weighted_total_more}
 use Rattle.counts.specs.WeightBounds.{most_weighted_present, most_weighted_total}
 use Rattle.model.specs.Running.{run_fault, first_step}
 use Rattle.running.specs.Steps.{FaultlessSteps}
@@ -20,21 +20,21 @@ pub record WeightedSoFar (sums : Bool) (w u : ℕ → ℕ) (a : Study) (total k 
   pub small : total ≤ k * most_weighted_present
 
 module _ (sums : Bool) (w u : ℕ → ℕ) (a : Study) where
-  pub weighted-none : WeightedSoFar sums w u a 0 0
-  weighted-none = record { sum = go sums; small = omega arith }
+  pub weighted_none : WeightedSoFar sums w u a 0 0
+  weighted_none = record { sum = go sums; small = omega arith }
     where
       go : (b : Bool) → 0 ≡ cond b (weighted_total w u a.road.n (engine_after a) 0) 0
-      go true = sym (weighted-total-none w u a.road.n (engine_after a))
+      go true = sym (weighted_total_none w u a.road.n (engine_after a))
       go false = refl
 
   module _ {total k : ℕ} (h : WeightedSoFar sums w u a total k) where
-    pub weighted-fits : k ≤ most_steps → total ≤ most_weighted_total
-    weighted-fits l = omega (arith, h.small)
+    pub weighted_fits : k ≤ most_steps → total ≤ most_weighted_total
+    weighted_fits l = omega (arith, h.small)
 
-    pub weighted-more : {v : State} {x : ℕ} → FaultlessSteps a v (k + 1) → x ≡ total + cond sums (weighted_present w u a.road.n v) 0
+    pub weighted_more : {v : State} {x : ℕ} → FaultlessSteps a v (k + 1) → x ≡ total + cond sums (weighted_present w u a.road.n v) 0
         → x ≤ total + most_weighted_present
         → WeightedSoFar sums w u a x (k + 1)
-    weighted-more {v} ran e l = record {
+    weighted_more {v} ran e l = record {
       sum = rw (add-one k) (e ∙ ap (λ (t : ℕ). t + cond sums (weighted_present w u a.road.n v) 0) h.sum ∙ go sums);
       small = omega (arith, h.small);
     }
@@ -44,8 +44,8 @@ module _ (sums : Bool) (w u : ℕ → ℕ) (a : Study) where
 
         go : (b : Bool) → cond b (weighted_total w u a.road.n (engine_after a) k) 0 + cond b (weighted_present w u a.road.n v) 0
             ≡ cond b (weighted_total w u a.road.n (engine_after a) (suc k)) 0
-        go true = rw after (sym (weighted-total-more w u a.road.n (engine_after a) k))
+        go true = rw after (sym (weighted_total_more w u a.road.n (engine_after a) k))
         go false = omega arith
 
-    pub weighted-end : k ≡ first_step (run_fault a) a.steps → total ≡ weighted_total_end sums w u a
-    weighted-end e = h.sum ∙ ap (λ (j : ℕ). cond sums (weighted_total w u a.road.n (engine_after a) j) 0) e
+    pub weighted_end : k ≡ first_step (run_fault a) a.steps → total ≡ weighted_total_end sums w u a
+    weighted_end e = h.sum ∙ ap (λ (j : ℕ). cond sums (weighted_total w u a.road.n (engine_after a) j) 0) e

@@ -6,17 +6,17 @@ use Rattle.std.proofs.Math.ListN.{length}
 use Rattle.model.specs.Flow.{entering_of}
 use Rattle.model.specs.Numbers.{sum_of, at}
 use Rattle.numbers.specs.SumLaws.{SummedRow}
-use Rattle.numbers.specs.RowsLaws.{fill-past, length-fill}
+use Rattle.numbers.specs.RowsLaws.{fill_past, length_fill}
 use Rattle.model.specs.declared.Road.{Road}
 use Rattle.model.specs.declared.State.{State}
 use Rattle.model.specs.Road.{most_steps}
 use Rattle.model.specs.Flow.{arrivals_at, release_at}
 use Rattle.model.specs.Move.{held_of, queue_of, cumulative_of, moved_to, moved_of, counted_of, next_of}
-use Rattle.theory.specs.MoveLaws.{counted_is, counted-present}
-use Rattle.theory.proofs.LimitsKept.{present-bound}
+use Rattle.theory.specs.MoveLaws.{counted_is, counted_present}
+use Rattle.theory.proofs.LimitsKept.{present_bound}
 use Rattle.model.specs.Schedules.{outflows_of}
 use Rattle.theory.specs.RulesLaws.{Sized}
-use Rattle.stepping.specs.StepNeeds.{Movable, Countable, MovedCells, moved-cell, moved-end}
+use Rattle.stepping.specs.StepNeeds.{Movable, Countable, MovedCells, moved_cell, moved_end}
 use Rattle.outflows.specs.declared.Ledger.{Ledger}
 use Rattle.outflows.specs.Columns.{with_share_column, state_of}
 
@@ -32,28 +32,28 @@ engine_next r s row = next_of r s row (outflows_of r s row)
 
 module _ {r : Road} {s : State} {row y : List ℕ} {t : State} {entering i : ℕ} (h : MovedCells r s row y t entering i) where
   -- the cell at i is not moved yet
-  pub held-there : at t.held i ≡ at s.held i
+  pub held_there : at t.held i ≡ at s.held i
   unfolding moved_to
-  held-there = ap (λ (x : State). at x.held i) h.moved ∙ fill-past (held_of r s row y) i s.held i (le_refl i)
+  held_there = ap (λ (x : State). at x.held i) h.moved ∙ fill_past (held_of r s row y) i s.held i (le_refl i)
 
-  pub queue-there : at t.queue i ≡ at s.queue i
+  pub queue_there : at t.queue i ≡ at s.queue i
   unfolding moved_to
-  queue-there = ap (λ (x : State). at x.queue i) h.moved ∙ fill-past (queue_of s row) i s.queue i (le_refl i)
+  queue_there = ap (λ (x : State). at x.queue i) h.moved ∙ fill_past (queue_of s row) i s.queue i (le_refl i)
 
-  pub cumulative-there : at t.cumulative i ≡ at s.cumulative i
+  pub cumulative_there : at t.cumulative i ≡ at s.cumulative i
   unfolding moved_to
-  cumulative-there = ap (λ (x : State). at x.cumulative i) h.moved ∙ fill-past (cumulative_of s y) i s.cumulative i (le_refl i)
+  cumulative_there = ap (λ (x : State). at x.cumulative i) h.moved ∙ fill_past (cumulative_of s y) i s.cumulative i (le_refl i)
 
   -- the columns have an entry for it
-  pub long-there : Sized r s → i < r.n → (i < length t.held) × (i < length t.queue)
+  pub long_there : Sized r s → i < r.n → (i < length t.held) × (i < length t.queue)
   unfolding moved_to
-  long-there z l =
-      let eh = ap (λ (x : State). length x.held) h.moved ∙ length-fill (held_of r s row y) i s.held in
-      let eq = ap (λ (x : State). length x.queue) h.moved ∙ length-fill (queue_of s row) i s.queue in
+  long_there z l =
+      let eh = ap (λ (x : State). length x.held) h.moved ∙ length_fill (held_of r s row y) i s.held in
+      let eq = ap (λ (x : State). length x.queue) h.moved ∙ length_fill (queue_of s row) i s.queue in
       (omega (arith, eh, z.held), omega (arith, eq, z.queue))
 
   -- so it is moved in place
-  pub moved-there : {next : ℕ} → i < r.n → next ≡ entering_of (at r.share i) (at t.cumulative i) (at y (i + 1))
+  pub moved_there : {next : ℕ} → i < r.n → next ≡ entering_of (at r.share i) (at t.cumulative i) (at y (i + 1))
       → MovedCells r s row y (record {
         done = t.done;
         gate_time = t.gate_time;
@@ -65,12 +65,12 @@ module _ {r : Road} {s : State} {row y : List ℕ} {t : State} {entering i : ℕ
         queue = set t.queue i (at t.queue i + arrivals_at row i - release_at row i);
         cumulative = set t.cumulative i (at t.cumulative i + at y (i + 1));
       }) next (i + 1)
-  moved-there l e =
-      let g = rw cumulative-there at e in
-      rw (held-there, queue-there, cumulative-there) (moved-cell h l g)
+  moved_there l e =
+      let g = rw cumulative_there at e in
+      rw (held_there, queue_there, cumulative_there) (moved_cell h l g)
 
   -- when all cells are moved, the step is counted
-  pub counted-there : {gate road ramp : ℕ} → r.n ≤ i → gate ≡ t.gate_queue → SummedRow t.held road i → SummedRow t.queue ramp i
+  pub counted_there : {gate road ramp : ℕ} → r.n ≤ i → gate ≡ t.gate_queue → SummedRow t.held road i → SummedRow t.queue ramp i
       → record {
         done = t.done + 1;
         gate_time = t.gate_time + gate;
@@ -82,10 +82,10 @@ module _ {r : Road} {s : State} {row y : List ℕ} {t : State} {entering i : ℕ
         queue = t.queue;
         cumulative = t.cumulative;
       } ≡ next_of r s row y
-  counted-there l eg er eq =
+  counted_there l eg er eq =
       let e : i ≡ r.n = omega (arith, h.within) in
       counted_is r t eg (er.is ∙ ap (λ (k : ℕ). sum_of (take k t.held)) e) (eq.is ∙ ap (λ (k : ℕ). sum_of (take k t.queue)) e)
-      ∙ ap (counted_of r) (moved-end h l)
+      ∙ ap (counted_of r) (moved_end h l)
 
 -- after a move, counting has no further precondition
 pub countable : {r : Road} {s : State} {row y : List ℕ} {t : State} → Movable r s row y → s.done < most_steps → t ≡ moved_of r s row y → Countable r t
@@ -93,5 +93,5 @@ unfolding moved_to
 countable {r} {s} {row} {y} {t} m d e = rw e (record {
   done = d;
   total = omega (arith, m.input.state.total, m.input.state.done);
-  present = omega (arith, present-bound r s row y m.input m.sized m.obeys d, counted-present r (moved_of r s row y));
+  present = omega (arith, present_bound r s row y m.input m.sized m.obeys d, counted_present r (moved_of r s row y));
 })

@@ -2,7 +2,7 @@
 use Rattle.std.specs.Prelude.{◌≡◌, refl, List, ℕ, suc, ◌+◌, ◌-◌, ◌*◌, ◌^◌, ◌≤◌, ◌<◌, length, set}
 use Rattle.std.proofs.Common.{sym, ap, ◌∙◌, add-one, arith}
 use Rattle.model.specs.Flow.{whole, entering_of}
-use Rattle.flow.specs.FlowLaws.{supply-capacity, room-supply}
+use Rattle.flow.specs.FlowLaws.{supply_capacity, room_supply}
 use Rattle.model.specs.declared.Road.{Road}
 use Rattle.model.specs.declared.State.{State}
 use Rattle.model.specs.Numbers.{at, fill_of}
@@ -13,7 +13,7 @@ use Rattle.model.specs.Flow.{gate_arrivals, arrivals_at, release_at, supply_at, 
 use Rattle.model.specs.Move.{moved_to, moved_of, present_of}
 use Rattle.theory.specs.MoveLaws.{moved_more}
 use Rattle.model.specs.Schedules.{ReleasesFit, Obeys}
-use Rattle.theory.specs.RulesLaws.{Sized, entering-cell, release-there, demand-at-gate, demand-at-cell, demand-rate}
+use Rattle.theory.specs.RulesLaws.{Sized, entering_cell, release_there, demand_at_gate, demand_at_cell, demand_rate}
 
 -- moving requires: everything is within the limits, and the row of outflows obeys the rules
 pub record Movable (r : Road) (s : State) (row y : List ℕ) : Type 0 where
@@ -56,7 +56,7 @@ pub moved_none : {r : Road} {s : State} {row y : List ℕ} {entering : ℕ} → 
 unfolding share_at cumulative_at moved_to fill_of
 moved_none e = record { within = omega arith; enters = e; moved = refl }
 
-pub moved-cell : {r : Road} {s : State} {row y : List ℕ} {t : State} {entering i next : ℕ} → MovedCells r s row y t entering i → i < r.n
+pub moved_cell : {r : Road} {s : State} {row y : List ℕ} {t : State} {entering i next : ℕ} → MovedCells r s row y t entering i → i < r.n
     → next ≡ entering_of (at r.share i) (at s.cumulative i) (at y (i + 1))
     → MovedCells r s row y (record {
       done = t.done;
@@ -69,15 +69,15 @@ pub moved-cell : {r : Road} {s : State} {row y : List ℕ} {t : State} {entering
       queue = set t.queue i (at s.queue i + arrivals_at row i - release_at row i);
       cumulative = set t.cumulative i (at s.cumulative i + at y (i + 1));
     }) next (i + 1)
-moved-cell {r} {s} {row} {y} {t} {entering} {i} h l e = record {
+moved_cell {r} {s} {row} {y} {t} {entering} {i} h l e = record {
   within = omega arith;
-  enters = e ∙ sym (entering-cell r s y i);
+  enters = e ∙ sym (entering_cell r s y i);
   moved = moved_more r s row y i t entering h.moved h.enters;
 }
 
-pub moved-end : {r : Road} {s : State} {row y : List ℕ} {t : State} {entering i : ℕ} → MovedCells r s row y t entering i → r.n ≤ i
+pub moved_end : {r : Road} {s : State} {row y : List ℕ} {t : State} {entering i : ℕ} → MovedCells r s row y t entering i → r.n ≤ i
     → t ≡ moved_of r s row y
-moved-end {r} {s} {row} {y} {i = i} h l = let e : i ≡ r.n = omega (arith, h.within) in h.moved ∙ ap (moved_to r s row y) e
+moved_end {r} {s} {row} {y} {i = i} h l = let e : i ≡ r.n = omega (arith, h.within) in h.moved ∙ ap (moved_to r s row y) e
 
 -- the facts about the numbers of a turn of that loop
 pub record Turn (r : Road) (s : State) (row y : List ℕ) (i entering : ℕ) : Type 0 where
@@ -98,7 +98,7 @@ pub turn : {r : Road} {s : State} {row y : List ℕ} {t : State} {entering i : �
 unfolding capacity_at
 turn {r} {s} {row} {y} {i = i} m h l =
     let ok = m.input in
-    let leaves : at y (i + 1) ≤ at s.held i = rw add-one (omega (arith, m.obeys.demand (suc i) l, demand-at-cell r ok.road s i l)) in
+    let leaves : at y (i + 1) ≤ at s.held i = rw add-one (omega (arith, m.obeys.demand (suc i) l, demand_at_cell r ok.road s i l)) in
     record {
       cells = ok.road.cells;
       numbers = ok.row.numbers;
@@ -107,8 +107,8 @@ turn {r} {s} {row} {y} {i = i} m h l =
         arith,
         h.enters,
         m.obeys.enters i l,
-        room-supply (supply_at r s i) (release_at row i),
-        supply-capacity (at r.wave i) (at r.capacity i) (at r.jam i) (at s.held i),
+        room_supply (supply_at r s i) (release_at row i),
+        supply_capacity (at r.wave i) (at r.capacity i) (at r.jam i) (at s.held i),
         ok.road.capacity i l,
       );
       release = ok.row.release i l;
@@ -116,7 +116,7 @@ turn {r} {s} {row} {y} {i = i} m h l =
       held = omega (arith, ok.state.held i l, ok.road.jam i l);
       queue = omega (arith, ok.state.queue i l, ok.state.done);
       cumulative = omega (arith, ok.state.cumulative i l, ok.state.done);
-      waits = omega (arith, m.obeys.released.queue i l, release-there s row i);
+      waits = omega (arith, m.obeys.released.queue i l, release_there s row i);
       leaves = leaves;
     }
 
@@ -133,9 +133,9 @@ unfolding cumulative_at
 gate {r} {s} m =
     let ok = m.input in
     record {
-      there = omega (arith, m.obeys.demand 0 (omega arith), demand-at-gate r s);
+      there = omega (arith, m.obeys.demand 0 (omega arith), demand_at_gate r s);
       queue = omega (arith, ok.state.gate_queue, ok.state.done);
       arrivals = ok.row.gate;
       cumulative = omega (arith, ok.state.gate_cumulative, ok.state.done);
-      outflow = omega (arith, m.obeys.demand 0 (omega arith), demand-rate r ok.road s 0 (omega arith));
+      outflow = omega (arith, m.obeys.demand 0 (omega arith), demand_rate r ok.road s 0 (omega arith));
     }

@@ -1,4 +1,4 @@
--- An example of a better road: one speed is larger, both runs are accepted, and the total falls from 1 to 0. So `better-accepted` is not empty.
+-- An example of a better road: one speed is larger, both runs are accepted, and the total falls from 1 to 0. So `better_accepted` is not empty.
 -- Assumes nothing.
 use Rattle.std.specs.Prelude.{◌≡◌, refl, List, [], ◌++◌, ℕ, zero, suc, ◌≤◌, ◌<◌}
 use Rattle.std.proofs.Common.{le_refl, arith}
@@ -46,13 +46,13 @@ better = record {
   lanes = refl;
 }
 
-pub faster-road : FasterRoad
+pub faster_road : FasterRoad
 unfolding single two four header cell row reading_by one_of number_of seconds_size
     thousandths_of demand_of gate_demand_of supply_of room_of onward_of entering_of greatest_of outflow_of
     sum_of fill_of list_of first_from first_of first_fault place_ok row_ok
     capacity_at demand_at most_release_at share_at cumulative_at moved_to counted_of outflows_of lowest_of
     table_fault road_at engine_after end_of opening_of running_of
-faster-road = record {
+faster_road = record {
   first = record { reads = refl; opens = refl };
   other = record { reads = refl; opens = refl };
   pair = better;

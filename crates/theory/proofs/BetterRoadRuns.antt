@@ -8,16 +8,16 @@ use Rattle.model.specs.Road.{total_of}
 use Rattle.model.specs.Schedules.{Study, table_size, engine_after}
 use Rattle.theory.specs.RunsLaws.{ReleasesFitUpTo, StudyOk}
 use Rattle.theory.specs.BetterRoad.{BetterRoad}
-use Rattle.theory.proofs.BetterRoad.{better-behind}
+use Rattle.theory.proofs.BetterRoad.{better_behind}
 use Rattle.model.specs.Reading.{reading_of, study_of}
-use Rattle.reading.specs.Numbers.{read-numbers}
+use Rattle.reading.specs.Numbers.{read_numbers}
 use Rattle.model.specs.Running.{run_fault, first_step, steps_made, running_of}
-use Rattle.theory.proofs.SchedulesLaws.{step-within, step-before, end-made, end-state, run_fits}
-use Rattle.theory.proofs.RunEnds.{runs-short, runs-long}
+use Rattle.theory.proofs.SchedulesLaws.{step_within, step_before, end_made, end_state, run_fits}
+use Rattle.theory.proofs.RunEnds.{runs_short, runs_long}
 use Rattle.theory.specs.Readable.{readable}
 use Rattle.model.specs.Demand.{Ahead, Openable}
-use Rattle.theory.proofs.DemandLaws.{behind-ahead}
-use Rattle.theory.proofs.DemandWhole.{demand-and-grounds}
+use Rattle.theory.proofs.DemandLaws.{behind_ahead}
+use Rattle.theory.proofs.DemandWhole.{demand_and_grounds}
 
 -- a record and a table to which no refusal applies
 module _ (bytes lanes : List ℕ) (openable : Openable bytes lanes) where
@@ -28,61 +28,61 @@ module _ (bytes lanes : List ℕ) (openable : Openable bytes lanes) where
   ok = (readable bytes lanes (reading_of bytes) refl openable.reads openable.opens).ok
 
   entries : (study_of bytes lanes).road.n ≤ length (study_of bytes lanes).road.capacity
-  entries = omega (arith, ok.road.cells, (read-numbers bytes (reading_of bytes) refl openable.reads).capacity.entries)
+  entries = omega (arith, ok.road.cells, (read_numbers bytes (reading_of bytes) refl openable.reads).capacity.entries)
 
   -- a run makes no step from its first fault on, and its releases fit up to there
   module _ (list : List ℕ) where
     within : steps_made (study_of bytes lanes) (running_of bytes lanes list) ≤ first_step (run_fault (study_of bytes lanes)) (study_of bytes lanes).steps
     within = ⊎_elim
-        (λ (l : table_size a ≤ length list). rw (runs-long bytes lanes openable list l) (omega (arith, end-made a (run_fault a) (engine_after a))))
-        (λ (l : length list < table_size a). rw (runs-short bytes lanes openable list l) (omega arith))
+        (λ (l : table_size a ≤ length list). rw (runs_long bytes lanes openable list l) (omega (arith, end_made a (run_fault a) (engine_after a))))
+        (λ (l : length list < table_size a). rw (runs_short bytes lanes openable list l) (omega arith))
         (order (table_size a) (length list))
 
     fits : (k : ℕ) → k ≤ steps_made (study_of bytes lanes) (running_of bytes lanes list) → ReleasesFitUpTo (study_of bytes lanes) k
-    fits k l = run_fits a k (λ j m. step-before (run_fault a) a.steps j (omega (arith, within)))
+    fits k l = run_fits a k (λ j m. step_before (run_fault a) a.steps j (omega (arith, within)))
 
     -- if its list is long enough, a run returns the state after the steps made
     final : table_size (study_of bytes lanes) ≤ length list
         → (running_of bytes lanes list).state ≡ engine_after (study_of bytes lanes) (steps_made (study_of bytes lanes) (running_of bytes lanes list))
     final l =
-        let e = runs-long bytes lanes openable list l in
-        rw e (end-state a (run_fault a) (engine_after a) ∙ ap (engine_after a) (sym (end-made a (run_fault a) (engine_after a))))
+        let e = runs_long bytes lanes openable list l in
+        rw e (end_state a (run_fault a) (engine_after a) ∙ ap (engine_after a) (sym (end_made a (run_fault a) (engine_after a))))
 
     -- a run that is not refused has a list that is long enough, and makes all steps
     long : (running_of bytes lanes list).number ≡ 0 → table_size (study_of bytes lanes) ≤ length list
     long h = ⊎_elim
         (λ (l : table_size a ≤ length list). l)
         (λ (l : length list < table_size a).
-        let e : (running_of bytes lanes list).number ≡ 11 = rw (runs-short bytes lanes openable list l) refl in
+        let e : (running_of bytes lanes list).number ≡ 11 = rw (runs_short bytes lanes openable list l) refl in
         absurd (omega (arith, h, e)))
         (order (table_size a) (length list))
 
     all : (running_of bytes lanes list).number ≡ 0 → steps_made (study_of bytes lanes) (running_of bytes lanes list) ≡ (study_of bytes lanes).steps
-    all h = (demand-and-grounds bytes lanes openable list).grounds.all_rows h
+    all h = (demand_and_grounds bytes lanes openable list).grounds.all_rows h
 
 -- two records under one table of lanes, the second with a better road, each run into a list
 module _ (s t lanes : List ℕ) (first : Openable s lanes) (other : Openable t lanes) (h : BetterRoad (study_of s lanes) (study_of t lanes)) (list out : List ℕ) where
   -- after every step that both runs reach
-  pub better-steps : (k : ℕ) → k ≤ steps_made (study_of s lanes) (running_of s lanes list) → k ≤ steps_made (study_of t lanes) (running_of t lanes out)
+  pub better_steps : (k : ℕ) → k ≤ steps_made (study_of s lanes) (running_of s lanes list) → k ≤ steps_made (study_of t lanes) (running_of t lanes out)
       → Ahead (study_of s lanes).road (engine_after (study_of t lanes) k) (engine_after (study_of s lanes) k)
-  better-steps k l m =
+  better_steps k l m =
       let a = study_of s lanes in
-      behind-ahead a.road (engine_after (study_of t lanes) k) (engine_after a k)
-      (better-behind h (ok s lanes first) (ok t lanes other) (entries s lanes first) (entries t lanes other) k
-      (omega (arith, within s lanes first list, step-within (run_fault a) a.steps))
+      behind_ahead a.road (engine_after (study_of t lanes) k) (engine_after a k)
+      (better_behind h (ok s lanes first) (ok t lanes other) (entries s lanes first) (entries t lanes other) k
+      (omega (arith, within s lanes first list, step_within (run_fault a) a.steps))
       (fits s lanes first list k l) (fits t lanes other out k m))
 
   -- the same for the states returned, if both lists are long enough and both runs make equally many steps
-  pub better-returned : table_size (study_of s lanes) ≤ length list → table_size (study_of t lanes) ≤ length out
+  pub better_returned : table_size (study_of s lanes) ≤ length list → table_size (study_of t lanes) ≤ length out
       → steps_made (study_of s lanes) (running_of s lanes list) ≡ steps_made (study_of t lanes) (running_of t lanes out)
       → Ahead (study_of s lanes).road (running_of t lanes out).state (running_of s lanes list).state
-  better-returned l m e =
+  better_returned l m e =
       let K = steps_made (study_of s lanes) (running_of s lanes list) in
-      rw (final s lanes first list l, final t lanes other out m, ← e) (better-steps K (le_refl K) (omega (arith, e)))
+      rw (final s lanes first list l, final t lanes other out m, ← e) (better_steps K (le_refl K) (omega (arith, e)))
 
   -- 'when both roads accept the same releases, start, arrivals and closures': if neither run is refused, the total returned is not larger
-  pub better-accepted : (running_of s lanes list).number ≡ 0 → (running_of t lanes out).number ≡ 0
+  pub better_accepted : (running_of s lanes list).number ≡ 0 → (running_of t lanes out).number ≡ 0
       → total_of (running_of t lanes out).state ≤ total_of (running_of s lanes list).state
-  better-accepted a b =
-      (better-returned (long s lanes first list a) (long t lanes other out b)
+  better_accepted a b =
+      (better_returned (long s lanes first list a) (long t lanes other out b)
       (all s lanes first list a ∙ sym h.steps ∙ sym (all t lanes other out b))).total

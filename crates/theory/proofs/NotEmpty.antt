@@ -7,26 +7,26 @@ use Rattle.model.specs.Reading.{study_of}
 use Rattle.model.specs.WorkedRecord.{sample}
 use Rattle.model.specs.Running.{list_after}
 use Rattle.model.specs.Demand.{Ahead, Reaches}
-use Rattle.theory.proofs.DemandWhole.{demand-and-grounds}
+use Rattle.theory.proofs.DemandWhole.{demand_and_grounds}
 use Rattle.model.specs.WorkedSchedule.{still, works}
-use Rattle.model.proofs.WorkedSchedule.{both, both-closed}
+use Rattle.model.proofs.WorkedSchedule.{both, both_closed}
 
 -- the schedule reaches all three steps
-pub still-reaches : Reaches (study_of sample []) still 3
-still-reaches =
+pub still_reaches : Reaches (study_of sample []) still 3
+still_reaches =
     let right : length still ≡ table_size (study_of sample []) = both.right in
-    rw both.judged at ((demand-and-grounds sample [] both.openable still).grounds.reached still right)
+    rw both.judged at ((demand_and_grounds sample [] both.openable still).grounds.reached still right)
 
 -- the written rows are ahead of it
-pub ahead-of-still : Ahead (study_of sample []).road (scheduled_at (study_of sample []) (list_after sample [] still) 3) (scheduled_at (study_of sample []) still 3)
-ahead-of-still = (demand-and-grounds sample [] both.openable still).demand.ahead still 3 (omega (arith, both.run)) still-reaches
+pub ahead_of_still : Ahead (study_of sample []).road (scheduled_at (study_of sample []) (list_after sample [] still) 3) (scheduled_at (study_of sample []) still 3)
+ahead_of_still = (demand_and_grounds sample [] both.openable still).demand.ahead still 3 (omega (arith, both.run)) still_reaches
 
 -- with works the schedule reaches all three steps too, and the written rows are ahead of it
-pub still-reaches-closed : Reaches (study_of sample works) still 3
-still-reaches-closed =
+pub still_reaches_closed : Reaches (study_of sample works) still 3
+still_reaches_closed =
     let right : length still ≡ table_size (study_of sample works) = both.right in
-    rw both-closed.judged at ((demand-and-grounds sample works both-closed.openable still).grounds.reached still right)
+    rw both_closed.judged at ((demand_and_grounds sample works both_closed.openable still).grounds.reached still right)
 
-pub ahead-of-still-closed : Ahead (study_of sample works).road (scheduled_at (study_of sample works) (list_after sample works still) 3)
+pub ahead_of_still_closed : Ahead (study_of sample works).road (scheduled_at (study_of sample works) (list_after sample works still) 3)
     (scheduled_at (study_of sample works) still 3)
-ahead-of-still-closed = (demand-and-grounds sample works both-closed.openable still).demand.ahead still 3 (omega (arith, both-closed.run)) still-reaches-closed
+ahead_of_still_closed = (demand_and_grounds sample works both_closed.openable still).demand.ahead still 3 (omega (arith, both_closed.run)) still_reaches_closed

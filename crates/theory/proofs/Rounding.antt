@@ -6,30 +6,30 @@ use Rattle.std.proofs.Math.Path.{subst⁻¹}
 use Rattle.model.specs.declared.State.{State}
 use Rattle.model.specs.Schedules.{Study, schedule_after, engine_after, outflows_at, ObeysUpTo, proposed_at, scheduled_at}
 use Rattle.theory.specs.RunsLaws.{ReleasesFitUpTo}
-use Rattle.theory.proofs.RunsLaws.{engine-schedule, engine-obeys}
+use Rattle.theory.proofs.RunsLaws.{engine_schedule, engine_obeys}
 use Rattle.model.specs.Reading.{reading_of, study_of}
-use Rattle.reading.specs.Numbers.{read-numbers}
+use Rattle.reading.specs.Numbers.{read_numbers}
 use Rattle.model.specs.Demand.{Openable, Reaches}
 use Rattle.theory.specs.Readable.{readable}
 use Rattle.theory.specs.Finer.{scaled, reach_of}
-use Rattle.theory.specs.FinerLaws.{most_finer, roads-open, roads-closed}
+use Rattle.theory.specs.FinerLaws.{most_finer, roads_open, roads_closed}
 use Rattle.theory.specs.WholeShares.{SharesWhole}
 use Rattle.theory.specs.AnyShares.{Most}
 use Rattle.theory.specs.NearRuns.{Deciding, FinerRequires}
-use Rattle.theory.proofs.NearRuns.{engine-decides, finer-decides, coupled, whole-most-after, whole-least-after, most-after, least-after}
+use Rattle.theory.proofs.NearRuns.{engine_decides, finer_decides, coupled, whole_most_after, whole_least_after, most_after, least_after}
 use Rattle.theory.specs.Present.{AboveAtMost}
-use Rattle.theory.proofs.Present.{above-at-most, not-below, ramp-time-finer}
+use Rattle.theory.proofs.Present.{above_at_most, not_below_lem, ramp_time_finer}
 use Rattle.theory.specs.Rounding.{Near, NearWhole, Within}
 
 module _ {K : ℕ} {a : Study} (h : FinerRequires K a) (k : ℕ) where
   -- a schedule ys of the study and a schedule zs of the finer study; in both, demand or room decides
   module _ (ys zs : ℕ → List ℕ) (own : ObeysUpTo a ys k) (fine : ObeysUpTo (scaled K a) zs k) (decide : Deciding a ys k)
       (finer : Deciding (scaled K a) zs k) where
-    pub schedules-near : Near K k a.road (schedule_after a ys k) (schedule_after (scaled K a) zs k)
-    schedules-near =
+    pub schedules_near : Near K k a.road (schedule_after a ys k) (schedule_after (scaled K a) zs k)
+    schedules_near =
         let c = coupled h ys zs k own fine in
-        let m = most-after h ys zs k own fine decide in
-        let l = least-after h ys zs k own fine finer in
+        let m = most_after h ys zs k own fine decide in
+        let l = least_after h ys zs k own fine finer in
         record {
           most = m.outflow;
           least = l.outflow;
@@ -40,17 +40,17 @@ module _ {K : ℕ} {a : Study} (h : FinerRequires K a) (k : ℕ) where
           held_least = λ i n.
               omega (arith, ap (λ (x : ℕ). x * reach_of a.road (suc i)) (c.cells i n), l.onward i n, m.outflow (suc i) n);
           ramp_queue = c.queues;
-          ramp_time = ramp-time-finer h ys zs k own fine;
+          ramp_time = ramp_time_finer h ys zs k own fine;
         }
 
-    schedules-near-whole : SharesWhole a.road → NearWhole K k a.road (schedule_after a ys k) (schedule_after (scaled K a) zs k)
-    schedules-near-whole on =
-        let x = not-below h ys zs on k own fine finer in
-        let y = above-at-most h ys zs on k own fine decide in
-        let e = ramp-time-finer h ys zs k own fine in
+    schedules_near_whole : SharesWhole a.road → NearWhole K k a.road (schedule_after a ys k) (schedule_after (scaled K a) zs k)
+    schedules_near_whole on =
+        let x = not_below_lem h ys zs on k own fine finer in
+        let y = above_at_most h ys zs on k own fine decide in
+        let e = ramp_time_finer h ys zs k own fine in
         record {
-          least = whole-least-after h ys zs on k own fine finer;
-          most = whole-most-after h ys zs on k own fine decide;
+          least = whole_least_after h ys zs on k own fine finer;
+          most = whole_most_after h ys zs on k own fine decide;
           not_below = x;
           above = y;
           road_most = omega (arith, x.total, y.gate_time, e);
@@ -60,51 +60,51 @@ module _ {K : ℕ} {a : Study} (h : FinerRequires K a) (k : ℕ) where
   module _ (fits : ReleasesFitUpTo a k) where
     -- against every schedule zs of the finer study that obeys the rules and in which demand or room decides. The papers' model gives such a
     -- schedule if its numbers are whole in finer parts (`Exact`)
-    pub papers-near : (zs : ℕ → List ℕ) → ObeysUpTo (scaled K a) zs k → Deciding (scaled K a) zs k
+    pub papers_near : (zs : ℕ → List ℕ) → ObeysUpTo (scaled K a) zs k → Deciding (scaled K a) zs k
         → Near K k a.road (engine_after a k) (schedule_after (scaled K a) zs k)
-    papers-near zs fine finer =
-        subst⁻¹ (λ (u : State). Near K k a.road u (schedule_after (scaled K a) zs k)) (engine-schedule a k)
-        (schedules-near (outflows_at a) zs (engine-obeys a k fits) fine (engine-decides h k fits) finer)
+    papers_near zs fine finer =
+        subst⁻¹ (λ (u : State). Near K k a.road u (schedule_after (scaled K a) zs k)) (engine_schedule a k)
+        (schedules_near (outflows_at a) zs (engine_obeys a k fits) fine (engine_decides h k fits) finer)
 
-    pub papers-near-whole : SharesWhole a.road → (zs : ℕ → List ℕ) → ObeysUpTo (scaled K a) zs k → Deciding (scaled K a) zs k
+    pub papers_near_whole : SharesWhole a.road → (zs : ℕ → List ℕ) → ObeysUpTo (scaled K a) zs k → Deciding (scaled K a) zs k
         → NearWhole K k a.road (engine_after a k) (schedule_after (scaled K a) zs k)
-    papers-near-whole on zs fine finer =
-        subst⁻¹ (λ (u : State). NearWhole K k a.road u (schedule_after (scaled K a) zs k)) (engine-schedule a k)
-        (schedules-near-whole (outflows_at a) zs (engine-obeys a k fits) fine (engine-decides h k fits) finer on)
+    papers_near_whole on zs fine finer =
+        subst⁻¹ (λ (u : State). NearWhole K k a.road u (schedule_after (scaled K a) zs k)) (engine_schedule a k)
+        (schedules_near_whole (outflows_at a) zs (engine_obeys a k fits) fine (engine_decides h k fits) finer on)
 
     -- against the run of the finer study
     pub rounding : ReleasesFitUpTo (scaled K a) k → Near K k a.road (engine_after a k) (engine_after (scaled K a) k)
     rounding fine =
-        subst⁻¹ (λ (u : State). Near K k a.road (engine_after a k) u) (engine-schedule (scaled K a) k)
-        (papers-near (outflows_at (scaled K a)) (engine-obeys (scaled K a) k fine) (finer-decides h k fine))
+        subst⁻¹ (λ (u : State). Near K k a.road (engine_after a k) u) (engine_schedule (scaled K a) k)
+        (papers_near (outflows_at (scaled K a)) (engine_obeys (scaled K a) k fine) (finer_decides h k fine))
 
-    pub rounding-whole : SharesWhole a.road → ReleasesFitUpTo (scaled K a) k → NearWhole K k a.road (engine_after a k) (engine_after (scaled K a) k)
-    rounding-whole on fine =
-        subst⁻¹ (λ (u : State). NearWhole K k a.road (engine_after a k) u) (engine-schedule (scaled K a) k)
-        (papers-near-whole on (outflows_at (scaled K a)) (engine-obeys (scaled K a) k fine) (finer-decides h k fine))
+    pub rounding_whole : SharesWhole a.road → ReleasesFitUpTo (scaled K a) k → NearWhole K k a.road (engine_after a k) (engine_after (scaled K a) k)
+    rounding_whole on fine =
+        subst⁻¹ (λ (u : State). NearWhole K k a.road (engine_after a k) u) (engine_schedule (scaled K a) k)
+        (papers_near_whole on (outflows_at (scaled K a)) (engine_obeys (scaled K a) k fine) (finer_decides h k fine))
 
     -- demand 3 within the bound: no schedule of the finer study is further ahead
-    pub finer-schedules : (zs : List ℕ) → Reaches (scaled K a) zs k → Most K (2 * k * K) a.road (engine_after a k) (scheduled_at (scaled K a) zs k)
-    finer-schedules zs reaches =
-        subst⁻¹ (λ (u : State). Most K (2 * k * K) a.road u (scheduled_at (scaled K a) zs k)) (engine-schedule a k)
-        (most-after h (outflows_at a) (proposed_at (scaled K a) zs) k (engine-obeys a k fits) reaches.obeys (engine-decides h k fits))
+    pub finer_schedules : (zs : List ℕ) → Reaches (scaled K a) zs k → Most K (2 * k * K) a.road (engine_after a k) (scheduled_at (scaled K a) zs k)
+    finer_schedules zs reaches =
+        subst⁻¹ (λ (u : State). Most K (2 * k * K) a.road u (scheduled_at (scaled K a) zs k)) (engine_schedule a k)
+        (most_after h (outflows_at a) (proposed_at (scaled K a) zs) k (engine_obeys a k fits) reaches.obeys (engine_decides h k fits))
 
-    pub finer-schedules-whole : SharesWhole a.road → (zs : List ℕ) → Reaches (scaled K a) zs k
+    pub finer_schedules_whole : SharesWhole a.road → (zs : List ℕ) → Reaches (scaled K a) zs k
         → AboveAtMost K k a.road (engine_after a k) (scheduled_at (scaled K a) zs k)
-    finer-schedules-whole on zs reaches =
-        subst⁻¹ (λ (u : State). AboveAtMost K k a.road u (scheduled_at (scaled K a) zs k)) (engine-schedule a k)
-        (above-at-most h (outflows_at a) (proposed_at (scaled K a) zs) on k (engine-obeys a k fits) reaches.obeys (engine-decides h k fits))
+    finer_schedules_whole on zs reaches =
+        subst⁻¹ (λ (u : State). AboveAtMost K k a.road u (scheduled_at (scaled K a) zs k)) (engine_schedule a k)
+        (above_at_most h (outflows_at a) (proposed_at (scaled K a) zs) on k (engine_obeys a k fits) reaches.obeys (engine_decides h k fits))
 
-pub finer-ready : (bytes lanes : List ℕ) → Openable bytes lanes → (K : ℕ) → 0 < K → Within lanes K → FinerRequires K (study_of bytes lanes)
-finer-ready bytes lanes openable K some within =
+pub finer_ready : (bytes lanes : List ℕ) → Openable bytes lanes → (K : ℕ) → 0 < K → Within lanes K → FinerRequires K (study_of bytes lanes)
+finer_ready bytes lanes openable K some within =
     let x = (readable bytes lanes (reading_of bytes) refl openable.reads openable.opens).ok in
-    let c = (read-numbers bytes (reading_of bytes) refl openable.reads).capacity.entries in
+    let c = (read_numbers bytes (reading_of bytes) refl openable.reads).capacity.entries in
     record {
       some = some;
       ok = x;
-      zero = (read-numbers bytes (reading_of bytes) refl openable.reads).done;
+      zero = (read_numbers bytes (reading_of bytes) refl openable.reads).done;
       roads = ⊎_elim
-          (λ (e : length lanes ≡ 0). roads-open K (study_of bytes lanes) some e)
-          (λ (m : K ≤ most_finer). roads-closed K (study_of bytes lanes) some m (omega (arith, x.road.cells, c)) x)
+          (λ (e : length lanes ≡ 0). roads_open K (study_of bytes lanes) some e)
+          (λ (m : K ≤ most_finer). roads_closed K (study_of bytes lanes) some m (omega (arith, x.road.cells, c)) x)
           within;
     }

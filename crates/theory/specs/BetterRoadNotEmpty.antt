@@ -1,4 +1,4 @@
--- An example of a better road: one speed is larger, both runs are accepted, and the total falls from 1 to 0. So `better-accepted` is not empty.
+-- An example of a better road: one speed is larger, both runs are accepted, and the total falls from 1 to 0. So `better_accepted` is not empty.
 -- Assumes nothing.
 use Rattle.std.specs.Prelude.{◌≡◌, refl, List, [], ◌++◌, ℕ, zero, suc, ◌≤◌, ◌<◌}
 use Rattle.std.proofs.Common.{le_refl, arith}

@@ -3,19 +3,19 @@
 use Rattle.std.specs.Prelude.{◌≡◌, refl, List, ℕ, zero, suc, ◌+◌, ◌*◌, ◌≤◌, ◌<◌}
 use Rattle.std.proofs.Common.{ap, mul-le-mul_left, arith}
 use Rattle.model.specs.Flow.{whole}
-use Rattle.flow.specs.FlowLaws.{demand-held, supply-space, room-release, onward-le}
+use Rattle.flow.specs.FlowLaws.{demand_held, supply_space, room_release, onward_le}
 use Rattle.model.specs.declared.Road.{Road}
 use Rattle.model.specs.declared.State.{State}
 use Rattle.model.specs.Numbers.{at}
 use Rattle.limits.specs.LimitsLaws.{RoadOk}
 use Rattle.model.specs.Flow.{gate_arrivals, arrivals_at, release_at, capacity_at, demand_at, supply_at, share_at, cumulative_at}
-use Rattle.theory.specs.RulesLaws.{onward_at, Sized, release-there, demand-at-gate, share-le}
+use Rattle.theory.specs.RulesLaws.{onward_at, Sized, release_there, demand_at_gate, share_le}
 use Rattle.model.specs.Move.{next_of}
 use Rattle.model.specs.Schedules.{Obeys}
-use Rattle.theory.specs.MoveLaws.{next-gate-queue, next-held, next-queue, next-cumulative, next-onward, next-sized}
-use Rattle.theory.specs.Roads.{StepRoad, step-alike, alike-back, onward-alike, sized-alike}
+use Rattle.theory.specs.MoveLaws.{next_gate_queue, next_held, next_queue, next_cumulative, next_onward, next_sized}
+use Rattle.theory.specs.Roads.{StepRoad, step_alike, alike_back, onward_alike, sized_alike}
 use Rattle.theory.specs.Finer.{times_of, scaled_state}
-use Rattle.theory.specs.FinerLaws.{FinerRoad, finer-alike, finer-speed, finer-wave, finer-jam, finer-onward, times-at, length-times}
+use Rattle.theory.specs.FinerLaws.{FinerRoad, finer_alike, finer_speed, finer_wave, finer_jam, finer_onward, times_at, length_times}
 
 -- s is a state of the study, t one of the finer study
 pub record Coupling (K : ℕ) (r : Road) (s t : State) : Type 0 where
@@ -30,10 +30,10 @@ pub record Coupling (K : ℕ) (r : Road) (s t : State) : Type 0 where
 
 -- other capacities change nothing in it
 module _ (K : ℕ) {r q : Road} (h : StepRoad r q) (s t : State) where
-  pub coupled-on : Coupling K r s t → Coupling K q s t
-  coupled-on c = record {
-    sized_s = sized-alike r q (step-alike h) s c.sized_s;
-    sized_t = sized-alike r q (step-alike h) t c.sized_t;
+  pub coupled_on : Coupling K r s t → Coupling K q s t
+  coupled_on c = record {
+    sized_s = sized_alike r q (step_alike h) s c.sized_s;
+    sized_t = sized_alike r q (step_alike h) t c.sized_t;
     held_s = λ i l. rw h.jam (c.held_s i (omega (arith, h.n)));
     held_t = λ i l. rw h.jam (c.held_t i (omega (arith, h.n)));
     gate = c.gate;
@@ -42,16 +42,16 @@ module _ (K : ℕ) {r q : Road} (h : StepRoad r q) (s t : State) where
         omega (
           arith,
           c.cells i m,
-          ap (λ (z : ℕ). K * z) (onward-alike r q (step-alike h) s i (omega arith)),
-          onward-alike r q (step-alike h) t i (omega arith),
+          ap (λ (z : ℕ). K * z) (onward_alike r q (step_alike h) s i (omega arith)),
+          onward_alike r q (step_alike h) t i (omega arith),
         );
     queues = λ i l. c.queues i (omega (arith, h.n));
   }
 
-  pub coupled-back : Coupling K q s t → Coupling K r s t
-  coupled-back c = record {
-    sized_s = sized-alike q r (alike-back r q (step-alike h)) s c.sized_s;
-    sized_t = sized-alike q r (alike-back r q (step-alike h)) t c.sized_t;
+  pub coupled_back : Coupling K q s t → Coupling K r s t
+  coupled_back c = record {
+    sized_s = sized_alike q r (alike_back r q (step_alike h)) s c.sized_s;
+    sized_t = sized_alike q r (alike_back r q (step_alike h)) t c.sized_t;
     held_s = λ i l. rw h.jam at (c.held_s i (omega (arith, h.n)));
     held_t = λ i l. rw h.jam at (c.held_t i (omega (arith, h.n)));
     gate = c.gate;
@@ -59,82 +59,82 @@ module _ (K : ℕ) {r q : Road} (h : StepRoad r q) (s t : State) where
         omega (
           arith,
           c.cells i (omega (arith, h.n)),
-          ap (λ (z : ℕ). K * z) (onward-alike r q (step-alike h) s i (omega arith)),
-          onward-alike r q (step-alike h) t i (omega arith),
+          ap (λ (z : ℕ). K * z) (onward_alike r q (step_alike h) s i (omega arith)),
+          onward_alike r q (step_alike h) t i (omega arith),
         );
     queues = λ i l. c.queues i (omega (arith, h.n));
   }
 
-pub scaled-cumulative : (K : ℕ) (s : State) (p : ℕ) → cumulative_at (scaled_state K s) p ≡ K * cumulative_at s p
+pub scaled_cumulative : (K : ℕ) (s : State) (p : ℕ) → cumulative_at (scaled_state K s) p ≡ K * cumulative_at s p
 unfolding cumulative_at
-scaled-cumulative K s zero = refl
-scaled-cumulative K s (suc i) = times-at K s.cumulative i
+scaled_cumulative K s zero = refl
+scaled_cumulative K s (suc i) = times_at K s.cumulative i
 
 -- if nothing has left a place, nothing has gone on from it
-pub onward-nothing : (r : Road) → RoadOk r → (u : State) (p : ℕ) → p ≤ r.n → cumulative_at u p ≡ 0 → onward_at r u p ≡ 0
-onward-nothing r ok u p l e = omega (arith, onward-le (share_at r p) (cumulative_at u p) (share-le r ok p l))
+pub onward_nothing : (r : Road) → RoadOk r → (u : State) (p : ℕ) → p ≤ r.n → cumulative_at u p ≡ 0 → onward_at r u p ≡ 0
+onward_nothing r ok u p l e = omega (arith, onward_le (share_at r p) (cumulative_at u p) (share_le r ok p l))
 
 -- before step 0 nothing has left
 module _ (K : ℕ) (r : Road) (s : State) (ok : RoadOk r) (none : (p : ℕ) → p ≤ r.n → cumulative_at s p ≡ 0) where
-  pub scaled-nothing : (p : ℕ) → p ≤ r.n → cumulative_at (scaled_state K s) p ≡ 0
-  scaled-nothing p l = omega (arith, scaled-cumulative K s p, ap (λ (x : ℕ). K * x) (none p l))
+  pub scaled_nothing : (p : ℕ) → p ≤ r.n → cumulative_at (scaled_state K s) p ≡ 0
+  scaled_nothing p l = omega (arith, scaled_cumulative K s p, ap (λ (x : ℕ). K * x) (none p l))
 
-  pub coupled-start : Sized r s → ((i : ℕ) → i < r.n → at s.held i ≤ at r.jam i) → Coupling K r s (scaled_state K s)
-  coupled-start z held = record {
+  pub coupled_start : Sized r s → ((i : ℕ) → i < r.n → at s.held i ≤ at r.jam i) → Coupling K r s (scaled_state K s)
+  coupled_start z held = record {
     sized_s = z;
     sized_t = record {
-      held = omega (arith, length-times K s.held, z.held);
-      queue = omega (arith, length-times K s.queue, z.queue);
-      cumulative = omega (arith, length-times K s.cumulative, z.cumulative);
+      held = omega (arith, length_times K s.held, z.held);
+      queue = omega (arith, length_times K s.queue, z.queue);
+      cumulative = omega (arith, length_times K s.cumulative, z.cumulative);
     };
     held_s = held;
-    held_t = λ i l. omega (arith, times-at K s.held i, mul-le-mul_left K (held i l));
-    gate = omega (arith, scaled-cumulative K s 0);
+    held_t = λ i l. omega (arith, times_at K s.held i, mul-le-mul_left K (held i l));
+    gate = omega (arith, scaled_cumulative K s 0);
     cells = λ i l.
         omega (
           arith,
-          times-at K s.held i,
-          scaled-cumulative K s (suc i),
-          ap (λ (x : ℕ). K * x) (onward-nothing r ok s i (omega arith) (none i (omega arith))),
-          onward-nothing r ok (scaled_state K s) i (omega arith) (scaled-nothing i (omega arith)),
+          times_at K s.held i,
+          scaled_cumulative K s (suc i),
+          ap (λ (x : ℕ). K * x) (onward_nothing r ok s i (omega arith) (none i (omega arith))),
+          onward_nothing r ok (scaled_state K s) i (omega arith) (scaled_nothing i (omega arith)),
         );
-    queues = λ i l. times-at K s.queue i;
+    queues = λ i l. times_at K s.queue i;
   }
 
 -- how a step with a row that obeys the rules changes the gate and a cell
 module _ (r : Road) (u : State) (row y : List ℕ) (z : Sized r u) (ok : Obeys r u row y) where
-  gate-account : (next_of r u row y).gate_queue + cumulative_at (next_of r u row y) 0 ≡ u.gate_queue + cumulative_at u 0 + gate_arrivals row
-  gate-account =
-      omega (arith, next-gate-queue r u row y, next-cumulative r u row y z 0 (omega arith), ok.demand 0 (omega arith), demand-at-gate r u)
+  gate_account : (next_of r u row y).gate_queue + cumulative_at (next_of r u row y) 0 ≡ u.gate_queue + cumulative_at u 0 + gate_arrivals row
+  gate_account =
+      omega (arith, next_gate_queue r u row y, next_cumulative r u row y z 0 (omega arith), ok.demand 0 (omega arith), demand_at_gate r u)
 
-  demand-there : (i : ℕ) → at r.speed i ≤ whole → demand_at r u (suc i) ≤ at u.held i
+  demand_there : (i : ℕ) → at r.speed i ≤ whole → demand_at r u (suc i) ≤ at u.held i
   unfolding demand_at
-  demand-there i h = demand-held (at r.speed i) (capacity_at r i) (at u.held i) h
+  demand_there i h = demand_held (at r.speed i) (capacity_at r i) (at u.held i) h
 
-  cell-account : (i : ℕ) → i < r.n → at r.speed i ≤ whole
+  cell_account : (i : ℕ) → i < r.n → at r.speed i ≤ whole
       → at (next_of r u row y).held i + cumulative_at (next_of r u row y) (suc i) + onward_at r u i
       ≡ at u.held i + cumulative_at u (suc i) + onward_at r (next_of r u row y) i + release_at row i
-  cell-account i l h =
+  cell_account i l h =
       omega (
         arith,
-        next-held r u row y z i l,
-        next-cumulative r u row y z (suc i) l,
-        next-onward r u row y z i (omega arith),
+        next_held r u row y z i l,
+        next_cumulative r u row y z (suc i) l,
+        next_onward r u row y z i (omega arith),
         ok.demand (suc i) l,
-        demand-there i h,
+        demand_there i h,
       )
 
-  queue-account : (i : ℕ) → i < r.n → at (next_of r u row y).queue i + release_at row i ≡ at u.queue i + arrivals_at row i
-  queue-account i l = omega (arith, next-queue r u row y z i l, ok.released.queue i l, release-there u row i)
+  queue_account : (i : ℕ) → i < r.n → at (next_of r u row y).queue i + release_at row i ≡ at u.queue i + arrivals_at row i
+  queue_account i l = omega (arith, next_queue r u row y z i l, ok.released.queue i l, release_there u row i)
 
-  held-account : (i : ℕ) → i < r.n → at r.wave i ≤ whole → at u.held i ≤ at r.jam i → at (next_of r u row y).held i ≤ at r.jam i
-  held-account i l h held =
+  held_account : (i : ℕ) → i < r.n → at r.wave i ≤ whole → at u.held i ≤ at r.jam i → at (next_of r u row y).held i ≤ at r.jam i
+  held_account i l h held =
       omega (
         arith,
-        next-held r u row y z i l,
+        next_held r u row y z i l,
         ok.enters i l,
-        room-release (supply_at r u i) (release_at row i) (ok.released.supply i l),
-        supply-space (at r.wave i) (capacity_at r i) (at r.jam i) (at u.held i) h,
+        room_release (supply_at r u i) (release_at row i) (ok.released.supply i l),
+        supply_space (at r.wave i) (capacity_at r i) (at r.jam i) (at u.held i) h,
       )
 
 -- a step of both studies
@@ -146,51 +146,51 @@ module _ (K : ℕ) (q q' : Road) (s t : State) (row y z : List ℕ) (road : Road
   abbrev T' : State
   T' = next_of q' t (times_of K row) z
 
-  pub sized-finer : Sized q' t
-  sized-finer = sized-alike q q' (finer-alike f) t c.sized_t
+  pub sized_finer : Sized q' t
+  sized_finer = sized_alike q q' (finer_alike f) t c.sized_t
 
-  cell-step : (i : ℕ) → i < q.n
+  cell_step : (i : ℕ) → i < q.n
       → at T'.held i + cumulative_at T' (suc i) + K * onward_at q S' i ≡ K * at S'.held i + K * cumulative_at S' (suc i) + onward_at q T' i
-  cell-step i l =
+  cell_step i l =
       let m : i < q'.n = omega (arith, f.n) in
       omega (
         arith,
         c.cells i l,
-        ap (λ (x : ℕ). K * x) (cell-account q s row y c.sized_s own i l (road.speed i l)),
-        cell-account q' t (times_of K row) z sized-finer fine i m (omega (arith, finer-speed f i, road.speed i l)),
-        finer-onward f t i (omega arith),
-        finer-onward f T' i (omega arith),
-        times-at K row (2 * i + 2),
+        ap (λ (x : ℕ). K * x) (cell_account q s row y c.sized_s own i l (road.speed i l)),
+        cell_account q' t (times_of K row) z sized_finer fine i m (omega (arith, finer_speed f i, road.speed i l)),
+        finer_onward f t i (omega arith),
+        finer_onward f T' i (omega arith),
+        times_at K row (2 * i + 2),
       )
 
-  pub coupled-step : Coupling K q S' T'
-  coupled-step = record {
-    sized_s = next-sized q s row y c.sized_s;
-    sized_t = sized-alike q' q (alike-back q q' (finer-alike f)) T' (next-sized q' t (times_of K row) z sized-finer);
-    held_s = λ i l. held-account q s row y c.sized_s own i l (road.wave i l) (c.held_s i l);
+  pub coupled_step : Coupling K q S' T'
+  coupled_step = record {
+    sized_s = next_sized q s row y c.sized_s;
+    sized_t = sized_alike q' q (alike_back q q' (finer_alike f)) T' (next_sized q' t (times_of K row) z sized_finer);
+    held_s = λ i l. held_account q s row y c.sized_s own i l (road.wave i l) (c.held_s i l);
     held_t = λ i l.
         omega (
           arith,
-          finer-jam f i,
-          held-account q' t (times_of K row) z sized-finer fine i (omega (arith, f.n)) (omega (arith, finer-wave f i, road.wave i l))
-              (omega (arith, finer-jam f i, c.held_t i l)),
+          finer_jam f i,
+          held_account q' t (times_of K row) z sized_finer fine i (omega (arith, f.n)) (omega (arith, finer_wave f i, road.wave i l))
+              (omega (arith, finer_jam f i, c.held_t i l)),
         );
     gate =
         omega (
           arith,
           c.gate,
-          ap (λ (x : ℕ). K * x) (gate-account q s row y c.sized_s own),
-          gate-account q' t (times_of K row) z sized-finer fine,
-          times-at K row 0,
+          ap (λ (x : ℕ). K * x) (gate_account q s row y c.sized_s own),
+          gate_account q' t (times_of K row) z sized_finer fine,
+          times_at K row 0,
         );
-    cells = cell-step;
+    cells = cell_step;
     queues = λ i l.
         omega (
           arith,
           c.queues i l,
-          ap (λ (x : ℕ). K * x) (queue-account q s row y c.sized_s own i l),
-          queue-account q' t (times_of K row) z sized-finer fine i (omega (arith, f.n)),
-          times-at K row (2 * i + 1),
-          times-at K row (2 * i + 2),
+          ap (λ (x : ℕ). K * x) (queue_account q s row y c.sized_s own i l),
+          queue_account q' t (times_of K row) z sized_finer fine i (omega (arith, f.n)),
+          times_at K row (2 * i + 1),
+          times_at K row (2 * i + 2),
         );
   }

@@ -1,8 +1,8 @@
 -- docs/MODEL.md, 'Edges': the starred ones, and the printed run, as one fact about a table of rules. Assumes nothing.
 use Rattle.std.specs.Prelude.{◌≡◌, true, ◌++◌, ℕ, ◌≤◌}
 use Rattle.model.specs.Flow.{outflow_of}
-use Rattle.flow.specs.FlowLaws.{outflow-exit, outflow-one}
-use Rattle.model.specs.WorkedEdges.{holds, rules, run, edges-hold}
+use Rattle.flow.specs.FlowLaws.{outflow_exit, outflow_one}
+use Rattle.model.specs.WorkedEdges.{holds, rules, run, edges_hold}
 
 pub record StarredEdges : Type 0 where
   -- the rules and the run, computed
@@ -12,5 +12,5 @@ pub record StarredEdges : Type 0 where
   -- b 0: the supply never limits the outflow
   pub exit : (cumulative room demand : ℕ) → outflow_of 0 cumulative room demand ≡ demand
 
-pub starred-edges : StarredEdges
-starred-edges = record { computed = edges-hold; one = outflow-one; exit = outflow-exit }
+pub starred_edges : StarredEdges
+starred_edges = record { computed = edges_hold; one = outflow_one; exit = outflow_exit }

@@ -11,7 +11,7 @@ use Rattle.std.proofs.Math.Dec.{eqb}
 use borrow.Author.Tests.{eqb-false, eq-eqb, ne_eqb}
 use Rattle.model.specs.Numbers.{at}
 use Rattle.model.specs.Flow.{whole}
-use Rattle.numbers.specs.RowsLaws.{fill-at}
+use Rattle.numbers.specs.RowsLaws.{fill_at}
 use Rattle.model.specs.Lanes.{most_number, open_capacity, built_in, open_in}
 use Rattle.model.specs.declared.Road.{Road}
 use Rattle.model.specs.declared.State.{State}
@@ -19,21 +19,21 @@ use Rattle.model.specs.Road.{most_rate}
 use Rattle.model.specs.Schedules.{Study, open_road, road_at}
 use Rattle.limits.specs.LimitsLaws.{RoadOk}
 use Rattle.model.specs.Flow.{capacity_at, share_at}
-use Rattle.theory.specs.RulesLaws.{onward_at, share-le}
-use Rattle.theory.specs.Roads.{Alike, share-alike, onward-alike}
+use Rattle.theory.specs.RulesLaws.{onward_at, share_le}
+use Rattle.theory.specs.Roads.{Alike, share_alike, onward_alike}
 use Rattle.theory.specs.RunsLaws.{StudyOk}
 use Rattle.theory.specs.Finer.{times_of, scaled_road, scaled, product_from, count_from, reach_of, thousands_of}
 
-pub length-times : (K : ℕ) (l : List ℕ) → length (times_of K l) ≡ length l
+pub length_times : (K : ℕ) (l : List ℕ) → length (times_of K l) ≡ length l
 unfolding times_of
-length-times K [] = refl
-length-times K (x ∷ l) = ap suc (length-times K l)
+length_times K [] = refl
+length_times K (x ∷ l) = ap suc (length_times K l)
 
-pub times-at : (K : ℕ) (l : List ℕ) (i : ℕ) → at (times_of K l) i ≡ K * at l i
+pub times_at : (K : ℕ) (l : List ℕ) (i : ℕ) → at (times_of K l) i ≡ K * at l i
 unfolding times_of
-times-at K [] i = omega arith
-times-at K (x ∷ l) zero = refl
-times-at K (x ∷ l) (suc i) = times-at K l i
+times_at K [] i = omega arith
+times_at K (x ∷ l) zero = refl
+times_at K (x ∷ l) (suc i) = times_at K l i
 
 -- the roads of a step: q' has q's cells, speeds, waves and shares, and K times its jam counts and gate capacity. Its capacities are K times
 -- q's, except for what closed lanes round down
@@ -48,41 +48,41 @@ pub record FinerRoad (K : ℕ) (q q' : Road) : Type 0 where
   pub most : (i : ℕ) → i < q.n → capacity_at q' i < K * capacity_at q i + K
 
 module _ {K : ℕ} {q q' : Road} (f : FinerRoad K q q') where
-  pub finer-alike : Alike q q'
-  finer-alike = record { n = f.n; share = λ i l. ap (λ (x : List ℕ). at x i) f.share }
+  pub finer_alike : Alike q q'
+  finer_alike = record { n = f.n; share = λ i l. ap (λ (x : List ℕ). at x i) f.share }
 
-  pub finer-speed : (i : ℕ) → at q'.speed i ≡ at q.speed i
-  finer-speed i = ap (λ (x : List ℕ). at x i) f.speed
+  pub finer_speed : (i : ℕ) → at q'.speed i ≡ at q.speed i
+  finer_speed i = ap (λ (x : List ℕ). at x i) f.speed
 
-  pub finer-wave : (i : ℕ) → at q'.wave i ≡ at q.wave i
-  finer-wave i = ap (λ (x : List ℕ). at x i) f.wave
+  pub finer_wave : (i : ℕ) → at q'.wave i ≡ at q.wave i
+  finer_wave i = ap (λ (x : List ℕ). at x i) f.wave
 
-  pub finer-jam : (i : ℕ) → at q'.jam i ≡ K * at q.jam i
-  finer-jam i = ap (λ (x : List ℕ). at x i) f.jam ∙ times-at K q.jam i
+  pub finer_jam : (i : ℕ) → at q'.jam i ≡ K * at q.jam i
+  finer_jam i = ap (λ (x : List ℕ). at x i) f.jam ∙ times_at K q.jam i
 
-  pub finer-onward : (u : State) (p : ℕ) → p ≤ q.n → onward_at q' u p ≡ onward_at q u p
-  finer-onward u p l = onward-alike q q' finer-alike u p l
+  pub finer_onward : (u : State) (p : ℕ) → p ≤ q.n → onward_at q' u p ≡ onward_at q u p
+  finer_onward u p l = onward_alike q q' finer_alike u p l
 
 -- with all lanes open
-pub finer-open : (K : ℕ) (r : Road) → 0 < K → FinerRoad K r (scaled_road K r)
+pub finer_open : (K : ℕ) (r : Road) → 0 < K → FinerRoad K r (scaled_road K r)
 unfolding capacity_at
-finer-open K r k = record {
+finer_open K r k = record {
   n = refl;
   gate = refl;
   speed = refl;
   wave = refl;
   share = refl;
   jam = refl;
-  least = λ i l. omega (arith, times-at K r.capacity i);
-  most = λ i l. omega (arith, times-at K r.capacity i);
+  least = λ i l. omega (arith, times_at K r.capacity i);
+  most = λ i l. omega (arith, times_at K r.capacity i);
 }
 
 -- the quotient of a dividend that is K times as large
-finer-quotient : (K x y : ℕ) → 0 < y → K * (x / y) ≤ K * x / y
-finer-quotient K x y h = (le-div_iff_mul-le {k = y} {x = K * (x / y)} {y = K * x} h).1 (omega (arith, mul-le-mul_left K (mul-div-le x y)))
+finer_quotient : (K x y : ℕ) → 0 < y → K * (x / y) ≤ K * x / y
+finer_quotient K x y h = (le-div_iff_mul-le {k = y} {x = K * (x / y)} {y = K * x} h).1 (omega (arith, mul-le-mul_left K (mul-div-le x y)))
 
-finer-quotient-most : (K x y : ℕ) → 0 < K → 0 < y → K * x / y < K * (x / y) + K
-finer-quotient-most K x y k h =
+finer_quotient_most : (K x y : ℕ) → 0 < K → 0 < y → K * x / y < K * (x / y) + K
+finer_quotient_most K x y k h =
     (div-lt_iff_lt-mul {k = y} {x = K * x} {y = K * (x / y) + K} h).1 (omega (arith, mul-le-mul_left K (lt-mul-div-succ x h), k))
 
 -- the greatest K for which a finer study's capacities under closed lanes stay within 32 bits
@@ -102,33 +102,33 @@ module _ (K c built usable : ℕ) (k : 0 < K) (m : K ≤ most_finer) (l : open_c
       let small : min (c * ones usable / suc b) most_number ≤ most_rate = rw e at l in
       let within : c * ones usable / suc b ≤ most_rate = omega arith in
       let i : min (c * ones usable / suc b) most_number ≡ c * ones usable / suc b = omega arith in
-      let low : K * (c * ones usable / suc b) ≤ K * (c * ones usable) / suc b = finer-quotient K (c * ones usable) (suc b) (omega arith) in
-      let high : K * (c * ones usable) / suc b < K * (c * ones usable / suc b) + K = finer-quotient-most K (c * ones usable) (suc b) k (omega arith) in
+      let low : K * (c * ones usable / suc b) ≤ K * (c * ones usable) / suc b = finer_quotient K (c * ones usable) (suc b) (omega arith) in
+      let high : K * (c * ones usable) / suc b < K * (c * ones usable / suc b) + K = finer_quotient_most K (c * ones usable) (suc b) k (omega arith) in
       let top : K * (c * ones usable / suc b) + K ≤ most_number = omega (arith, mul-le-mul m within) in
       rw (same, i) (omega arith, omega arith)
 
-  pub closed-capacity : (K * open_capacity c built usable ≤ open_capacity (K * c) built usable)
+  pub closed_capacity : (K * open_capacity c built usable ≤ open_capacity (K * c) built usable)
       × (open_capacity (K * c) built usable < K * open_capacity c built usable + K)
   unfolding open_capacity
-  closed-capacity = quotients (ones built) refl
+  closed_capacity = quotients (ones built) refl
 
 -- with closed lanes
-pub finer-closed : (K : ℕ) (r : Road) (built usable : List ℕ) → 0 < K → K ≤ most_finer → r.n ≤ length r.capacity
+pub finer_closed : (K : ℕ) (r : Road) (built usable : List ℕ) → 0 < K → K ≤ most_finer → r.n ≤ length r.capacity
     → RoadOk (open_road r built usable) → FinerRoad K (open_road r built usable) (open_road (scaled_road K r) built usable)
 unfolding capacity_at
-finer-closed K r built usable k m sized ok =
+finer_closed K r built usable k m sized ok =
     let there : (i : ℕ) → i < r.n → at (open_road r built usable).capacity i ≡ open_capacity (at r.capacity i) (at built i) (at usable i) =
-    λ i l. fill-at (λ j. open_capacity (at r.capacity j) (at built j) (at usable j)) r.n r.capacity i l sized in
+    λ i l. fill_at (λ j. open_capacity (at r.capacity j) (at built j) (at usable j)) r.n r.capacity i l sized in
     let finer : (i : ℕ) → i < r.n
     → at (open_road (scaled_road K r) built usable).capacity i ≡ open_capacity (K * at r.capacity i) (at built i) (at usable i) =
     λ i l.
-    fill-at (λ j. open_capacity (at (times_of K r.capacity) j) (at built j) (at usable j)) r.n (times_of K r.capacity) i l
-    (omega (arith, length-times K r.capacity))
-    ∙ ap (λ (x : ℕ). open_capacity x (at built i) (at usable i)) (times-at K r.capacity i) in
+    fill_at (λ j. open_capacity (at (times_of K r.capacity) j) (at built j) (at usable j)) r.n (times_of K r.capacity) i l
+    (omega (arith, length_times K r.capacity))
+    ∙ ap (λ (x : ℕ). open_capacity x (at built i) (at usable i)) (times_at K r.capacity i) in
     let both : (i : ℕ) → i < r.n
     → (K * open_capacity (at r.capacity i) (at built i) (at usable i) ≤ open_capacity (K * at r.capacity i) (at built i) (at usable i))
     × (open_capacity (K * at r.capacity i) (at built i) (at usable i) < K * open_capacity (at r.capacity i) (at built i) (at usable i) + K) =
-    λ i l. closed-capacity K (at r.capacity i) (at built i) (at usable i) k m (omega (arith, ok.capacity i l, there i l)) in
+    λ i l. closed_capacity K (at r.capacity i) (at built i) (at usable i) k m (omega (arith, ok.capacity i l, there i l)) in
     record {
       n = refl;
       gate = refl;
@@ -141,39 +141,39 @@ finer-closed K r built usable k m sized ok =
     }
 
 -- the roads of every step of a study and of the finer study, with all lanes open
-pub roads-open : (K : ℕ) (a : Study) → 0 < K → length a.lanes ≡ 0 → (j : ℕ) → FinerRoad K (road_at a j) (road_at (scaled K a) j)
+pub roads_open : (K : ℕ) (a : Study) → 0 < K → length a.lanes ≡ 0 → (j : ℕ) → FinerRoad K (road_at a j) (road_at (scaled K a) j)
 unfolding road_at
-roads-open K a k e j = rw (eq-eqb (length a.lanes) 0 e) (finer-open K a.road k)
+roads_open K a k e j = rw (eq-eqb (length a.lanes) 0 e) (finer_open K a.road k)
 
 -- the same with any table of lanes, for K up to 4,294
-pub roads-closed : (K : ℕ) (a : Study) → 0 < K → K ≤ most_finer → a.road.n ≤ length a.road.capacity → StudyOk a
+pub roads_closed : (K : ℕ) (a : Study) → 0 < K → K ≤ most_finer → a.road.n ≤ length a.road.capacity → StudyOk a
     → (j : ℕ) → FinerRoad K (road_at a j) (road_at (scaled K a) j)
 unfolding road_at
-roads-closed K a k m sized ok j = go (eqb (length a.lanes) 0) (ok.roads j).ok
+roads_closed K a k m sized ok j = go (eqb (length a.lanes) 0) (ok.roads j).ok
   where
     go : (t : Bool)
         → RoadOk (cond t a.road (open_road a.road (built_in a.lanes a.road.n) (open_in a.lanes a.road.n j)))
         → FinerRoad K (cond t a.road (open_road a.road (built_in a.lanes a.road.n) (open_in a.lanes a.road.n j)))
         (cond t (scaled_road K a.road) (open_road (scaled_road K a.road) (built_in a.lanes a.road.n) (open_in a.lanes a.road.n j)))
-    go true h = finer-open K a.road k
-    go false h = finer-closed K a.road (built_in a.lanes a.road.n) (open_in a.lanes a.road.n j) k m sized h
+    go true h = finer_open K a.road k
+    go false h = finer_closed K a.road (built_in a.lanes a.road.n) (open_in a.lanes a.road.n j) k m sized h
 
 -- the shares from a place on
 module _ (b : ℕ → ℕ) where
-  product-stop : (p m : ℕ) → b p ≡ 0 → (product_from b p m ≡ 1) × (count_from b p m ≡ 0)
+  product_stop : (p m : ℕ) → b p ≡ 0 → (product_from b p m ≡ 1) × (count_from b p m ≡ 0)
   unfolding product_from count_from
-  product-stop p zero e = (refl, refl)
-  product-stop p (suc m) e = rw (eq-eqb (b p) 0 e) (refl, refl)
+  product_stop p zero e = (refl, refl)
+  product_stop p (suc m) e = rw (eq-eqb (b p) 0 e) (refl, refl)
 
-  product-on : (p m : ℕ) → (b p ≡ 0 → ⊥)
+  product_on : (p m : ℕ) → (b p ≡ 0 → ⊥)
       → (product_from b p (suc m) ≡ b p * product_from b (suc p) m) × (count_from b p (suc m) ≡ suc (count_from b (suc p) m))
   unfolding product_from count_from
-  product-on p m h = rw (ne_eqb (b p) 0 h) (refl, refl)
+  product_on p m h = rw (ne_eqb (b p) 0 h) (refl, refl)
 
-  product-pos : (p m : ℕ) → 0 < product_from b p m
+  product_pos : (p m : ℕ) → 0 < product_from b p m
   unfolding product_from
-  product-pos p zero = omega arith
-  product-pos p (suc m) = go (eqb (b p) 0) refl (product-pos (suc p) m)
+  product_pos p zero = omega arith
+  product_pos p (suc m) = go (eqb (b p) 0) refl (product_pos (suc p) m)
     where
       go : (t : Bool) → eqb (b p) 0 ≡ t → 0 < product_from b (suc p) m → 0 < cond t 1 (b p * product_from b (suc p) m)
       go true e rest = omega arith
@@ -194,45 +194,45 @@ module _ (b : ℕ → ℕ) where
       go false first rest = omega (arith, mul-le-mul first rest, pow-succ' whole (count_from b (suc p) m))
 
 module _ (r : Road) where
-  pub reach-stop : (p : ℕ) → share_at r p ≡ 0 → (reach_of r p ≡ 1) × (thousands_of r p ≡ 1)
+  pub reach_stop : (p : ℕ) → share_at r p ≡ 0 → (reach_of r p ≡ 1) × (thousands_of r p ≡ 1)
   unfolding reach_of thousands_of
-  reach-stop p e =
-      let h = product-stop (share_at r) p (r.n - p) e in
+  reach_stop p e =
+      let h = product_stop (share_at r) p (r.n - p) e in
       (h.0, ap (λ (m : ℕ). whole ^ m) h.1)
 
-  pub reach-on : (p : ℕ) → p < r.n → (share_at r p ≡ 0 → ⊥)
+  pub reach_on : (p : ℕ) → p < r.n → (share_at r p ≡ 0 → ⊥)
       → (reach_of r p ≡ share_at r p * reach_of r (suc p)) × (thousands_of r p ≡ whole * thousands_of r (suc p))
   unfolding reach_of thousands_of
-  reach-on p l some =
+  reach_on p l some =
       let e : r.n - p ≡ suc (r.n - suc p) = omega arith in
-      let h = product-on (share_at r) p (r.n - suc p) some in (
+      let h = product_on (share_at r) p (r.n - suc p) some in (
         ap (product_from (share_at r) p) e ∙ h.0,
         ap (λ (m : ℕ). whole ^ count_from (share_at r) p m) e ∙ ap (λ (m : ℕ). whole ^ m) h.1
             ∙ pow-succ' whole (count_from (share_at r) (suc p) (r.n - suc p)),
       )
 
-  pub reach-pos : (p : ℕ) → 0 < reach_of r p
+  pub reach_pos : (p : ℕ) → 0 < reach_of r p
   unfolding reach_of
-  reach-pos p = product-pos (share_at r) p (r.n - p)
+  reach_pos p = product_pos (share_at r) p (r.n - p)
 
-  pub reach-le : RoadOk r → (p : ℕ) → p ≤ r.n → reach_of r p ≤ thousands_of r p
+  pub reach_le : RoadOk r → (p : ℕ) → p ≤ r.n → reach_of r p ≤ thousands_of r p
   unfolding reach_of thousands_of
-  reach-le ok p l = product_le (share_at r) p (r.n - p) (λ i m. share-le r ok (p + i) (omega arith))
+  reach_le ok p l = product_le (share_at r) p (r.n - p) (λ i m. share_le r ok (p + i) (omega arith))
 
 -- roads with the same cells and shares
 module _ (a b : Road) (h : Alike a b) where
-  product-same : (p m : ℕ) → p + m ≤ a.n
+  product_same : (p m : ℕ) → p + m ≤ a.n
       → (product_from (share_at b) p m ≡ product_from (share_at a) p m) × (count_from (share_at b) p m ≡ count_from (share_at a) p m)
   unfolding product_from count_from
-  product-same p zero l = (refl, refl)
-  product-same p (suc m) l =
-      let rest = product-same (suc p) m (omega arith) in
-      (rw (share-alike a b h p (omega arith), rest.0), rw (share-alike a b h p (omega arith), rest.1))
+  product_same p zero l = (refl, refl)
+  product_same p (suc m) l =
+      let rest = product_same (suc p) m (omega arith) in
+      (rw (share_alike a b h p (omega arith), rest.0), rw (share_alike a b h p (omega arith), rest.1))
 
-  pub reach-alike : (p : ℕ) → p ≤ a.n → (reach_of b p ≡ reach_of a p) × (thousands_of b p ≡ thousands_of a p)
+  pub reach_alike : (p : ℕ) → p ≤ a.n → (reach_of b p ≡ reach_of a p) × (thousands_of b p ≡ thousands_of a p)
   unfolding reach_of thousands_of
-  reach-alike p l =
-      let same = product-same p (a.n - p) (omega arith) in (
+  reach_alike p l =
+      let same = product_same p (a.n - p) (omega arith) in (
         ap (λ (n : ℕ). product_from (share_at b) p (n - p)) h.n ∙ same.0,
         ap (λ (n : ℕ). whole ^ count_from (share_at b) p (n - p)) h.n ∙ ap (λ (m : ℕ). whole ^ m) same.1,
       )

@@ -4,8 +4,8 @@ use Rattle.std.proofs.Math.Path.{ap}
 use Rattle.std.proofs.Common.{◌∙◌}
 use Rattle.model.specs.Refusals.{fault}
 use Rattle.model.specs.Numbers.{at, unless, first_of}
-use Rattle.numbers.specs.FirstLaws.{first-same}
-use Rattle.numbers.specs.RowsLaws.{fill-same}
+use Rattle.numbers.specs.FirstLaws.{first_same}
+use Rattle.numbers.specs.RowsLaws.{fill_same}
 use Rattle.model.specs.Lanes.{open_capacity, lanes_at}
 use Rattle.model.specs.declared.Road.{Road}
 use Rattle.model.specs.declared.State.{State}
@@ -19,14 +19,14 @@ pub record SameTo (n : ℕ) (lanes other : List ℕ) : Type 0 where
 
 module _ (r : Road) {built built' usable usable' : List ℕ} (b : SameTo r.n built built') (u : SameTo r.n usable usable') where
   -- 18 names the same cell
-  pub fault-unread : first_of (lanes_at built usable) r.n ≡ first_of (lanes_at built' usable') r.n
-  fault-unread = first-same (lanes_at built usable) (lanes_at built' usable') r.n (λ i l. rw (b.cell i l, u.cell i l))
+  pub fault_unread : first_of (lanes_at built usable) r.n ≡ first_of (lanes_at built' usable') r.n
+  fault_unread = first_same (lanes_at built usable) (lanes_at built' usable') r.n (λ i l. rw (b.cell i l, u.cell i l))
 
   -- the road of the step is the same
-  pub road-unread : open_road r built usable ≡ open_road r built' usable'
-  road-unread =
+  pub road_unread : open_road r built usable ≡ open_road r built' usable'
+  road_unread =
       ap (with_capacity r)
-      (fill-same (λ i. open_capacity (at r.capacity i) (at built i) (at usable i)) (λ i. open_capacity (at r.capacity i) (at built' i) (at usable' i))
+      (fill_same (λ i. open_capacity (at r.capacity i) (at built i) (at usable i)) (λ i. open_capacity (at r.capacity i) (at built' i) (at usable' i))
       r.n r.capacity (λ i l. rw (b.cell i l, u.cell i l)))
 
   -- a step, from the lowest cell that 18 could name and from the step's road
@@ -34,7 +34,7 @@ module _ (r : Road) {built built' usable usable' : List ℕ} (b : SameTo r.n bui
   by s row p q = unless (input_ok r s row) (answer (fault 7 0) s) (unless (eqb p r.n) (answer (fault 18 (p + 1)) s) (step_on q s row))
 
   -- the answer is the same
-  pub lanes-unread : (s : State) (row : List ℕ) → stepping_of r s row built usable ≡ stepping_of r s row built' usable'
+  pub lanes_unread : (s : State) (row : List ℕ) → stepping_of r s row built usable ≡ stepping_of r s row built' usable'
   unfolding stepping_of
-  lanes-unread s row =
-      ap (λ (p : ℕ). by s row p (open_road r built usable)) fault-unread ∙ ap (by s row (first_of (lanes_at built' usable') r.n)) road-unread
+  lanes_unread s row =
+      ap (λ (p : ℕ). by s row p (open_road r built usable)) fault_unread ∙ ap (by s row (first_of (lanes_at built' usable') r.n)) road_unread

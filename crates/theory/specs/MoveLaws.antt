@@ -4,8 +4,8 @@ use Rattle.std.proofs.Math.Path.{refl}
 use Rattle.std.proofs.Common.{◌∙◌, arith}
 use Prim.Native.Nat.{ℕ, zero, suc, ◌+◌, ◌-◌, ◌≤◌, ◌<◌}
 use Rattle.std.proofs.Math.Numerals.{add-one}
-use Rattle.flow.specs.FlowLaws.{onward-entering}
-use Rattle.numbers.specs.RowsLaws.{fill_more, fill-at, fill-past, length-fill}
+use Rattle.flow.specs.FlowLaws.{onward_entering}
+use Rattle.numbers.specs.RowsLaws.{fill_more, fill_at, fill_past, length_fill}
 use Rattle.model.specs.declared.Road.{Road}
 use Rattle.model.specs.declared.State.{State}
 use Rattle.model.specs.Numbers.{at}
@@ -16,79 +16,79 @@ use Rattle.model.specs.Move.{held_of, queue_of, cumulative_of, moved_to, held_su
 
 module _ (r : Road) (s : State) (row y : List ℕ) where
   -- steps done grow by one
-  pub next-done : (next_of r s row y).done ≡ s.done + 1
+  pub next_done : (next_of r s row y).done ≡ s.done + 1
   unfolding counted_of moved_to
-  next-done = refl
+  next_done = refl
 
   -- each time grows by its part of present after the step
-  pub next-gate-time : (next_of r s row y).gate_time ≡ s.gate_time + (next_of r s row y).gate_queue
+  pub next_gate_time : (next_of r s row y).gate_time ≡ s.gate_time + (next_of r s row y).gate_queue
   unfolding counted_of moved_to
-  next-gate-time = refl
+  next_gate_time = refl
 
-  pub next-road-time : (next_of r s row y).road_time ≡ s.road_time + held_sum r (next_of r s row y)
+  pub next_road_time : (next_of r s row y).road_time ≡ s.road_time + held_sum r (next_of r s row y)
   unfolding counted_of moved_to
-  next-road-time = refl
+  next_road_time = refl
 
-  pub next-ramp-time : (next_of r s row y).ramp_time ≡ s.ramp_time + queue_sum r (next_of r s row y)
+  pub next_ramp_time : (next_of r s row y).ramp_time ≡ s.ramp_time + queue_sum r (next_of r s row y)
   unfolding counted_of moved_to
-  next-ramp-time = refl
+  next_ramp_time = refl
 
   -- so the total grows by present
-  pub next-total : total_of (next_of r s row y) ≡ total_of s + present_of r (next_of r s row y)
-  next-total = omega (arith, next-gate-time, next-road-time, next-ramp-time)
+  pub next_total : total_of (next_of r s row y) ≡ total_of s + present_of r (next_of r s row y)
+  next_total = omega (arith, next_gate_time, next_road_time, next_ramp_time)
 
   -- the gate's queue becomes queue + arrivals − outflow
-  pub next-gate-queue : (next_of r s row y).gate_queue ≡ s.gate_queue + gate_arrivals row - at y 0
+  pub next_gate_queue : (next_of r s row y).gate_queue ≡ s.gate_queue + gate_arrivals row - at y 0
   unfolding counted_of moved_to
-  next-gate-queue = refl
+  next_gate_queue = refl
 
   -- entries past cell n are unchanged
-  pub next-held-past : (i : ℕ) → r.n ≤ i → at (next_of r s row y).held i ≡ at s.held i
+  pub next_held_past : (i : ℕ) → r.n ≤ i → at (next_of r s row y).held i ≡ at s.held i
   unfolding counted_of moved_to
-  next-held-past i l = fill-past (held_of r s row y) r.n s.held i l
+  next_held_past i l = fill_past (held_of r s row y) r.n s.held i l
 
-  pub next-queue-past : (i : ℕ) → r.n ≤ i → at (next_of r s row y).queue i ≡ at s.queue i
+  pub next_queue_past : (i : ℕ) → r.n ≤ i → at (next_of r s row y).queue i ≡ at s.queue i
   unfolding counted_of moved_to
-  next-queue-past i l = fill-past (queue_of s row) r.n s.queue i l
+  next_queue_past i l = fill_past (queue_of s row) r.n s.queue i l
 
-  pub next-cumulative-past : (i : ℕ) → r.n ≤ i → at (next_of r s row y).cumulative i ≡ at s.cumulative i
+  pub next_cumulative_past : (i : ℕ) → r.n ≤ i → at (next_of r s row y).cumulative i ≡ at s.cumulative i
   unfolding counted_of moved_to
-  next-cumulative-past i l = fill-past (cumulative_of s y) r.n s.cumulative i l
+  next_cumulative_past i l = fill_past (cumulative_of s y) r.n s.cumulative i l
 
   module _ (z : Sized r s) where
     -- held becomes held + entering + release − outflow
-    pub next-held : (i : ℕ) → i < r.n
+    pub next_held : (i : ℕ) → i < r.n
         → at (next_of r s row y).held i ≡ at s.held i + entering_at r s y i + release_at row i - at y (suc i)
     unfolding counted_of moved_to
-    next-held i l = fill-at (held_of r s row y) r.n s.held i l z.held ∙ rw add-one
+    next_held i l = fill_at (held_of r s row y) r.n s.held i l z.held ∙ rw add-one
 
     -- a ramp's queue becomes queue + arrivals − release
-    pub next-queue : (i : ℕ) → i < r.n → at (next_of r s row y).queue i ≡ at s.queue i + arrivals_at row i - release_at row i
+    pub next_queue : (i : ℕ) → i < r.n → at (next_of r s row y).queue i ≡ at s.queue i + arrivals_at row i - release_at row i
     unfolding counted_of moved_to
-    next-queue i l = fill-at (queue_of s row) r.n s.queue i l z.queue
+    next_queue i l = fill_at (queue_of s row) r.n s.queue i l z.queue
 
     -- F of a place grows by its outflow
-    pub next-cumulative : (p : ℕ) → p ≤ r.n → cumulative_at (next_of r s row y) p ≡ cumulative_at s p + at y p
+    pub next_cumulative : (p : ℕ) → p ≤ r.n → cumulative_at (next_of r s row y) p ≡ cumulative_at s p + at y p
     unfolding cumulative_at counted_of moved_to
-    next-cumulative zero l = refl
-    next-cumulative (suc i) l = fill-at (cumulative_of s y) r.n s.cumulative i (omega arith) z.cumulative ∙ rw add-one
+    next_cumulative zero l = refl
+    next_cumulative (suc i) l = fill_at (cumulative_of s y) r.n s.cumulative i (omega arith) z.cumulative ∙ rw add-one
 
     -- the onward total of a place grows by what enters the next cell
-    pub next-onward : (p : ℕ) → p ≤ r.n → onward_at r (next_of r s row y) p ≡ onward_at r s p + entering_at r s y p
-    next-onward p l = rw (next-cumulative p l) (onward-entering (share_at r p) (cumulative_at s p) (at y p))
+    pub next_onward : (p : ℕ) → p ≤ r.n → onward_at r (next_of r s row y) p ≡ onward_at r s p + entering_at r s y p
+    next_onward p l = rw (next_cumulative p l) (onward_entering (share_at r p) (cumulative_at s p) (at y p))
 
-    pub next-sized : Sized r (next_of r s row y)
+    pub next_sized : Sized r (next_of r s row y)
     unfolding counted_of moved_to
-    next-sized = record {
-      held = omega (arith, length-fill (held_of r s row y) r.n s.held, z.held);
-      queue = omega (arith, length-fill (queue_of s row) r.n s.queue, z.queue);
-      cumulative = omega (arith, length-fill (cumulative_of s y) r.n s.cumulative, z.cumulative);
+    next_sized = record {
+      held = omega (arith, length_fill (held_of r s row y) r.n s.held, z.held);
+      queue = omega (arith, length_fill (queue_of s row) r.n s.queue, z.queue);
+      cumulative = omega (arith, length_fill (cumulative_of s y) r.n s.cumulative, z.cumulative);
     }
 
 -- counting a step does not change present
-pub counted-present : (r : Road) (s : State) → present_of r (counted_of r s) ≡ present_of r s
+pub counted_present : (r : Road) (s : State) → present_of r (counted_of r s) ≡ present_of r s
 unfolding counted_of
-counted-present r s = refl
+counted_present r s = refl
 
 -- counting a step, with the parts of present given by equations
 pub counted_is : (r : Road) (s : State) {gate held queues : ℕ} → gate ≡ s.gate_queue → held ≡ held_sum r s → queues ≡ queue_sum r s

@@ -36,14 +36,14 @@ pub record ComparedRoads (r a b : Road) : Type 0 where
 pub alike_self : (r : Road) → Alike r r
 alike_self r = record { n = refl; share = λ i l. refl }
 
-pub alike-back : (a b : Road) → Alike a b → Alike b a
-alike-back a b h = record { n = sym h.n; share = λ i l. sym (h.share i (omega (arith, h.n))) }
+pub alike_back : (a b : Road) → Alike a b → Alike b a
+alike_back a b h = record { n = sym h.n; share = λ i l. sym (h.share i (omega (arith, h.n))) }
 
 pub alike_then : (a b c : Road) → Alike a b → Alike b c → Alike a c
 alike_then a b c h k = record { n = k.n ∙ h.n; share = λ i l. k.share i (omega (arith, h.n)) ∙ h.share i l }
 
-pub wider-self : (r : Road) → Wider r r
-wider-self r = record {
+pub wider_self : (r : Road) → Wider r r
+wider_self r = record {
   alike = alike_self r;
   gate = le_refl r.gate_capacity;
   speed = λ i l. le_refl (at r.speed i);
@@ -53,8 +53,8 @@ wider-self r = record {
 }
 
 -- the same road on both sides
-pub compared-self : (r : Road) → RoadOk r → ComparedRoads r r r
-compared-self r ok = record { alike = alike_self r; wider = wider-self r; rival = ok; engine = ok }
+pub compared_self : (r : Road) → RoadOk r → ComparedRoads r r r
+compared_self r ok = record { alike = alike_self r; wider = wider_self r; rival = ok; engine = ok }
 
 -- the road of a step: the road r with other capacities, within the limits
 pub record StepRoad (r q : Road) : Type 0 where
@@ -64,16 +64,16 @@ pub record StepRoad (r q : Road) : Type 0 where
   pub jam : q.jam ≡ r.jam
   pub ok : RoadOk q
 
-pub step-road-self : (r : Road) → RoadOk r → StepRoad r r
-step-road-self r ok = record { n = refl; share = refl; ramp = refl; jam = refl; ok = ok }
+pub step_road_self : (r : Road) → RoadOk r → StepRoad r r
+step_road_self r ok = record { n = refl; share = refl; ramp = refl; jam = refl; ok = ok }
 
 module _ {r q : Road} (h : StepRoad r q) where
-  pub step-alike : Alike r q
-  step-alike = record { n = h.n; share = λ i l. ap (λ (x : List ℕ). at x i) h.share }
+  pub step_alike : Alike r q
+  step_alike = record { n = h.n; share = λ i l. ap (λ (x : List ℕ). at x i) h.share }
 
   -- other capacities change no limit of a state or a row
-  pub step-state : (s : State) → StateOk r s → StateOk q s
-  step-state s k = record {
+  pub step_state : (s : State) → StateOk r s → StateOk q s
+  step_state s k = record {
     done = k.done;
     total = k.total;
     gate_queue = k.gate_queue;
@@ -84,8 +84,8 @@ module _ {r q : Road} (h : StepRoad r q) where
     cumulative = λ i l. k.cumulative i (omega (arith, h.n));
   }
 
-  pub state-back : (s : State) → StateOk q s → StateOk r s
-  state-back s k = record {
+  pub state_back : (s : State) → StateOk q s → StateOk r s
+  state_back s k = record {
     done = k.done;
     total = k.total;
     gate_queue = k.gate_queue;
@@ -118,25 +118,25 @@ module _ {r q : Road} (h : StepRoad r q) where
 
 -- what agrees on roads with the same cells and shares
 module _ (a b : Road) (h : Alike a b) where
-  pub share-alike : (p : ℕ) → p ≤ a.n → share_at b p ≡ share_at a p
+  pub share_alike : (p : ℕ) → p ≤ a.n → share_at b p ≡ share_at a p
   unfolding share_at
-  share-alike zero l = refl
-  share-alike (suc i) l = h.share i l
+  share_alike zero l = refl
+  share_alike (suc i) l = h.share i l
 
-  pub onward-alike : (s : State) (p : ℕ) → p ≤ a.n → onward_at b s p ≡ onward_at a s p
-  onward-alike s p l = ap (λ (x : ℕ). onward_of x (cumulative_at s p)) (share-alike p l)
+  pub onward_alike : (s : State) (p : ℕ) → p ≤ a.n → onward_at b s p ≡ onward_at a s p
+  onward_alike s p l = ap (λ (x : ℕ). onward_of x (cumulative_at s p)) (share_alike p l)
 
-  pub held-alike : (s : State) → held_sum b s ≡ held_sum a s
-  held-alike s = ap (λ (n : ℕ). sum_of (take n s.held)) h.n
+  pub held_alike : (s : State) → held_sum b s ≡ held_sum a s
+  held_alike s = ap (λ (n : ℕ). sum_of (take n s.held)) h.n
 
-  pub queue-alike : (s : State) → queue_sum b s ≡ queue_sum a s
-  queue-alike s = ap (λ (n : ℕ). sum_of (take n s.queue)) h.n
+  pub queue_alike : (s : State) → queue_sum b s ≡ queue_sum a s
+  queue_alike s = ap (λ (n : ℕ). sum_of (take n s.queue)) h.n
 
-  pub present-alike : (s : State) → present_of b s ≡ present_of a s
-  present-alike s = omega (arith, held-alike s, queue-alike s)
+  pub present_alike : (s : State) → present_of b s ≡ present_of a s
+  present_alike s = omega (arith, held_alike s, queue_alike s)
 
-  pub sized-alike : (s : State) → Sized a s → Sized b s
-  sized-alike s z = record {
+  pub sized_alike : (s : State) → Sized a s → Sized b s
+  sized_alike s z = record {
     held = omega (arith, h.n, z.held);
     queue = omega (arith, h.n, z.queue);
     cumulative = omega (arith, h.n, z.cumulative);

@@ -90,14 +90,14 @@ corridor K n (suc i) = onward_of 999 (corridor K n i)
 
 -- cell 6 after 13 steps, counted 1,000 times finer, is within 2 × 13 parts of the study's number. If each step's share were rounded by itself,
 -- nothing of the 4 parts per step would reach it
-pub corridor-within : leb (corridor 1000 7 5) (1000 * corridor 1 7 5 + 2 * 13 * 1000) ≡ true
+pub corridor_within : leb (corridor 1000 7 5) (1000 * corridor 1 7 5 + 2 * 13 * 1000) ≡ true
 unfolding corridor onward_of thousandths_of
-corridor-within = refl
+corridor_within = refl
 
 -- they differ by more than 2 parts, so the bound must grow with the steps
-pub corridor-beyond : leb (corridor 1000 7 5) (1000 * corridor 1 7 5 + 2 * 1000) ≡ false
+pub corridor_beyond : leb (corridor 1000 7 5) (1000 * corridor 1 7 5 + 2 * 1000) ≡ false
 unfolding corridor onward_of thousandths_of
-corridor-beyond = refl
+corridor_beyond = refl
 
 -- the engine's run of such a corridor of three cells has these numbers
 abbrev free : Study
@@ -127,11 +127,11 @@ free = study
     })
     5 (λ k. 0 ∷ 0 ∷ 0 ∷ 0 ∷ 0 ∷ 0 ∷ 0 ∷ []) []
 
-pub corridor-runs : (at (engine_after free 5).cumulative 0 ≡ corridor 1 4 0)
+pub corridor_runs : (at (engine_after free 5).cumulative 0 ≡ corridor 1 4 0)
     × ((at (engine_after free 5).cumulative 1 ≡ corridor 1 3 1) × (at (engine_after free 5).cumulative 2 ≡ corridor 1 2 2))
 unfolding corridor thousandths_of demand_of gate_demand_of supply_of room_of onward_of entering_of greatest_of outflow_of sum_of fill_of list_of
     capacity_at demand_at share_at cumulative_at moved_to counted_of outflows_of road_at engine_after
-corridor-runs = (refl, (refl, refl))
+corridor_runs = (refl, (refl, refl))
 
 -- step 0 of the printed run: 934 parts leave cell 1; counted ten times finer it is 9,334, which is 0.6 parts less
 pub first_step_lem : (at (engine_after printed 1).cumulative 0 ≡ 934) × (at (engine_after (scaled 10 printed) 1).cumulative 0 ≡ 9334)

@@ -2,11 +2,11 @@
 use Rattle.std.specs.Prelude.{◌≡◌, refl, Bool, true, false, List, ℕ, ◌≤◌, ◌<◌, eqb}
 use Rattle.std.proofs.Common.{◌∙◌, arith, eq-eqb, ne_eqb}
 use Rattle.model.specs.Numbers.{at}
-use Rattle.numbers.specs.RowsLaws.{fill-at, fill-past}
+use Rattle.numbers.specs.RowsLaws.{fill_at, fill_past}
 use Rattle.model.specs.declared.Road.{Road}
 use Rattle.model.specs.declared.State.{State}
 use Rattle.model.specs.Road.{most_cells, zeros}
-use Rattle.numbers.specs.Zeros.{length-zeros, zeros-at}
+use Rattle.numbers.specs.Zeros.{length_zeros, zeros_at}
 use Rattle.model.specs.Record.{second_version}
 use Rattle.model.specs.Reading.{seconds_ok}
 use Rattle.limits.specs.LimitsLaws.{RoadOk, StateOk, RowOk}
@@ -14,28 +14,28 @@ use Rattle.model.specs.Writing.{cut_of, kept_seconds, cut_road, cut_state}
 
 -- the same values up to cell n and 0 past it
 pub cut_at : (n : ℕ) (l : List ℕ) → n ≤ most_cells → (i : ℕ) → i < n → at (cut_of n l) i ≡ at l i
-cut_at n l h i k = fill-at (λ j. at l j) n zeros i k (omega (arith, length-zeros))
+cut_at n l h i k = fill_at (λ j. at l j) n zeros i k (omega (arith, length_zeros))
 
-pub cut-past : (n : ℕ) (l : List ℕ) (i : ℕ) → n ≤ i → at (cut_of n l) i ≡ 0
-cut-past n l i h = fill-past (λ j. at l j) n zeros i h ∙ zeros-at i
+pub cut_past : (n : ℕ) (l : List ℕ) (i : ℕ) → n ≤ i → at (cut_of n l) i ≡ 0
+cut_past n l i h = fill_past (λ j. at l j) n zeros i h ∙ zeros_at i
 
 -- version 2 keeps its seconds, other versions have none, and the seconds kept are within the limit of those given
 pub kept_second : (version seconds : ℕ) → version ≡ second_version → kept_seconds version seconds ≡ seconds
 kept_second version seconds e = rw (eq-eqb version second_version e)
 
-pub kept-none : (version seconds : ℕ) → (version ≡ second_version → ⊥) → kept_seconds version seconds ≡ 0
-kept-none version seconds h = rw (ne_eqb version second_version h)
+pub kept_none : (version seconds : ℕ) → (version ≡ second_version → ⊥) → kept_seconds version seconds ≡ 0
+kept_none version seconds h = rw (ne_eqb version second_version h)
 
-pub kept-ok : (version seconds : ℕ) → seconds_ok version (kept_seconds version seconds) ≡ seconds_ok version seconds
-kept-ok version seconds = go (eqb version second_version) refl
+pub kept_ok : (version seconds : ℕ) → seconds_ok version (kept_seconds version seconds) ≡ seconds_ok version seconds
+kept_ok version seconds = go (eqb version second_version) refl
   where
     go : (b : Bool) → eqb version second_version ≡ b → seconds_ok version (kept_seconds version seconds) ≡ seconds_ok version seconds
     go true e = rw e
     go false e = rw e
 
 -- the limits don't depend on entries past cell n
-pub cut-road : (r : Road) → RoadOk r → RoadOk (cut_road r)
-cut-road r ok =
+pub cut_road_lem : (r : Road) → RoadOk r → RoadOk (cut_road r)
+cut_road_lem r ok =
     let m = ok.cells in
     record {
       some = ok.some;
@@ -50,8 +50,8 @@ cut-road r ok =
       capacity = λ i l. rw (cut_at r.n r.capacity m i l) (ok.capacity i l);
     }
 
-pub cut-state : (r : Road) (s : State) → RoadOk r → StateOk r s → StateOk (cut_road r) (cut_state r.n s)
-cut-state r s road ok =
+pub cut_state_lem : (r : Road) (s : State) → RoadOk r → StateOk r s → StateOk (cut_road r) (cut_state r.n s)
+cut_state_lem r s road ok =
     let m = road.cells in
     record {
       done = ok.done;
@@ -64,8 +64,8 @@ cut-state r s road ok =
       cumulative = λ i l. rw (cut_at r.n s.cumulative m i l) (ok.cumulative i l);
     }
 
-pub cut-row : (r : Road) (row : List ℕ) → RoadOk r → RowOk r row → RowOk (cut_road r) row
-cut-row r row road ok =
+pub cut_row : (r : Road) (row : List ℕ) → RoadOk r → RowOk r row → RowOk (cut_road r) row
+cut_row r row road ok =
     let m = road.cells in
     record {
       numbers = ok.numbers;

@@ -3,23 +3,23 @@
 use Rattle.std.specs.Prelude.{◌≡◌, refl, true, List, [], ℕ, ◌+◌, ◌*◌, ◌≤◌, ◌<◌, length, take, drop}
 use Rattle.std.proofs.Common.{sym, ap, ◌∙◌, arith, take_at, drop_at}
 use Rattle.model.specs.Numbers.{at, row_at}
-use Rattle.numbers.specs.FirstLaws.{first-none}
-use Rattle.numbers.specs.TablesLaws.{row-length}
+use Rattle.numbers.specs.FirstLaws.{first_none}
+use Rattle.numbers.specs.TablesLaws.{row_length}
 use Rattle.model.specs.declared.Road.{Road}
 use Rattle.model.specs.declared.Start.{Start}
 use Rattle.model.specs.Road.{start_state, start_in}
 use Rattle.model.specs.Record.{second_version, row_numbers, record_row}
 use Rattle.model.specs.Limits.{place_ok}
-use Rattle.limits.specs.LimitsLaws.{places-road, places-state, place_ok_lem, row-facts, row-ok}
+use Rattle.limits.specs.LimitsLaws.{places_road, places_state, place_ok_lem, row_facts, row_ok_lem}
 use Rattle.model.specs.Reading.{size_of, reading_of, study_of}
 use Rattle.model.specs.Encoding.{record_of, given_study}
-use Rattle.encoding.specs.Encoding.{length-record}
+use Rattle.encoding.specs.Encoding.{length_record}
 use Rattle.model.specs.Writing.{WriteAnswer, written_count, given_ok, writing_of, target_after, cut_road, cut_state, ReadsBack}
-use Rattle.writing.specs.Checks.{answer-written, by-given}
-use Rattle.writing.specs.AcceptedStudy.{AcceptedStudy, given-accepted, refused-count, target-refused, target-written}
-use Rattle.writing.specs.CutLaws.{kept_second, kept-none}
-use Rattle.writing.specs.ReadBack.{Recordable, reads-back, rows-read}
-use Rattle.writing.specs.ReadStudy.{read-size, read-recordable}
+use Rattle.writing.specs.Checks.{answer_written, by_given}
+use Rattle.writing.specs.AcceptedStudy.{AcceptedStudy, given_accepted, refused_count, target_refused, target_written}
+use Rattle.writing.specs.CutLaws.{kept_second, kept_none}
+use Rattle.writing.specs.ReadBack.{Recordable, reads_back, rows_read}
+use Rattle.writing.specs.ReadStudy.{read_size, read_recordable}
 use Rattle.writing.specs.WrittenAgain.{same_bytes}
 
 -- the record's bytes in the target
@@ -31,16 +31,16 @@ recordable : (road : Road) (T : ℕ) (start : Start) (rows : List ℕ) (room : �
     → AcceptedStudy (given_study road T start rows) (length rows) room → Recordable (given_study road T start rows)
 recordable road T start rows room ok =
     let f = ok.frame in
-    let r = places-road road (start_state start) ok.places f.counts.some_cells f.counts.cells in
+    let r = places_road road (start_state start) ok.places f.counts.some_cells f.counts.cells in
     record {
       version = f.version;
       counts = f.counts;
       seconds = f.seconds;
       size = f.size;
       road = r;
-      start = places-state road (start_state start) ok.places (omega arith) (omega arith);
+      start = places_state road (start_state start) ok.places (omega arith) (omega arith);
       row = λ t l.
-          row-facts road (row_at rows (row_numbers road.n) t) (row-length rows (row_numbers road.n) t T l f.all) r.ramp (ok.rows t l);
+          row_facts road (row_at rows (row_numbers road.n) t) (row_length rows (row_numbers road.n) t T l f.all) r.ramp (ok.rows t l);
     }
 
 module _ (road : Road) (T : ℕ) (start : Start) (rows target : List ℕ) where
@@ -52,31 +52,31 @@ module _ (road : Road) (T : ℕ) (start : Start) (rows target : List ℕ) where
     -- bytes beyond the record are unchanged
     pub beyond : drop (size_of road.version road.n T) (target_after road T start rows target) ≡ drop (size_of road.version road.n T) target
 
-  pub saved-record : (writing_of road T start rows target).number ≡ 0 → SavedRecord
-  saved-record h =
-      let ok = given-accepted road T start rows target h in
+  pub saved_record : (writing_of road T start rows target).number ≡ 0 → SavedRecord
+  saved_record h =
+      let ok = given_accepted road T start rows target h in
       let a = given_study road T start rows in
       let within = recordable road T start rows (length target) ok in
       let size : (writing_of road T start rows target).count ≡ size_of road.version road.n T =
-      sym (ap (λ (x : WriteAnswer). x.count) (by-given road T start rows target)) ∙ ap (λ (x : WriteAnswer). x.count) ok.answer in
+      sym (ap (λ (x : WriteAnswer). x.count) (by_given road T start rows target)) ∙ ap (λ (x : WriteAnswer). x.count) ok.answer in
       let bytes : saved_of road T start rows target ≡ record_of (given_study road T start rows) =
-      rw (target-written road T start rows target h)
-      (take_at (record_of a) (drop (size_of road.version road.n T) target) (writing_of road T start rows target).count (length-record a ∙ sym size)) in
+      rw (target_written road T start rows target h)
+      (take_at (record_of a) (drop (size_of road.version road.n T) target) (writing_of road T start rows target).count (length_record a ∙ sym size)) in
       record {
         count = size;
         back = record {
-          reads = ap reading_of bytes ∙ reads-back a within;
-          row = λ t l. ap (λ (s : List ℕ). record_row s road.n t) bytes ∙ rows-read a within t l;
+          reads = ap reading_of bytes ∙ reads_back a within;
+          row = λ t l. ap (λ (s : List ℕ). record_row s road.n t) bytes ∙ rows_read a within t l;
         };
-        beyond = rw (target-written road T start rows target h)
-            (drop_at (record_of a) (drop (size_of road.version road.n T) target) (size_of road.version road.n T) (length-record a));
+        beyond = rw (target_written road T start rows target h)
+            (drop_at (record_of a) (drop (size_of road.version road.n T) target) (size_of road.version road.n T) (length_record a));
       }
 
   -- the same for an answer and a target that equal these
-  pub reads-as-given : {a : WriteAnswer} {after : List ℕ} → a ≡ writing_of road T start rows target → after ≡ target_after road T start rows target
+  pub reads_as_given : {a : WriteAnswer} {after : List ℕ} → a ≡ writing_of road T start rows target → after ≡ target_after road T start rows target
       → a.number ≡ 0 → ReadsBack road T start rows a.count after
-  reads-as-given ea et z =
-      let k = saved-record (ap (λ (x : WriteAnswer). x.number) (sym ea) ∙ z) in
+  reads_as_given ea et z =
+      let k = saved_record (ap (λ (x : WriteAnswer). x.number) (sym ea) ∙ z) in
       rw (ea, et) k.back
 
   -- what writing promises: the answer, the target afterwards, and that it reads back
@@ -86,36 +86,36 @@ module _ (road : Road) (T : ℕ) (start : Start) (rows target : List ℕ) where
       × (a.number ≡ 0 → ReadsBack road T start rows a.count after))
 
   pub promise : {a : WriteAnswer} {after : List ℕ} → a ≡ writing_of road T start rows target → after ≡ target_after road T start rows target → Promise a after
-  promise ea et = (ea, (et, reads-as-given ea et))
+  promise ea et = (ea, (et, reads_as_given ea et))
 
   -- every refusal leaves the target unchanged, and the count is 0
   pub unsaved : ((writing_of road T start rows target).number ≡ 0 → ⊥)
       → (target_after road T start rows target ≡ target) × ((writing_of road T start rows target).count ≡ 0)
   unfolding writing_of
-  unsaved h = (target-refused road T start rows target h, refused-count (given_study road T start rows) (length rows) (length target) h)
+  unsaved h = (target_refused road T start rows target h, refused_count (given_study road T start rows) (length rows) (length target) h)
 
   -- so running and judging a written record under any table of lanes is running and judging what was given: road, start, T and rows are the same
-  pub saved-road : SavedRecord → (lanes : List ℕ) → (study_of (saved_of road T start rows target) lanes).road ≡ cut_road road
-  saved-road k lanes = rw k.back.reads
+  pub saved_road : SavedRecord → (lanes : List ℕ) → (study_of (saved_of road T start rows target) lanes).road ≡ cut_road road
+  saved_road k lanes = rw k.back.reads
 
-  pub saved-start : SavedRecord → (lanes : List ℕ) → (study_of (saved_of road T start rows target) lanes).start ≡ cut_state road.n (start_state start)
-  saved-start k lanes = rw k.back.reads
+  pub saved_start : SavedRecord → (lanes : List ℕ) → (study_of (saved_of road T start rows target) lanes).start ≡ cut_state road.n (start_state start)
+  saved_start k lanes = rw k.back.reads
 
-  pub saved-steps : SavedRecord → (lanes : List ℕ) → (study_of (saved_of road T start rows target) lanes).steps ≡ T
-  saved-steps k lanes = rw k.back.reads
+  pub saved_steps : SavedRecord → (lanes : List ℕ) → (study_of (saved_of road T start rows target) lanes).steps ≡ T
+  saved_steps k lanes = rw k.back.reads
 
   pub saved_rows : SavedRecord → (lanes : List ℕ) (t : ℕ) → t < T → (study_of (saved_of road T start rows target) lanes).rows t ≡ row_at rows (row_numbers road.n) t
   saved_rows k lanes t l = rw k.back.reads (k.back.row t l)
 
   -- the version is kept, and in version 2 the seconds; in version 1 they are 0
-  pub saved-version : SavedRecord → (reading_of (saved_of road T start rows target)).road.version ≡ road.version
-  saved-version k = rw k.back.reads
+  pub saved_version : SavedRecord → (reading_of (saved_of road T start rows target)).road.version ≡ road.version
+  saved_version k = rw k.back.reads
 
-  pub saved-seconds : SavedRecord → road.version ≡ second_version → (reading_of (saved_of road T start rows target)).road.seconds ≡ road.seconds
-  saved-seconds k e = rw k.back.reads (kept_second road.version road.seconds e)
+  pub saved_seconds : SavedRecord → road.version ≡ second_version → (reading_of (saved_of road T start rows target)).road.seconds ≡ road.seconds
+  saved_seconds k e = rw k.back.reads (kept_second road.version road.seconds e)
 
-  pub saved-untimed : SavedRecord → (road.version ≡ second_version → ⊥) → (reading_of (saved_of road T start rows target)).road.seconds ≡ 0
-  saved-untimed k h = rw k.back.reads (kept-none road.version road.seconds h)
+  pub saved_untimed : SavedRecord → (road.version ≡ second_version → ⊥) → (reading_of (saved_of road T start rows target)).road.seconds ≡ 0
+  saved_untimed k h = rw k.back.reads (kept_none road.version road.seconds h)
 
 -- a record that reads without refusal, written again from what reading gave and its rows
 module _ (s : List ℕ) (small : (i : ℕ) → at s i < 256) (reads : (reading_of s).number ≡ 0) (rows target : List ℕ)
@@ -132,15 +132,15 @@ module _ (s : List ℕ) (small : (i : ℕ) → at s i < 256) (reads : (reading_o
   start = start_in (reading_of s).state
 
   -- writing isn't refused, and counts the record's bytes
-  pub again-answer : writing_of (reading_of s).road (reading_of s).steps (start_in (reading_of s).state) rows target ≡ written_count (length s)
-  again-answer =
-      let w = read-recordable s reads [] in
+  pub again_answer : writing_of (reading_of s).road (reading_of s).steps (start_in (reading_of s).state) rows target ≡ written_count (length s)
+  again_answer =
+      let w = read_recordable s reads [] in
       let places : (p : ℕ) → p < road.n + 1 → place_ok road (start_state start) p ≡ true = place_ok_lem road (start_state start) w.road w.start in
       let fits : (t : ℕ) → t < T → given_ok (given_study road T start rows) t ≡ true =
-      λ t l. (rw (same t l) (row-ok road (record_row s road.n t) w.road (w.row t l))) in
-      let size = read-size s reads in
-      sym (by-given road T start rows target)
-      ∙ sym (answer-written (given_study road T start rows) (length rows) (length target)
+      λ t l. (rw (same t l) (row_ok_lem road (record_row s road.n t) w.road (w.row t l))) in
+      let size = read_size s reads in
+      sym (by_given road T start rows target)
+      ∙ sym (answer_written (given_study road T start rows) (length rows) (length target)
       (record {
         version = w.version;
         counts = w.counts;
@@ -148,13 +148,13 @@ module _ (s : List ℕ) (small : (i : ℕ) → at s i < 256) (reads : (reading_o
         size = w.size;
         all = all;
       })
-      (road.n + 1) (sym (first-none (place_ok road (start_state start)) (road.n + 1) places)) refl
-      T (sym (first-none (given_ok (given_study road T start rows)) T fits)) refl (omega (arith, size)))
+      (road.n + 1) (sym (first_none (place_ok road (start_state start)) (road.n + 1) places)) refl
+      T (sym (first_none (given_ok (given_study road T start rows)) T fits)) refl (omega (arith, size)))
       ∙ ap written_count size
 
   -- the target then begins with exactly these bytes
-  pub again-bytes : take (length s) (target_after (reading_of s).road (reading_of s).steps (start_in (reading_of s).state) rows target) ≡ s
-  again-bytes =
-      let h : (writing_of road T start rows target).number ≡ 0 = ap (λ (x : WriteAnswer). x.number) again-answer in
+  pub again_bytes : take (length s) (target_after (reading_of s).road (reading_of s).steps (start_in (reading_of s).state) rows target) ≡ s
+  again_bytes =
+      let h : (writing_of road T start rows target).number ≡ 0 = ap (λ (x : WriteAnswer). x.number) again_answer in
       let e : record_of (given_study road T start rows) ≡ s = same_bytes s small reads (row_at rows (row_numbers road.n)) same in
-      rw (target-written road T start rows target h, e) (take_at s (drop (size_of road.version road.n T) target) (length s) refl)
+      rw (target_written road T start rows target h, e) (take_at s (drop (size_of road.version road.n T) target) (length s) refl)

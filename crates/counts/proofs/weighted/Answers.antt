@@ -2,7 +2,7 @@
 use Rattle.std.proofs.Common.{ap, ◌∙◌, refl, ℕ, rules}
 use Rattle.model.specs.Numbers.{at}
 use Rattle.model.specs.Weights.{weighted_present}
-use Rattle.counts.specs.WeightSums.{weighted-min}
+use Rattle.counts.specs.WeightSums.{weighted_min}
 use Rattle.counts.proofs.weighted.Goals as goal
 
 pub returns : goal.returns
@@ -12,4 +12,4 @@ returns c =
     let u = at a.weights.ramps in
     c.weighted_places.ensures.present a.s (record { at_gate = refl; on_road = refl; at_ramps = refl })
     ∙ ap (λ (n : ℕ). weighted_present w u n a.s) c.cells-n.ensures
-    ∙ weighted-min w u a.r.n a.s (search rules) (search rules)
+    ∙ weighted_min w u a.r.n a.s (search rules) (search rules)

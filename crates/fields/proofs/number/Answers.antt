@@ -1,7 +1,7 @@
--- One more byte makes the next number, by `number_more`; it stays below the bound, by `power-more`, and fits, by `power_small`.
+-- One more byte makes the next number, by `number_more`; it stays below the bound, by `power_more`, and fits, by `power_small`.
 use Rattle.std.proofs.Common.{arith, refl}
 use Rattle.model.specs.Record.{number_of}
-use Rattle.fields.specs.FieldsLaws.{number_more, power-more, power_small}
+use Rattle.fields.specs.FieldsLaws.{number_more, power_more, power_small}
 use Rattle.fields.proofs.number.Goals as goal
 
 pub loop-k-init : goal.loop-k-init
@@ -20,5 +20,5 @@ loop-k-preserved c =
     record {
       within = omega arith;
       value = cc (number_more c.args.bytes.now c.args.i l.k, l.invariant.value, c.wide-byte.ensures.0);
-      bound = power-more l.k l.r c.wide-byte.result l.invariant.bound c.wide-byte.ensures.1;
+      bound = power_more l.k l.r c.wide-byte.result l.invariant.bound c.wide-byte.ensures.1;
     }

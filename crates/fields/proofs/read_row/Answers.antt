@@ -1,9 +1,9 @@
--- The next number is stored, by `fill_more`; at the end the array's first numbers are the row, by `row-taken`.
+-- The next number is stored, by `fill_more`; at the end the array's first numbers are the row, by `row_taken`.
 use Rattle.std.proofs.Common.{arith, refl, ap, ◌≡◌, ◌∙◌, ℕ, ◌+◌, ◌*◌}
 use Rattle.model.specs.Numbers.{fill_of}
 use Rattle.numbers.specs.RowsLaws.{fill_more}
 use Rattle.model.specs.Record.{number_size, row_start, number_of, entry_of}
-use Rattle.fields.specs.FieldsLaws.{row-taken}
+use Rattle.fields.specs.FieldsLaws.{row_taken}
 use Rattle.fields.proofs.read_row.Goals as goal
 
 pub loop-k-init : goal.loop-k-init
@@ -24,5 +24,5 @@ returns c =
     let a = c.args in
     let l = c.loop-k in
     let e : l.k ≡ 1 + 2 * a.n = omega arith in
-    row-taken a.bytes.now a.n a.t a.r.now l.r c.requires.1
+    row_taken a.bytes.now a.n a.t a.r.now l.r c.requires.1
     (l.invariant.filled ∙ ap (λ (j : ℕ). fill_of (entry_of a.bytes.now a.n a.t) j a.r.now) e)

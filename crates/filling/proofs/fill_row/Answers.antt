@@ -2,7 +2,7 @@
 use Rattle.std.proofs.Common.{◌∙◌, ℕ, ap}
 use Rattle.model.specs.Record.{row_start}
 use Rattle.passes.specs.Tables.{road_in}
-use Rattle.filling.specs.Turn.{grant-ready, step-ready, row-filled}
+use Rattle.filling.specs.Turn.{grant_ready, step_ready, row_filled}
 use Rattle.filling.proofs.fill_row.Goals as goal
 
 pub grant-requires : goal.grant-requires
@@ -17,7 +17,7 @@ grant-requires c =
       releases = p.releases;
       entries = p.entries;
       step = a.k;
-      ready = grant-ready p.ready c.supplies.ensures starts;
+      ready = grant_ready p.ready c.supplies.ensures starts;
     }
 
 pub next-requires : goal.next-requires
@@ -30,8 +30,8 @@ next-requires c =
     record {
       road = q;
       row = _;
-      ready = step-ready p.ready e starts
-          (c.grant.ensures p.laws q a.l p.releases p.entries a.k (grant-ready p.ready e starts))
+      ready = step_ready p.ready e starts
+          (c.grant.ensures p.laws q a.l p.releases p.entries a.k (grant_ready p.ready e starts))
           c.demands.ensures c.number-arrivals.ensures.0;
       places = p.ready.places;
     }
@@ -42,6 +42,6 @@ returns c laws r releases entries f =
     let q = road_in r a.size a.rates.now a.sizes.now in
     let e = c.supplies.ensures in
     let starts = c.row_start-start.ensures ∙ ap (λ (v : ℕ). row_start v a.size.n a.k) c.version.ensures in
-    let given = c.grant.ensures laws q a.l releases entries a.k (grant-ready f e starts) in
-    row-filled f e starts given c.demands.ensures
-    (c.next.ensures q _ (step-ready f e starts given c.demands.ensures c.number-arrivals.ensures.0))
+    let given = c.grant.ensures laws q a.l releases entries a.k (grant_ready f e starts) in
+    row_filled f e starts given c.demands.ensures
+    (c.next.ensures q _ (step_ready f e starts given c.demands.ensures c.number-arrivals.ensures.0))

@@ -12,15 +12,15 @@ use Rattle.model.specs.Filling.{metered_from}
 use Rattle.model.specs.GoingOn.{progressed}
 use Rattle.model.specs.Running.{end_with, end_answer}
 use Rattle.model.specs.Longest.{queues_of}
-use Rattle.theory.specs.OpenRoad.{OnRoad, RoadTurn, step_road, on-road, turn-road, turn-on-road}
+use Rattle.theory.specs.OpenRoad.{OnRoad, RoadTurn, step_road, on_road_lem, turn_road, turn_on_road}
 use Rattle.outflows.specs.declared.Ledger.{Ledger}
 use Rattle.outflows.specs.Columns.{ledger_of}
-use Rattle.passes.specs.Tables.{Table, road_in, state_in, cell_col, RoadTables, road-tables, store-capacities}
+use Rattle.passes.specs.Tables.{Table, road_in, state_in, cell_col, RoadTables, road_tables, store_capacities}
 use Rattle.passes.specs.declared.columns.Size.{Size}
 use Rattle.counts.specs.declared.AtGate.{AtGate}
-use Rattle.counts.specs.LongestSoFar.{queues-none, queues-more, queues-end}
-use Rattle.filling.specs.FillingLoop.{came-ready, kept-start, FilledSteps, filled_none, goes_by}
-use Rattle.filling.specs.FillingLoop.{row-ends-by, row_fits, fills, filled_more, filled-bytes, all-filled, filled-list, filled-state}
+use Rattle.counts.specs.LongestSoFar.{queues_none, queues_more, queues_end}
+use Rattle.filling.specs.FillingLoop.{came_ready, kept_start, FilledSteps, filled_none, goes_by}
+use Rattle.filling.specs.FillingLoop.{row_ends_by, row_fits, fills, filled_more, filled_bytes_lem, all_filled, filled_list_lem, filled_state}
 use Rattle.filling.proofs.fill_rows.Goals as goal
 use Rattle.filling.proofs.fill_rows.Goals.{then-table-ne0, else-table-ne0, then-longs, else-longs}
 
@@ -34,7 +34,7 @@ module _ {a : Study} {r : Road} {z : Size} {rates sizes : Table} (before : OnRoa
   -- with the capacities of its step, or unchanged with an empty table of lanes
   turn-open : {now : List ℕ} → (length a.lanes ≡ 0 → ⊥) → now ≡ (step_road a k).capacity → TurnTables a r z rates sizes k (set sizes 1 now)
   turn-open {now} some e =
-      let st = store-capacities r z rates sizes columns now in
+      let st = store_capacities r z rates sizes columns now in
       record {
         turn = record { before = before; came = inl (some, st.road ∙ ap (with_capacity (road_in r z rates sizes)) e) };
         columns = st.columns;
@@ -50,28 +50,28 @@ loop-k-init c =
     let a = c.args in
     let p = c.requires in
     let g = c.no_queue-gate.ensures in
-    let at-ramps = c.list_ramps-size.ensures.1 in
+    let at_ramps_lem = c.list_ramps-size.ensures.1 in
     let t : RoadTables a.r c.list_ramps-size.result c.rates-rates.result (set c.sizes-sizes.result 2 c.list_ramps-size.new.cell) c.list_ramps-size.new.cell =
-    road-tables a.r c.list_ramps-size.new.cell zeros c.rates-rates.ensures c.sizes-sizes.ensures c.list_ramps-size.ensures.0 in
+    road_tables a.r c.list_ramps-size.new.cell zeros c.rates-rates.ensures c.sizes-sizes.ensures c.list_ramps-size.ensures.0 in
     let begins : state_in c.of-l.result c.of_state-state.result ≡ a.from.state =
     ap (λ (l : Ledger). state_in l c.of_state-state.result) c.of-l.ensures ∙ ap (state_in (ledger_of a.from.state)) c.of_state-state.ensures in
     record {
-      road = rw t.road on-road;
+      road = rw t.road on_road_lem;
       columns = t.columns;
       filled = filled_none begins
-          (kept-start a.r (came-ready p) p.long_releases p.long_entries (rw t.cells (at-ramps.0, at-ramps.1.0)) c.of_state-state.ensures c.begun-work.ensures);
-      longest = rw (g.0, g.1) (queues-none _ _ _);
+          (kept_start a.r (came_ready p) p.long_releases p.long_entries (rw t.cells (at_ramps_lem.0, at_ramps_lem.1.0)) c.of_state-state.ensures c.begun-work.ensures);
+      longest = rw (g.0, g.1) (queues_none _ _ _);
     }
 
 pub overflow_add-end-in-loop-k : goal.overflow_add-end-in-loop-k
 overflow_add-end-in-loop-k c =
     let p = c.requires.fillable in
-    omega (arith, row-ends-by p refl c.loop-k.invariant.filled most_outflows p.readable.outflows c.loop-k-test.true)
+    omega (arith, row_ends_by p refl c.loop-k.invariant.filled most_outflows p.readable.outflows c.loop-k-test.true)
 
 pub offset_bounds-out-to : goal.offset_bounds-out-to
 offset_bounds-out-to c =
     let p = c.requires.fillable in
-    omega (arith, row-ends-by p refl c.loop-k.invariant.filled most_outflows p.readable.outflows c.loop-k-test.true)
+    omega (arith, row_ends_by p refl c.loop-k.invariant.filled most_outflows p.readable.outflows c.loop-k-test.true)
 
 pub slice_bounds-fill_row-end : goal.slice_bounds-fill_row-end
 slice_bounds-fill_row-end c = omega (arith, row_fits c.requires.fillable refl c.loop-k.invariant.filled c.loop-k-test.true)
@@ -96,7 +96,7 @@ fill_row-next-requires c =
       releases = m.releases;
       entries = m.entries;
       ready = rw now.cells
-          (fills p refl h c.loop-k-test.true (turn-road now.turn) (goes_by p refl h) c.columns-columns.ensures
+          (fills p refl h c.loop-k-test.true (turn_road now.turn) (goes_by p refl h) c.columns-columns.ensures
           (part_length l.out l.to (places study) (row_fits p refl h c.loop-k-test.true)));
     }
 
@@ -113,7 +113,7 @@ loop-k-preserved c =
           rw w.sizes-is (turn-open l.invariant.road l.invariant.columns l.k w.if-table-ne0.true w.step_capacities-open_now.ensures)
       | else-table-ne0 w ↦ rw w.sizes-is (turn-kept l.invariant.road l.invariant.columns l.k w.if-table-ne0.false)
     ] in
-    let road = turn-road now.turn in
+    let road = turn_road now.turn in
     let h : FilledSteps a.laws a.bytes.now study (progressed a.from) a.out.now l.bytes l.out l.l l.state c.list_ramps-size.result.ramps
     (cell_col c.if-table-ne0.sizes) l.work l.k l.to = rw now.cells l.invariant.filled in
     let by = goes_by p refl h in
@@ -121,10 +121,10 @@ loop-k-preserved c =
     (part_length l.out l.to (places study) (row_fits p refl h c.loop-k-test.true)) in
     let made = filled_more p refl h c.loop-k-test.true road by (c.fill_row-next.ensures a.laws a.r m.releases m.entries ready) in
     record {
-      road = turn-on-road now.turn;
+      road = turn_on_road now.turn;
       columns = now.columns;
       filled = made;
-      longest = queues-more _ _ _ l.invariant.longest p.readable.ok.road.cells h.state made.state (λ wanted. elim c.if-longs.branch [
+      longest = queues_more _ _ _ l.invariant.longest p.readable.ok.road.cells h.state made.state (λ wanted. elim c.if-longs.branch [
         | then-longs w ↦ ap (λ (g : AtGate). queues_of g.gate g.waiting c.if-longs.most) w.gate-is
             ∙ ap (queues_of w.raised-gate.result.gate w.raised-gate.result.waiting) w.most-is
             ∙ w.raised-gate.ensures
@@ -138,9 +138,9 @@ returns c =
     let h = c.loop-k.invariant in
     let end = c.loop-k-test.false in
     record {
-      releases = filled-bytes p refl h.filled end;
-      list = filled-list p refl h.filled end;
+      releases = filled_bytes_lem p refl h.filled end;
+      list = filled_list_lem p refl h.filled end;
       answer = ap end_answer (c.longest.ensures.0 ∙ c.complete.ensures)
-          ∙ ap (end_with 0 0 0 c.args.r) (filled-state p refl h.filled end c.to_state.ensures);
-      longest = λ wanted. c.longest.ensures.1 ∙ queues-end _ _ _ h.longest (all-filled p refl h.filled end) wanted;
+          ∙ ap (end_with 0 0 0 c.args.r) (filled_state p refl h.filled end c.to_state.ensures);
+      longest = λ wanted. c.longest.ensures.1 ∙ queues_end _ _ _ h.longest (all_filled p refl h.filled end) wanted;
     }

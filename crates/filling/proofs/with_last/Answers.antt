@@ -2,7 +2,7 @@
 use Rattle.std.proofs.Common.{◌∙◌, List, ℕ, ◌+◌, ◌-◌, ◌*◌, refl, ap}
 use Rattle.std.proofs.Math.Path.{subst⁻¹}
 use Rattle.model.specs.Numbers.{fill_of}
-use Rattle.numbers.specs.TablesLaws.{part-row}
+use Rattle.numbers.specs.TablesLaws.{part_row}
 use Rattle.filling.specs.LastStep.{entered_in, EntriesRequire}
 use Rattle.filling.proofs.with_last.Goals as goal
 
@@ -10,7 +10,7 @@ pub put_entries-requires : goal.put_entries-requires
 put_entries-requires c =
     let a = c.args in
     subst⁻¹ (EntriesRequire a.r.n a.r.share a.longest.ended.state.cumulative)
-    (part-row a.out.now (a.r.n + 1) (a.steps - 1) ((a.steps - 1) * (a.r.n + 1)) refl) c.requires.ready
+    (part_row a.out.now (a.r.n + 1) (a.steps - 1) ((a.steps - 1) * (a.r.n + 1)) refl) c.requires.ready
 
 pub returns : goal.returns
 returns c =
@@ -20,6 +20,6 @@ returns c =
         c.put_releases.ensures,
         c.put_entries.ensures
             ∙ ap (λ (y : List ℕ). fill_of (entered_in a.r.share a.longest.ended.state.cumulative y) a.r.n a.from.entries)
-            (part-row a.out.now (a.r.n + 1) (a.steps - 1) ((a.steps - 1) * (a.r.n + 1)) refl),
+            (part_row a.out.now (a.r.n + 1) (a.steps - 1) ((a.steps - 1) * (a.r.n + 1)) refl),
       ),
     )

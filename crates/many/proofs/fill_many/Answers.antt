@@ -1,12 +1,12 @@
 -- `many::fill_many`: each return follows from the test before it. Assumes nothing.
 use Rattle.std.proofs.Common.{◌∙◌, sym}
-use Rattle.many.specs.Whole.{filled-refused, filled-all}
+use Rattle.many.specs.Whole.{filled_refused, filled_all}
 use Rattle.many.proofs.fill_many.Goals as goal
 
 pub returns-then-number-ne0 : goal.returns-then-number-ne0
 returns-then-number-ne0 c =
     let a = c.args in
-    let p = filled-refused a.bytes.now a.table.now a.arrivals.now a.out.now a.answers.now c.studies-a.ensures.refusal a.laws
+    let p = filled_refused a.bytes.now a.table.now a.arrivals.now a.out.now a.answers.now c.studies-a.ensures.refusal a.laws
     (λ z. c.if-number-ne0.true (c.number.ensures ∙ z)) in
     record { answer = p.0; bytes = p.1.0; list = p.1.1.0; answers = p.1.1.1 }
 
@@ -15,6 +15,6 @@ returns c =
     let a = c.args in
     let e = c.fill_studies.ensures in
     let passes = sym c.number.ensures ∙ c.if-number-ne0.false in
-    let p = filled-all a.bytes.now a.table.now a.arrivals.now a.out.now a.answers.now c.studies-a.ensures.refusal a.laws passes
+    let p = filled_all a.bytes.now a.table.now a.arrivals.now a.out.now a.answers.now c.studies-a.ensures.refusal a.laws passes
     (c.studies-a.ensures.ready passes).counted e.record e.list e.answers in
     record { answer = p.0; bytes = p.1.0; list = p.1.1.0; answers = p.1.1.1 }

@@ -1,6 +1,6 @@
 -- The passes of a step make the engine's step. Assumes nothing.
 use Rattle.std.proofs.Common.{◌≡◌, ℕ, min, refl, arith}
-use Rattle.passes.specs.Next.{send-ready, add-ready, add-lent, row-sent, next-is, rests-are, next-turn}
+use Rattle.passes.specs.Next.{send_ready, add_ready, add_lent, row_sent, next_is, rests_are, next_turn}
 use Rattle.passes.proofs.next.Goals as goal
 
 -- the gate's outflow, from its demand
@@ -11,23 +11,23 @@ pub send-sent-requires : goal.send-sent-requires
 send-sent-requires c =
     let p = c.requires in
     let first = gate _ c.least-first.ensures c.gate_demand.ensures in
-    (send-ready p.ready first, (p.ready.columns, p.places))
+    (send_ready p.ready first, (p.ready.columns, p.places))
 
 pub add_releases-sums-requires : goal.add_releases-sums-requires
 add_releases-sums-requires c =
     let first = gate _ c.least-first.ensures c.gate_demand.ensures in
     let e = c.send-sent.ensures in
-    (add-lent c.requires.ready first e.send_gives e.kept, e.kept.columns)
+    (add_lent c.requires.ready first e.send_gives e.kept, e.kept.columns)
 
 pub overflow_sub-queued : goal.overflow_sub-queued
 overflow_sub-queued c =
     let first = gate _ c.least-first.ensures c.gate_demand.ensures in
-    omega (arith, next-turn c.requires.ready first)
+    omega (arith, next_turn c.requires.ready first)
 
 pub overflow_add-result-5 : goal.overflow_add-result-5
 overflow_add-result-5 c =
     let first = gate _ c.least-first.ensures c.gate_demand.ensures in
-    omega (arith, next-turn c.requires.ready first)
+    omega (arith, next_turn c.requires.ready first)
 
 pub returns : goal.returns
 returns c r row k =
@@ -35,10 +35,10 @@ returns c r row k =
     let h = c.send-sent.ensures.send_gives in
     let same = c.send-sent.ensures.kept in
     let kept = c.add_releases-sums.ensures.kept in
-    let g = c.add_releases-sums.ensures.by_index _ _ (add-ready k b h same) in
+    let g = c.add_releases-sums.ensures.by_index _ _ (add_ready k b h same) in
     record {
       columns = kept.columns;
-      next = next-is k b h same g kept refl refl;
-      outflows = row-sent k b h same c.requires.places;
-      rests = rests-are k b h same g kept;
+      next = next_is k b h same g kept refl refl;
+      outflows = row_sent k b h same c.requires.places;
+      rests = rests_are k b h same g kept;
     }

@@ -1,6 +1,6 @@
 -- The list is filled entry by entry. Assumes nothing.
 use Rattle.std.proofs.Common.{refl}
-use Rattle.passes.specs.Supplies.{filled_none, filled_more, filled-end}
+use Rattle.passes.specs.Supplies.{filled_none, filled_more, filled_end}
 use Rattle.ramps.proofs.came_before.Goals as goal
 
 pub loop-i-init : goal.loop-i-init
@@ -10,4 +10,4 @@ pub loop-i-preserved : goal.loop-i-preserved
 loop-i-preserved c = filled_more c.loop-i.invariant c.loop-i-test.true refl
 
 pub returns : goal.returns
-returns c = filled-end c.loop-i.invariant c.loop-i-test.false
+returns c = filled_end c.loop-i.invariant c.loop-i-test.false

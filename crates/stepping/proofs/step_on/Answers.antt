@@ -1,7 +1,7 @@
 -- `stepping::step_on` meets its contract: after the test of the releases they fit, so the step may be made.
 use Rattle.std.proofs.Common.{arith}
 use Rattle.std.proofs.Math.Seq.{length-take-le}
-use Rattle.stepping.specs.Findings.{ReleaseFinding, answer-next, steppable}
+use Rattle.stepping.specs.Findings.{ReleaseFinding, answer_next, steppable}
 use Rattle.stepping.proofs.step_on.Goals as goal
 
 pub next-t-requires : goal.next-t-requires
@@ -22,4 +22,4 @@ returns c =
       found = c.releases-q.ensures;
       number = c.number.ensures;
     } in
-    answer-next k c.if-number-ne0.false c.next-t.ensures.state
+    answer_next k c.if-number-ne0.false c.next-t.ensures.state

@@ -3,7 +3,7 @@ use Rattle.std.proofs.Common.{ℕ, ◌+◌, ◌*◌, ap, ◌∙◌, arith}
 use Rattle.model.specs.Record.{number_size, row_start}
 use Rattle.fields.specs.FieldsLaws.{start_small}
 use Rattle.model.specs.RowNumbers.{entry_or}
-use Rattle.taking.specs.RowLaws.{row-none, row_more}
+use Rattle.taking.specs.RowLaws.{row_none, row_more}
 use Rattle.taking.proofs.numbers.Goals as goal
 
 pub row_start-start-requires : goal.row_start-start-requires
@@ -12,7 +12,7 @@ row_start-start-requires c =
     omega arith
 
 pub loop-k-init : goal.loop-k-init
-loop-k-init c = row-none
+loop-k-init c = row_none
 
 pub overflow_add-start : goal.overflow_add-start
 overflow_add-start c =

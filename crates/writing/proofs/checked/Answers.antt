@@ -7,12 +7,12 @@ use Rattle.fields.specs.HeaderLaws.{size_small}
 use Rattle.model.specs.Schedules.{Study}
 use Rattle.model.specs.Writing.{unwritten, written_count, frame_of}
 use Rattle.model.specs.Encoding.{given_study}
-use Rattle.writing.specs.Checks.{FrameOk, frame-ok, answer-frame, answer-place, answer-step, answer-short, answer-written, by-given}
+use Rattle.writing.specs.Checks.{FrameOk, frame_ok_lem, answer_frame, answer_place, answer_step, answer_short, answer_written, by_given}
 use Rattle.writing.proofs.checked.Goals as goal
 
 -- the first five tests passed
 framed : (a : Study) (numbers : ℕ) {x y : ℕ} → x ≡ frame_of a numbers → y ≡ x → y ≡ 0 → FrameOk a numbers
-framed a numbers e k z = frame-ok a numbers (sym e ∙ sym k ∙ z)
+framed a numbers e k z = frame_ok_lem a numbers (sym e ∙ sym k ∙ z)
 
 -- the lowest place out of its limits, of the state at the start
 placed : (a : Study) {s : State} {p : ℕ} → p ≡ first_of (place_ok a.road s) (a.road.n + 1) → s ≡ a.start
@@ -24,8 +24,8 @@ returns-then-number-ne0 c =
     let a = given_study c.args.road c.args.steps c.args.start c.args.rows.now in
     let e = c.frame_refusal-frame.ensures in
     c.refused.ensures ∙ ap (λ (m : ℕ). unwritten m 0) e
-    ∙ answer-frame a (length c.args.rows.now) (length c.args.target.now) (λ z. c.if-number-ne0.true (c.number.ensures ∙ e ∙ z))
-    ∙ by-given _ _ _ _ _
+    ∙ answer_frame a (length c.args.rows.now) (length c.args.target.now) (λ z. c.if-number-ne0.true (c.number.ensures ∙ e ∙ z))
+    ∙ by_given _ _ _ _ _
 
 pub first_place-place-requires : goal.first_place-place-requires
 first_place-place-requires c =
@@ -44,7 +44,7 @@ returns-then-place-n c =
     let a = given_study c.args.road c.args.steps c.args.start c.args.rows.now in
     let ok = framed a _ c.frame_refusal-frame.ensures c.number.ensures c.if-number-ne0.false in
     let place = placed a c.first_place-place.ensures c.state-state.ensures in
-    c.refused-then-place-n.ensures ∙ answer-place a _ _ ok _ place c.if-place-n.true ∙ by-given _ _ _ _ _
+    c.refused-then-place-n.ensures ∙ answer_place a _ _ ok _ place c.if-place-n.true ∙ by_given _ _ _ _ _
 
 pub first_row-step-requires : goal.first_row-step-requires
 first_row-step-requires c =
@@ -58,7 +58,7 @@ returns-then-step-steps c =
     let ok = framed a _ c.frame_refusal-frame.ensures c.number.ensures c.if-number-ne0.false in
     let place = placed a c.first_place-place.ensures c.state-state.ensures in
     c.refused-then-step-steps.ensures
-    ∙ answer-step a _ _ ok _ place c.if-place-n.false _ c.first_row-step.ensures c.if-step-steps.true ∙ by-given _ _ _ _ _
+    ∙ answer_step a _ _ ok _ place c.if-place-n.false _ c.first_row-step.ensures c.if-step-steps.true ∙ by_given _ _ _ _ _
 
 pub row_start-size-requires : goal.row_start-size-requires
 row_start-size-requires c =
@@ -72,9 +72,9 @@ returns-then-target-size c =
     let ok = framed a _ c.frame_refusal-frame.ensures c.number.ensures c.if-number-ne0.false in
     let place = placed a c.first_place-place.ensures c.state-state.ensures in
     c.refused-then-target-size.ensures
-    ∙ answer-short a _ _ ok _ place c.if-place-n.false _ c.first_row-step.ensures c.if-step-steps.false
+    ∙ answer_short a _ _ ok _ place c.if-place-n.false _ c.first_row-step.ensures c.if-step-steps.false
     (omega (arith, c.row_start-size.ensures, c.if-target-size.true))
-    ∙ by-given _ _ _ _ _
+    ∙ by_given _ _ _ _ _
 
 pub returns : goal.returns
 returns c =
@@ -82,6 +82,6 @@ returns c =
     let ok = framed a _ c.frame_refusal-frame.ensures c.number.ensures c.if-number-ne0.false in
     let place = placed a c.first_place-place.ensures c.state-state.ensures in
     ap written_count c.row_start-size.ensures
-    ∙ answer-written a _ _ ok _ place c.if-place-n.false _ c.first_row-step.ensures c.if-step-steps.false
+    ∙ answer_written a _ _ ok _ place c.if-place-n.false _ c.first_row-step.ensures c.if-step-steps.false
     (omega (arith, c.row_start-size.ensures, c.if-target-size.false))
-    ∙ by-given _ _ _ _ _
+    ∙ by_given _ _ _ _ _

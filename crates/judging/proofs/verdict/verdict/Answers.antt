@@ -5,7 +5,7 @@ use Rattle.model.specs.declared.State.{State}
 use Rattle.model.specs.Refusals.{fault_answer, refusal_number}
 use Rattle.outflows.specs.declared.Ledger.{Ledger}
 use Rattle.outflows.specs.Columns.{road_of, with_gate, state_of}
-use Rattle.judging.specs.ProposedRow.{ReleaseFinding, verdict-fault, verdict-end}
+use Rattle.judging.specs.ProposedRow.{ReleaseFinding, verdict_fault, verdict_end}
 use Rattle.judging.proofs.verdict.verdict.Goals as goal
 use Rattle.judging.proofs.verdict.verdict.Goals.{After-releases-q}
 
@@ -26,7 +26,7 @@ looked c r l e = record {
 pub returns-then-number-ne0-clause-fault : goal.returns-then-number-ne0-clause-fault
 returns-then-number-ne0-clause-fault c r l =
     let j = (goal.at.returns-then-number-ne0-clause-fault c).After-releases-q in
-    verdict-fault c.args.y.now (looked j r l c.number.ensures) c.if-number-ne0.true
+    verdict_fault c.args.y.now (looked j r l c.number.ensures) c.if-number-ne0.true
 
 pub returns-clause-fault : goal.returns-clause-fault
 returns-clause-fault c r l =
@@ -34,4 +34,4 @@ returns-clause-fault c r l =
     let on = On j r in
     let gate = with_gate l c.args.gate_queue c.args.gate_cumulative in
     let rooms = c.releases-q.ensures.rooms on gate c.args.cumulative.now (sym c.number.ensures ∙ c.if-number-ne0.false) in
-    verdict-end c.args.y.now (looked j r l c.number.ensures) c.if-number-ne0.false (c.outflows_fault.ensures on gate c.args.queue.now c.args.row.now rooms)
+    verdict_end c.args.y.now (looked j r l c.number.ensures) c.if-number-ne0.false (c.outflows_fault.ensures on gate c.args.queue.now c.args.row.now rooms)

@@ -1,6 +1,6 @@
 -- `outflows::lent::outflows` meets its contract: each turn fills one more place, and the last demand is put after the loop.
 use Rattle.std.proofs.Common.{arith}
-use Rattle.outflows.specs.Outflows.{filled_none, filled_more, filled-end}
+use Rattle.outflows.specs.Outflows.{filled_none, filled_more, filled_end}
 use Rattle.outflows.proofs.lent.outflows.Goals as goal
 
 pub loop-i-init : goal.loop-i-init
@@ -17,4 +17,4 @@ loop-i-preserved c = record {
 }
 
 pub returns : goal.returns
-returns c r g queue row rooms = filled-end (c.loop-i.invariant.filled r g queue row rooms) c.loop-i-test.false c.requires.1
+returns c r g queue row rooms = filled_end (c.loop-i.invariant.filled r g queue row rooms) c.loop-i-test.false c.requires.1

@@ -4,7 +4,7 @@ use Rattle.std.proofs.lemmas.Bool.{eqb-false}
 use Rattle.std.proofs.lemmas.Grind.{common_steps}
 use Rattle.model.specs.Numbers.{at}
 use Rattle.passes.specs.Supplies.{NoRamp}
-use Rattle.passes.specs.RampList.{Listed, AtRamps, listed-none, listed-skip, listed-put, ramps-put, listed_same, ramps-same}
+use Rattle.passes.specs.RampList.{Listed, AtRamps, listed_none, listed_skip, listed_put, ramps_put, listed_same, ramps_same}
 use Rattle.passes.proofs.at_ramps.ramp_cells.Goals as goal
 
 -- the list after a turn, whether the cell at i has a ramp or not
@@ -14,18 +14,18 @@ module _ (ramp : List ℕ) {cell cell' : List ℕ} {count count' i : ℕ} (h : L
   turn-listed = go (eqb (at ramp i) 1) refl
     where
       go : (b : Bool) → eqb (at ramp i) 1 ≡ b → Listed (NoRamp ramp) (i + 1) count' cell'
-      go true e = let p = put (eqb-true (at ramp i) 1 e) in listed_same p.0 p.1 (listed-put h room)
-      go false e = let n = eqb-false (at ramp i) 1 e in let p = skip n in listed_same p.0 p.1 (listed-skip h n)
+      go true e = let p = put (eqb-true (at ramp i) 1 e) in listed_same p.0 p.1 (listed_put h room)
+      go false e = let n = eqb-false (at ramp i) 1 e in let p = skip n in listed_same p.0 p.1 (listed_skip h n)
 
   turn-ramps : AtRamps ramp count cell → AtRamps ramp count' cell'
   turn-ramps f = go (eqb (at ramp i) 1) refl
     where
       go : (b : Bool) → eqb (at ramp i) 1 ≡ b → AtRamps ramp count' cell'
-      go true e = let y = eqb-true (at ramp i) 1 e in let p = put y in ramps-same ramp p.0 p.1 (ramps-put h room ramp y f)
-      go false e = let p = skip (eqb-false (at ramp i) 1 e) in ramps-same ramp p.0 p.1 f
+      go true e = let y = eqb-true (at ramp i) 1 e in let p = put y in ramps_same ramp p.0 p.1 (ramps_put h room ramp y f)
+      go false e = let p = skip (eqb-false (at ramp i) 1 e) in ramps_same ramp p.0 p.1 f
 
 pub loop-i-init : goal.loop-i-init
-loop-i-init c = record { long = c.requires.1; within = omega arith; listed = listed-none; ramps = λ k l. absurd (omega arith) }
+loop-i-init c = record { long = c.requires.1; within = omega arith; listed = listed_none; ramps = λ k l. absurd (omega arith) }
 
 pub loop-i-preserved : goal.loop-i-preserved
 loop-i-preserved c =

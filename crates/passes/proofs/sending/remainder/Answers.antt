@@ -1,7 +1,7 @@
 -- The remainder that the code computes is the one of the model. Assumes nothing.
 use Rattle.std.proofs.Common.{refl}
-use Rattle.passes.specs.Rest.{rest-found}
+use Rattle.passes.specs.Rest.{rest_found}
 use Rattle.passes.proofs.sending.remainder.Goals as goal
 
 pub returns : goal.returns
-returns c = rest-found c.args.share c.args.cumulative _ refl
+returns c = rest_found c.args.share c.args.cumulative _ refl
